@@ -1,0 +1,4 @@
+-- What the proofs of several functions and crates use.
+pub mod Sound
+pub mod Complete
+pub mod Turns

@@ -1,0 +1,43 @@
+-- What the code's answers say in the paper's words. Assumes nothing: these are definitions.
+use mathlib.Core.Bool.{Bool, true, false}
+use mathlib.Core.List.{List}
+use Prim.Native.Nat.{ℕ, _+_}
+use lib.ListN.{take, drop}
+use Rattle.refusal.specs.Paper.{Outcome, taken, refused, refusal, map}
+use Rattle.scalar.specs.Reading.{Got, got, bad}
+use Rattle.bencode.specs.Value.{Prev, start, last, count}
+use Rattle.bencode.specs.Decode.{decode}
+use Rattle.bencode.specs.declared.Step.{Step}
+use Rattle.bencode.specs.declared.Step.the-variants.{Past, Bad}
+use Rattle.bencode.specs.declared.Key.{Key}
+use Rattle.bencode.specs.declared.Found.{Found}
+use Rattle.bencode.specs.declared.Found.the-variants.{At, Not}
+use Rattle.bencode.specs.declared.Checked.{Checked}
+use Rattle.bencode.specs.declared.Checked.the-variants.{Taken, Refused}
+
+-- `check` answers the count of values, or the refusal
+abbrev pub paper : Checked → Outcome ℕ
+paper (Taken n) = taken n
+paper (Refused r) = refusal r
+
+-- what `check` is to answer
+abbrev pub checkOf : List ℕ → Outcome ℕ
+checkOf s = map count (decode s)
+
+-- a reader's answer: the next place and the values begun so far, or the refusal
+abbrev pub stepOf : {A : Type 0} → Got A → Step
+stepOf (got v l p n) = Past (record { at = p; count = n })
+stepOf (bad r p) = Bad (record { number = r; place = p })
+
+-- the key before as the code keeps it
+abbrev pub prevIs : List ℕ → Bool → ℕ → ℕ → Prev
+prevIs s false a m = start
+prevIs s true a m = last (take m (drop a s))
+
+abbrev pub prevOf : List ℕ → Key → Prev
+prevOf s k = prevIs s (k .some) (k .from) (k .size)
+
+-- a key's answer, after n other values
+abbrev pub keyIs : List ℕ → ℕ → Found → Got (List ℕ)
+keyIs s n (At a m) = got (take m (drop a s)) (drop (a + m) s) (a + m) (n + 1)
+keyIs s n (Not r) = bad (r .number) (r .place)

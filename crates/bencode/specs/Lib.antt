@@ -1,0 +1,5 @@
+pub mod Value
+pub mod Decode
+pub mod Answers
+pub mod Exact
+pub mod Stars

@@ -1,0 +1,262 @@
+// Bencode read by BEP 3 and document 01: whether a text is the encoding of a value that keeps the limits.
+ghost use mathlib.Core.Path.{_≡_};
+ghost use Prim.Native.Nat.{ℕ, suc, _+_, _≤_};
+ghost use lib.ListN.{length, take, drop};
+ghost use Rattle.bencode.specs.Value.{start, follows};
+ghost use Rattle.bencode.specs.Decode.{kindOf, begun, ranged, keyOf, itemsOf, entriesOf, valueOf};
+ghost use Rattle.scalar.specs.Reading.{stringAt, integerAt};
+ghost use Rattle.bencode.specs.Answers.{paper, checkOf, stepOf, prevOf, keyIs};
+ghost use Rattle.bencode.specs.Exact.{Exactly};
+
+use refusal::limit;
+use refusal::number;
+use refusal::Refusal;
+use scalar::Int;
+use scalar::Text;
+
+// What `check` answers: how many values the text has, each key counted, or why and where it is refused.
+pub enum Checked {
+    Taken(usize),
+    Refused(Refusal),
+}
+
+// A place of the text, and how many values have begun before it.
+pub struct Cursor {
+    pub at: usize,
+    pub count: usize,
+}
+
+pub enum Step {
+    Past(Cursor),
+    Bad(Refusal),
+}
+
+// Whether a text is one value that keeps the limits.
+pub fn check(text: &[u8]) -> Checked
+    ensures meets { λ r. ⌜ paper r ≡ checkOf (now (text .entry)) ⌝ }
+    ensures exact { λ r. ⌜ Exactly (now (text .entry)) (paper r) ⌝ }
+{
+    if limit::TEXT < text.len() {
+        return refused(number::LONG, 0);
+    }
+    match value(text, Cursor { at: 0, count: 0 }, limit::LEVELS) {
+        Step::Past(c) => {
+            let at = c.at;
+            if at < text.len() {
+                return refused(number::AFTER, at);
+            }
+            Checked::Taken(c.count)
+        }
+        Step::Bad(r) => Checked::Refused(r),
+    }
+}
+
+// The value that begins at the cursor, where `levels` more lists and dictionaries may stand in each other.
+pub fn value(text: &[u8], c: Cursor, levels: usize) -> Step
+    ensures { λ r. ⌜ r ≡ stepOf (valueOf levels (length (now (text .entry))) (drop (c .at) (now (text .entry))) (c .at) (c .count)) ⌝ }
+{
+    let at = c.at;
+    let count = c.count;
+    if text.len() <= at {
+        return bad(number::CUT, text.len());
+    }
+    let b = text[at];
+    if begins(b) {
+        if limit::VALUES <= count {
+            return bad(number::MANY, at);
+        }
+        if b == b'i' {
+            return integer(text, at, count + 1);
+        }
+        if scalar::digit(b) {
+            return string(text, at, count + 1);
+        }
+        if levels == 0 {
+            return bad(number::DEEP, at);
+        }
+        let inside = Cursor {
+            at: at + 1,
+            count: count + 1,
+        };
+        if b == b'l' {
+            return list(text, inside, levels - 1);
+        }
+        return dictionary(text, inside, levels - 1);
+    }
+    bad(number::BYTE, at)
+}
+
+// The items of a list, and its e.
+fn list(text: &[u8], c: Cursor, levels: usize) -> Step
+    ensures { λ r. ⌜ r ≡ stepOf (itemsOf (suc (length (now (text .entry)))) (valueOf levels (length (now (text .entry)))) (length (now (text .entry))) (drop (c .at) (now (text .entry))) (c .at) (c .count)) ⌝ }
+{
+    let mut at = c.at;
+    let mut count = c.count;
+    while at < text.len() {
+        if text[at] == b'e' {
+            return passed(at + 1, count);
+        }
+        match value(text, Cursor { at, count }, levels) {
+            Step::Past(next) => {
+                at = next.at;
+                count = next.count;
+            }
+            Step::Bad(r) => return Step::Bad(r),
+        }
+    }
+    bad(number::CUT, text.len())
+}
+
+// The entries of a dictionary, and its e.
+fn dictionary(text: &[u8], c: Cursor, levels: usize) -> Step
+    ensures { λ r. ⌜ r ≡ stepOf (entriesOf (suc (length (now (text .entry)))) (valueOf levels (length (now (text .entry)))) (length (now (text .entry))) start (drop (c .at) (now (text .entry))) (c .at) (c .count)) ⌝ }
+{
+    let mut at = c.at;
+    let mut count = c.count;
+    let mut before = Key {
+        some: false,
+        from: 0,
+        size: 0,
+    };
+    while at < text.len() {
+        if text[at] == b'e' {
+            return passed(at + 1, count);
+        }
+        match next_key(text, at, count, before) {
+            Found::At(from, size) => {
+                let under = Cursor {
+                    at: from + size,
+                    count: count + 1,
+                };
+                match value(text, under, levels) {
+                    Step::Past(next) => {
+                        at = next.at;
+                        count = next.count;
+                        before = Key {
+                            some: true,
+                            from,
+                            size,
+                        };
+                    }
+                    Step::Bad(r) => return Step::Bad(r),
+                }
+            }
+            Found::Not(r) => return Step::Bad(r),
+        }
+    }
+    bad(number::CUT, text.len())
+}
+
+// The key before in a dictionary, by its bytes in the text; `some` is false where there is none.
+struct Key {
+    some: bool,
+    from: usize,
+    size: usize,
+}
+
+// A key by its bytes in the text.
+enum Found {
+    At(usize, usize),
+    Not(Refusal),
+}
+
+// The key that begins at `at`, to come after the one before.
+fn next_key(text: &[u8], at: usize, count: usize, before: Key) -> Found
+    requires { ⌜ before .from + before .size ≤ length (now text) ⌝ }
+    ensures { λ r. ⌜ keyIs (now (text .entry)) count r ≡ keyOf (length (now (text .entry))) (prevOf (now (text .entry)) before) (drop at (now (text .entry))) at count ⌝ }
+{
+    if text.len() <= at {
+        return not(number::CUT, text.len());
+    }
+    if scalar::digit(text[at]) {
+        if limit::VALUES <= count {
+            return not(number::MANY, at);
+        }
+        match scalar::string(text, at) {
+            Text::Whole(from, size) => {
+                if may_follow(text, before, from, size) {
+                    return Found::At(from, size);
+                }
+                return not(number::ORDER, at);
+            }
+            Text::Broken(r) => return Found::Not(r),
+        }
+    }
+    not(number::BYTE, at)
+}
+
+// Whether a key may come after the one before, if there is one.
+fn may_follow(text: &[u8], before: Key, from: usize, size: usize) -> bool
+    requires { ⌜ (before .from + before .size ≤ length (now text)) × (from + size ≤ length (now text)) ⌝ }
+    ensures { λ r. ⌜ r ≡ follows (prevOf (now (text .entry)) before) (take size (drop from (now (text .entry)))) ⌝ }
+{
+    if before.some {
+        let a = before.from;
+        let b = a + before.size;
+        let end = from + size;
+        return scalar::precedes(&text[a..b], &text[from..end]);
+    }
+    true
+}
+
+// The integer whose i stands at `at`, as value number `count`.
+fn integer(text: &[u8], at: usize, count: usize) -> Step
+    ensures { λ r. ⌜ r ≡ stepOf (ranged at (integerAt (length (now (text .entry))) (drop at (now (text .entry))) at count)) ⌝ }
+{
+    match scalar::integer(text, at) {
+        Int::Is(_, next) => passed(next, count),
+        Int::Large(_) => bad(number::INTEGER, at),
+        Int::Unread(r) => Step::Bad(r),
+    }
+}
+
+// The string that begins at `at`, as value number `count`.
+fn string(text: &[u8], at: usize, count: usize) -> Step
+    requires { ⌜ at ≤ length (now text) ⌝ }
+    ensures { λ r. ⌜ r ≡ stepOf (stringAt (length (now (text .entry))) (drop at (now (text .entry))) at count) ⌝ }
+{
+    match scalar::string(text, at) {
+        Text::Whole(from, size) => passed(from + size, count),
+        Text::Broken(r) => Step::Bad(r),
+    }
+}
+
+// Whether a value can begin with this byte.
+fn begins(b: u8) -> bool
+    ensures { λ r. ⌜ r ≡ begun (kindOf b) ⌝ }
+{
+    if b == b'i' {
+        return true;
+    }
+    if b == b'l' {
+        return true;
+    }
+    if b == b'd' {
+        return true;
+    }
+    scalar::digit(b)
+}
+
+fn refused(number: u8, place: usize) -> Checked
+    ensures { λ r. ⌜ r ≡ Checked.Refused (record { number = number; place = place }) ⌝ }
+{
+    Checked::Refused(Refusal { number, place })
+}
+
+fn passed(at: usize, count: usize) -> Step
+    ensures { λ r. ⌜ r ≡ Step.Past (record { at = at; count = count }) ⌝ }
+{
+    Step::Past(Cursor { at, count })
+}
+
+fn bad(number: u8, place: usize) -> Step
+    ensures { λ r. ⌜ r ≡ Step.Bad (record { number = number; place = place }) ⌝ }
+{
+    Step::Bad(Refusal { number, place })
+}
+
+fn not(number: u8, place: usize) -> Found
+    ensures { λ r. ⌜ r ≡ Found.Not (record { number = number; place = place }) ⌝ }
+{
+    Found::Not(Refusal { number, place })
+}

@@ -1,0 +1,4 @@
+pub mod Paper
+pub mod Numbers
+pub mod Limits
+pub mod BigEndian

@@ -1,0 +1,103 @@
+-- A string or an integer that is written so is read. Assumes nothing.
+use mathlib.Core.Path.{_≡_, refl, sym, ap, _∙_}
+use mathlib.Core.Bool.{Bool, true, false, cond}
+use mathlib.Core.List.{List, [], _∷_, _++_, append-assoc}
+use Prim.Native.Nat.{ℕ, suc, _+_, _-_, _<_, _≤_}
+use native.Mathlib.Omega.{arith}
+use lib.Dec.{ltb, leb, eqb}
+use lib.IntN.{ℤ, pos, negsuc}
+use lib.ListN.{length, take, drop, length-append}
+use lib.Seq.{drop-append-seam, take-append-seam}
+use borrow.Author.Tests.{le-leb, ltb-true, ltb-false, ne-eqb}
+use Rattle.scalar.specs.Written.{decimal, written, signed, writtenInt}
+use Rattle.scalar.specs.Reading.{Got, got, bad, isDigit, digitsVal, digitsLen, numVal, numLen, stringOf, closedOf, integerOf}
+use Rattle.scalar.proofs.Decimal.{digit-range, range-digit}
+use Rattle.scalar.proofs.Printed.{shape, decimal-zero}
+
+val-stop : (m b : ℕ) (t : List ℕ) → isDigit b ≡ false → digitsVal m (b ∷ t) ≡ m
+unfolding digitsVal
+val-stop m b t h = rw h
+
+len-stop : (b : ℕ) (t : List ℕ) → isDigit b ≡ false → digitsLen (b ∷ t) ≡ 0
+unfolding digitsLen
+len-stop b t h = rw h
+
+-- a number, before a byte x that is no digit
+pub record Numeral (m x : ℕ) (r : List ℕ) : Type 0 where
+  pub first : ℕ
+  pub rest : List ℕ
+  pub text : decimal m ++ x ∷ r ≡ first ∷ rest
+  pub starts : isDigit first ≡ true
+  pub value : numVal first rest ≡ m
+  pub left : drop (numLen first rest) rest ≡ x ∷ r
+  pub size : suc (numLen first rest) ≡ length (decimal m)
+  pub not-zero : 1 ≤ m → first ≡ 48 → ⊥
+
+numeral-by : (m x : ℕ) (r : List ℕ) → isDigit x ≡ false → (t : Bool) → ltb 0 m ≡ t → Numeral m x r
+numeral-by m x r d true e =
+    let k : 1 ≤ m = ltb-true 0 m e in
+    let h = shape m k in
+    let n : (h .first ≡ 48) → ⊥ = omega (arith, h .low) in
+    let z : digitsLen (h .others ++ x ∷ r) ≡ length (h .others) = omega (arith, h .len (x ∷ r), len-stop x r d) in
+    record {
+      first = h .first;
+      rest = h .others ++ x ∷ r;
+      text = ap (λ (l : List ℕ). l ++ x ∷ r) (h .text);
+      starts = range-digit (h .first) (omega (arith, h .low)) (h .high);
+      value = rw (ne-eqb _ _ n) (h .val (x ∷ r) ∙ val-stop m x r d);
+      left = rw (ne-eqb _ _ n, z) (drop-append-seam (h .others) (x ∷ r));
+      size = rw (ne-eqb _ _ n, z, h .text);
+      not-zero = λ y. n;
+    }
+numeral-by m x r d false e =
+    let k : m ≡ 0 = omega (arith, ltb-false 0 m e) in
+    record {
+      first = 48;
+      rest = x ∷ r;
+      text = ap (λ (l : List ℕ). l ++ x ∷ r) (ap decimal k ∙ decimal-zero);
+      starts = refl;
+      value = sym k;
+      left = refl;
+      size = rw (k, decimal-zero);
+      not-zero = λ y. absurd (omega arith);
+    }
+
+pub numeral : (m x : ℕ) (r : List ℕ) → isDigit x ≡ false → Numeral m x r
+numeral m x r d = numeral-by m x r d (ltb 0 m) refl
+
+-- a string at the head of a list
+pub record Key (e : ℕ) (k r : List ℕ) (p : ℕ) : Type 0 where
+  pub first : ℕ
+  pub rest : List ℕ
+  pub text : written k ++ r ≡ first ∷ rest
+  pub starts : isDigit first ≡ true
+  pub reads : (n : ℕ) → stringOf e first rest p n ≡ got k r (p + length (written k)) n
+
+pub string-complete : (e : ℕ) (k r : List ℕ) (p : ℕ) → p + length (written k ++ r) ≡ e → Key e k r p
+unfolding stringOf
+string-complete e k r p h =
+    let m = numeral (length k) 58 (k ++ r) refl in
+    let w : length (written k) ≡ length (decimal (length k)) + suc (length k) = length-append (decimal (length k)) (58 ∷ k) in
+    let q : p + 1 + numLen (m .first) (m .rest) + 1 + length k ≡ p + length (written k) = omega (arith, m .size) in
+    let l : length k ≤ e - (p + 1 + numLen (m .first) (m .rest) + 1) = omega (arith, m .size, length-append (written k) r) in
+    record {
+      first = m .first;
+      rest = m .rest;
+      text = append-assoc (decimal (length k)) (58 ∷ k) r ∙ m .text;
+      starts = m .starts;
+      reads = λ n. rw (m .left, m .value, le-leb (length k) (e - (p + 1 + numLen (m .first) (m .rest) + 1)) l, take-append-seam k r, drop-append-seam k r, q);
+    }
+
+-- an integer
+pub int-complete : (e o : ℕ) (z : ℤ) (r : List ℕ) (n : ℕ) → integerOf e ((signed z ++ 101 ∷ []) ++ r) (o + 1) n ≡ got z r (o + length (writtenInt z)) n
+unfolding integerOf closedOf
+int-complete e o (pos m) r n =
+    let c = numeral m 101 r refl in
+    let d = digit-range (c .first) (c .starts) in
+    let y : (c .first ≡ 45) → ⊥ = omega arith in
+    let q : o + 1 + 1 + numLen (c .first) (c .rest) + 1 ≡ o + suc (length (decimal m ++ 101 ∷ [])) = omega (arith, c .size, length-append (decimal m) (101 ∷ [])) in
+    rw (append-assoc (decimal m) (101 ∷ []) r, c .text, ne-eqb _ _ y, c .starts, c .left, c .value, q)
+int-complete e o (negsuc m) r n =
+    let c = numeral (suc m) 101 r refl in
+    let q : o + 1 + 1 + 1 + numLen (c .first) (c .rest) + 1 ≡ o + suc (suc (length (decimal (suc m) ++ 101 ∷ []))) = omega (arith, c .size, length-append (decimal (suc m)) (101 ∷ [])) in
+    rw (append-assoc (decimal (suc m)) (101 ∷ []) r, c .text, c .left, c .value, q, ne-eqb _ _ (c .not-zero (omega arith)), c .starts)
