@@ -2,3 +2,4 @@
 pub mod Sound
 pub mod Complete
 pub mod Turns
+pub mod Exact

@@ -7,10 +7,9 @@ ghost use Rattle.bencode.specs.Decode.{kindOf, begun, ranged, keyOf, ite
 ghost use Rattle.scalar.specs.Reading.{stringAt, integerAt};
 ghost use Rattle.bencode.specs.Answers.{paper, checkOf, stepOf, prevOf, keyIs};
 ghost use Rattle.bencode.specs.Exact.{Exactly};
-
+use refusal::Refusal;
 use refusal::limit;
 use refusal::number;
-use refusal::Refusal;
 use scalar::Int;
 use scalar::Text;
 

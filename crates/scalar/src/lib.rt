@@ -8,9 +8,8 @@ ghost use lib.ListN.{length, getD, drop};
 ghost use Rattle.scalar.specs.Written.{keyLt};
 ghost use Rattle.scalar.specs.Reading.{got, isDigit, digitsVal, digitsLen, numVal, numLen, stringAt, closedOf, minusAt, integerAt};
 ghost use Rattle.scalar.specs.Answers.{textOf, integerIs};
-
-use refusal::number;
 use refusal::Refusal;
+use refusal::number;
 
 // A string: the place of its first byte and how many they are.
 pub enum Text {

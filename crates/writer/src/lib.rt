@@ -68,7 +68,7 @@ fn joined(out: &mut [u8], at: usize, before: &[u8], n: u64, mark: u8, after: &[u
     if !has_room(out.len(), at, head) {
         return no_room();
     }
-    // a sum of all lengths could pass 64 bits
+    // A test of its own, since the sum of all lengths may not fit either.
     if !has_room(out.len(), at + head, after.len()) {
         return no_room();
     }
@@ -87,7 +87,7 @@ fn no_room() -> Put
     })
 }
 
-// Whether n bytes from `at` on lie within an output of len bytes.
+// Whether n bytes from `at` on lie within len bytes. It subtracts, since `at + n` may not fit a usize.
 fn has_room(len: usize, at: usize, n: usize) -> bool
     ensures { λ r. ⌜ (r ≡ true → at + n ≤ len) × (r ≡ false → len < at + n) ⌝ }
 {

@@ -1,4 +1,10 @@
-use Prim.Native.Nat.{ℕ, _<_}
+use mathlib.Core.Path.{_≡_, refl, sym, ap, _∙_}
+use Prim.Native.Nat.{ℕ, _+_, _-_, _*_, _<_}
+use native.Mathlib.Omega.{arith}
+use borrow.Author.Needs.{needs}
+use lib.ListN.{length}
+use Rattle.bencode.specs.Answers.{stepOf, prevOf, keyIs}
+use Rattle.bencode.proofs.Turns.{kind-L, kind-open, kind-opens, value-out, value-wrong, value-many, value-deep, value-int, value-str, value-list, value-dict, ListTurn, list-start, list-close, list-bad, list-out, list-more, DictTurn, dict-start, dict-close, dict-out, dict-not, dict-bad, dict-more, key-further}
 use borrow.Fn.Kinds.{In}
 use borrow.Fn.PlainCycle.{Measures, is, falls, and}
 use Rattle.bencode.proofs.dictionary.Reads as dictionary
@@ -21,13 +27,13 @@ use Rattle.bencode.proofs.+dictionary+list+value.{statement}
 use Rattle.bencode.proofs.+dictionary+list+value.Tie.{close}
 
 abbrev μ-dictionary : Measures 1 dictionary-kinds.ps ℕ
-μ-dictionary κs a = ?
+μ-dictionary κs a = 2 * a .1 .1 .0 + 1
 
 abbrev μ-list : Measures 1 list-kinds.ps ℕ
-μ-list κs a = ?
+μ-list κs a = 2 * a .1 .1 .0 + 1
 
 abbrev μ-value : Measures 1 value-kinds.ps ℕ
-μ-value κs a = ?
+μ-value κs a = 2 * a .1 .1 .0
 
 abbrev dictionary-at : ℕ → In 1 dictionary-kinds.ps
 dictionary-at t =
@@ -49,894 +55,257 @@ value-at t = and 1 value-kinds.ps (is 1 value-kinds.ps μ-value t) value.Pre
 abbrev value-below : ℕ → In 1 value-kinds.ps
 value-below t = and 1 value-kinds.ps (falls 1 value-kinds.ps _<_ μ-value t) value.Pre
 
+abbrev dictionary-calls : ℕ → dictionary-lts.Claims
+dictionary-calls t = (passed-reads.Asked, passed-reads.Learnt, next-key-reads.Asked, next-key-reads.Learnt, value-below t, value.Post, bad-reads.Asked, bad-reads.Learnt)
+
+abbrev list-calls : ℕ → list-lts.Claims
+list-calls t = (passed-reads.Asked, passed-reads.Learnt, value-below t, value.Post, bad-reads.Asked, bad-reads.Learnt)
+
+abbrev value-calls : ℕ → value-lts.Claims
+value-calls t = (bad-reads.Asked, bad-reads.Learnt, begins-reads.Asked, begins-reads.Learnt, integer-reads.Asked, integer-reads.Learnt, digit-reads.Asked, digit-reads.Learnt, string-reads.Asked, string-reads.Learnt, list-below t, list.Post, dictionary-below t, dictionary.Post)
+
 abbrev dictionary-Inv-loop : dictionary-lts.InvT-loop
-dictionary-Inv-loop text levels at₀ count₀ before₀ at count before = ?
+dictionary-Inv-loop text levels at₀ count₀ before₀ at count before = DictTurn text levels at₀ count₀ at count before
 
 abbrev dictionary-μ-loop : dictionary-lts.MeasureT-loop
-dictionary-μ-loop text levels at₀ count₀ before₀ at count before = ?
+dictionary-μ-loop text levels at₀ count₀ before₀ at count before = length text - at
 
 -- src/lib.rt:121:5
-dictionary-loop-holds : (t : ℕ) → dictionary-lts.Need-loop-holds (
-  passed-reads.Asked,
-  passed-reads.Learnt,
-  next-key-reads.Asked,
-  next-key-reads.Learnt,
-  value-below t,
-  value.Post,
-  bad-reads.Asked,
-  bad-reads.Learnt,
-) (dictionary-at t) dictionary.Post dictionary-Inv-loop dictionary-μ-loop
-dictionary-loop-holds t c = ?
+dictionary-loop-holds : (t : ℕ) → dictionary-lts.Need-loop-holds (dictionary-calls t) (dictionary-at t) dictionary.Post dictionary-Inv-loop dictionary-μ-loop
+dictionary-loop-holds t c = dict-start _ _ _ _
 
 -- src/lib.rt:122:12
-dictionary-shared-slice-read-if1 : (t : ℕ) → dictionary-lts.Need-shared-slice-read-if1 (
-  passed-reads.Asked,
-  passed-reads.Learnt,
-  next-key-reads.Asked,
-  next-key-reads.Learnt,
-  value-below t,
-  value.Post,
-  bad-reads.Asked,
-  bad-reads.Learnt,
-) (dictionary-at t) dictionary.Post dictionary-Inv-loop dictionary-μ-loop
-dictionary-shared-slice-read-if1 t c = ?
+dictionary-shared-slice-read-if1 : (t : ℕ) → dictionary-lts.Need-shared-slice-read-if1 (dictionary-calls t) (dictionary-at t) dictionary.Post dictionary-Inv-loop dictionary-μ-loop
+dictionary-shared-slice-read-if1 t c = omega arith
 
 -- src/lib.rt:123:27
-dictionary-add-passed : (t : ℕ) → dictionary-lts.Need-add-passed (
-  passed-reads.Asked,
-  passed-reads.Learnt,
-  next-key-reads.Asked,
-  next-key-reads.Learnt,
-  value-below t,
-  value.Post,
-  bad-reads.Asked,
-  bad-reads.Learnt,
-) (dictionary-at t) dictionary.Post dictionary-Inv-loop dictionary-μ-loop
-dictionary-add-passed t c = ?
+dictionary-add-passed : (t : ℕ) → dictionary-lts.Need-add-passed (dictionary-calls t) (dictionary-at t) dictionary.Post dictionary-Inv-loop dictionary-μ-loop
+dictionary-add-passed t c = omega arith
 
 -- src/lib.rt:123:13
-dictionary-passed-requires : (t : ℕ) → dictionary-lts.Need-passed-requires (
-  passed-reads.Asked,
-  passed-reads.Learnt,
-  next-key-reads.Asked,
-  next-key-reads.Learnt,
-  value-below t,
-  value.Post,
-  bad-reads.Asked,
-  bad-reads.Learnt,
-) (dictionary-at t) dictionary.Post dictionary-Inv-loop dictionary-μ-loop
-dictionary-passed-requires t c κs = ?
+dictionary-passed-requires : (t : ℕ) → dictionary-lts.Need-passed-requires (dictionary-calls t) (dictionary-at t) dictionary.Post dictionary-Inv-loop dictionary-μ-loop
+dictionary-passed-requires t c κs = search needs
 
 -- src/lib.rt:123:13
-dictionary-returns : (t : ℕ) → dictionary-lts.Need-returns (
-  passed-reads.Asked,
-  passed-reads.Learnt,
-  next-key-reads.Asked,
-  next-key-reads.Learnt,
-  value-below t,
-  value.Post,
-  bad-reads.Asked,
-  bad-reads.Learnt,
-) (dictionary-at t) dictionary.Post dictionary-Inv-loop dictionary-μ-loop
-dictionary-returns t c = ?
+dictionary-returns : (t : ℕ) → dictionary-lts.Need-returns (dictionary-calls t) (dictionary-at t) dictionary.Post dictionary-Inv-loop dictionary-μ-loop
+dictionary-returns t c = c .passed .ensures ∙ dict-close (c .before .before .before .before .before .before .args .text .now) (c .before .before .before .before .before .before .args .levels) (c .before .before .before .before .before .before .args .c .at) (c .before .before .before .before .before .before .args .c .count) (c .before .before .before .before .loop .at) (c .before .before .before .before .loop .count) (c .before .before .before .before .loop .before) (c .before .before .before .before .loop .inv) (omega arith) (omega arith)
 
 -- src/lib.rt:125:15
-dictionary-next-key-requires : (t : ℕ) → dictionary-lts.Need-next-key-requires (
-  passed-reads.Asked,
-  passed-reads.Learnt,
-  next-key-reads.Asked,
-  next-key-reads.Learnt,
-  value-below t,
-  value.Post,
-  bad-reads.Asked,
-  bad-reads.Learnt,
-) (dictionary-at t) dictionary.Post dictionary-Inv-loop dictionary-μ-loop
-dictionary-next-key-requires t c κs = ?
+dictionary-next-key-requires : (t : ℕ) → dictionary-lts.Need-next-key-requires (dictionary-calls t) (dictionary-at t) dictionary.Post dictionary-Inv-loop dictionary-μ-loop
+dictionary-next-key-requires t c κs = c .before .before .before .loop .inv .within
 
 -- src/lib.rt:126:23
-dictionary-enum-known-from : (t : ℕ) → dictionary-lts.Need-enum-known-from (
-  passed-reads.Asked,
-  passed-reads.Learnt,
-  next-key-reads.Asked,
-  next-key-reads.Learnt,
-  value-below t,
-  value.Post,
-  bad-reads.Asked,
-  bad-reads.Learnt,
-) (dictionary-at t) dictionary.Post dictionary-Inv-loop dictionary-μ-loop
-dictionary-enum-known-from t c = ?
+dictionary-enum-known-from : (t : ℕ) → dictionary-lts.Need-enum-known-from (dictionary-calls t) (dictionary-at t) dictionary.Post dictionary-Inv-loop dictionary-μ-loop
+dictionary-enum-known-from t c = search needs
 
 -- src/lib.rt:128:25
-dictionary-add-t19 : (t : ℕ) → dictionary-lts.Need-add-t19 (
-  passed-reads.Asked,
-  passed-reads.Learnt,
-  next-key-reads.Asked,
-  next-key-reads.Learnt,
-  value-below t,
-  value.Post,
-  bad-reads.Asked,
-  bad-reads.Learnt,
-) (dictionary-at t) dictionary.Post dictionary-Inv-loop dictionary-μ-loop
-dictionary-add-t19 t c = ?
+dictionary-add-t19 : (t : ℕ) → dictionary-lts.Need-add-t19 (dictionary-calls t) (dictionary-at t) dictionary.Post dictionary-Inv-loop dictionary-μ-loop
+dictionary-add-t19 t c = omega (arith, key-further (c .before .before .before .before .before .before .before .before .before .args .text .now) (prevOf (c .before .before .before .before .before .before .before .before .before .args .text .now) (c .before .before .before .before .before .before .before .loop .before)) (c .before .before .before .before .before .before .before .loop .at) (c .before .before .before .before .before .before .before .loop .count) (c .before .from .given .0 .0) (c .before .from .given .0 .1 .0) (omega arith) (ap (keyIs (c .before .before .before .before .before .before .before .before .before .args .text .now) (c .before .before .before .before .before .before .before .loop .count)) (sym (c .before .from .given .1)) ∙ c .before .before .before .next-key .ensures))
 
 -- src/lib.rt:129:28
-dictionary-add-t20 : (t : ℕ) → dictionary-lts.Need-add-t20 (
-  passed-reads.Asked,
-  passed-reads.Learnt,
-  next-key-reads.Asked,
-  next-key-reads.Learnt,
-  value-below t,
-  value.Post,
-  bad-reads.Asked,
-  bad-reads.Learnt,
-) (dictionary-at t) dictionary.Post dictionary-Inv-loop dictionary-μ-loop
-dictionary-add-t20 t c = ?
+dictionary-add-t20 : (t : ℕ) → dictionary-lts.Need-add-t20 (dictionary-calls t) (dictionary-at t) dictionary.Post dictionary-Inv-loop dictionary-μ-loop
+dictionary-add-t20 t c = omega (arith, key-further (c .before .before .before .before .before .before .before .before .before .args .text .now) (prevOf (c .before .before .before .before .before .before .before .before .before .args .text .now) (c .before .before .before .before .before .before .before .loop .before)) (c .before .before .before .before .before .before .before .loop .at) (c .before .before .before .before .before .before .before .loop .count) (c .before .from .given .0 .0) (c .before .from .given .0 .1 .0) (omega arith) (ap (keyIs (c .before .before .before .before .before .before .before .before .before .args .text .now) (c .before .before .before .before .before .before .before .loop .count)) (sym (c .before .from .given .1)) ∙ c .before .before .before .next-key .ensures))
 
 -- src/lib.rt:131:23
-dictionary-value-requires : (t : ℕ) → dictionary-lts.Need-value-requires (
-  passed-reads.Asked,
-  passed-reads.Learnt,
-  next-key-reads.Asked,
-  next-key-reads.Learnt,
-  value-below t,
-  value.Post,
-  bad-reads.Asked,
-  bad-reads.Learnt,
-) (dictionary-at t) dictionary.Post dictionary-Inv-loop dictionary-μ-loop
-dictionary-value-requires t c κs = ?
+dictionary-value-requires : (t : ℕ) → dictionary-lts.Need-value-requires (dictionary-calls t) (dictionary-at t) dictionary.Post dictionary-Inv-loop dictionary-μ-loop
+dictionary-value-requires t c κs = (omega arith, tt)
 
 -- src/lib.rt:132:32
-dictionary-enum-known-next : (t : ℕ) → dictionary-lts.Need-enum-known-next (
-  passed-reads.Asked,
-  passed-reads.Learnt,
-  next-key-reads.Asked,
-  next-key-reads.Learnt,
-  value-below t,
-  value.Post,
-  bad-reads.Asked,
-  bad-reads.Learnt,
-) (dictionary-at t) dictionary.Post dictionary-Inv-loop dictionary-μ-loop
-dictionary-enum-known-next t c = ?
+dictionary-enum-known-next : (t : ℕ) → dictionary-lts.Need-enum-known-next (dictionary-calls t) (dictionary-at t) dictionary.Post dictionary-Inv-loop dictionary-μ-loop
+dictionary-enum-known-next t c = search needs
 
 -- src/lib.rt:121:5
-dictionary-loop-less : (t : ℕ) → dictionary-lts.Need-loop-less (
-  passed-reads.Asked,
-  passed-reads.Learnt,
-  next-key-reads.Asked,
-  next-key-reads.Learnt,
-  value-below t,
-  value.Post,
-  bad-reads.Asked,
-  bad-reads.Learnt,
-) (dictionary-at t) dictionary.Post dictionary-Inv-loop dictionary-μ-loop
-dictionary-loop-less t c = ?
+dictionary-loop-less : (t : ℕ) → dictionary-lts.Need-loop-less (dictionary-calls t) (dictionary-at t) dictionary.Post dictionary-Inv-loop dictionary-μ-loop
+dictionary-loop-less t c = omega (arith, dict-more (c .before .before .before .before .before .before .before .before .before .before .before .before .before .args .text .now) (c .before .before .before .before .before .before .before .before .before .before .before .before .before .args .levels) (c .before .before .before .before .before .before .before .before .before .before .before .before .before .args .c .at) (c .before .before .before .before .before .before .before .before .before .before .before .before .before .args .c .count) (c .before .before .before .before .before .before .before .before .before .before .before .loop .at) (c .before .before .before .before .before .before .before .before .before .before .before .loop .count) (c .before .before .before .before .before .before .before .before .before .before .before .loop .before) (c .before .before .before .before .before .before .before .before .before .before .before .loop .inv) (omega arith) (c .before .before .before .before .before .before .before .before .if1 .left) (c .before .before .before .before .before .from .given .0 .0) (c .before .before .before .before .before .from .given .0 .1 .0) (ap (keyIs (c .before .before .before .before .before .before .before .before .before .before .before .before .before .args .text .now) (c .before .before .before .before .before .before .before .before .before .before .before .loop .count)) (sym (c .before .before .before .before .before .from .given .1)) ∙ c .before .before .before .before .before .before .before .next-key .ensures) (c .before .next .given .0 .0) (sym (c .before .next .given .1) ∙ c .before .before .before .value .ensures) .0)
 
 -- src/lib.rt:121:5
-dictionary-loop-again : (t : ℕ) → dictionary-lts.Need-loop-again (
-  passed-reads.Asked,
-  passed-reads.Learnt,
-  next-key-reads.Asked,
-  next-key-reads.Learnt,
-  value-below t,
-  value.Post,
-  bad-reads.Asked,
-  bad-reads.Learnt,
-) (dictionary-at t) dictionary.Post dictionary-Inv-loop dictionary-μ-loop
-dictionary-loop-again t c = ?
+dictionary-loop-again : (t : ℕ) → dictionary-lts.Need-loop-again (dictionary-calls t) (dictionary-at t) dictionary.Post dictionary-Inv-loop dictionary-μ-loop
+dictionary-loop-again t c = dict-more (c .before .before .before .before .before .before .before .before .before .before .before .before .before .args .text .now) (c .before .before .before .before .before .before .before .before .before .before .before .before .before .args .levels) (c .before .before .before .before .before .before .before .before .before .before .before .before .before .args .c .at) (c .before .before .before .before .before .before .before .before .before .before .before .before .before .args .c .count) (c .before .before .before .before .before .before .before .before .before .before .before .loop .at) (c .before .before .before .before .before .before .before .before .before .before .before .loop .count) (c .before .before .before .before .before .before .before .before .before .before .before .loop .before) (c .before .before .before .before .before .before .before .before .before .before .before .loop .inv) (omega arith) (c .before .before .before .before .before .before .before .before .if1 .left) (c .before .before .before .before .before .from .given .0 .0) (c .before .before .before .before .before .from .given .0 .1 .0) (ap (keyIs (c .before .before .before .before .before .before .before .before .before .before .before .before .before .args .text .now) (c .before .before .before .before .before .before .before .before .before .before .before .loop .count)) (sym (c .before .before .before .before .before .from .given .1)) ∙ c .before .before .before .before .before .before .before .next-key .ensures) (c .before .next .given .0 .0) (sym (c .before .next .given .1) ∙ c .before .before .before .value .ensures) .1
 
 -- src/lib.rt:141:31
-dictionary-enum-known-r : (t : ℕ) → dictionary-lts.Need-enum-known-r (
-  passed-reads.Asked,
-  passed-reads.Learnt,
-  next-key-reads.Asked,
-  next-key-reads.Learnt,
-  value-below t,
-  value.Post,
-  bad-reads.Asked,
-  bad-reads.Learnt,
-) (dictionary-at t) dictionary.Post dictionary-Inv-loop dictionary-μ-loop
-dictionary-enum-known-r t c = ?
+dictionary-enum-known-r : (t : ℕ) → dictionary-lts.Need-enum-known-r (dictionary-calls t) (dictionary-at t) dictionary.Post dictionary-Inv-loop dictionary-μ-loop
+dictionary-enum-known-r t c = search needs
 
 -- src/lib.rt:141:37
-dictionary-returns-2 : (t : ℕ) → dictionary-lts.Need-returns-2 (
-  passed-reads.Asked,
-  passed-reads.Learnt,
-  next-key-reads.Asked,
-  next-key-reads.Learnt,
-  value-below t,
-  value.Post,
-  bad-reads.Asked,
-  bad-reads.Learnt,
-) (dictionary-at t) dictionary.Post dictionary-Inv-loop dictionary-μ-loop
-dictionary-returns-2 t c = ?
+dictionary-returns-2 : (t : ℕ) → dictionary-lts.Need-returns-2 (dictionary-calls t) (dictionary-at t) dictionary.Post dictionary-Inv-loop dictionary-μ-loop
+dictionary-returns-2 t c = dict-bad (c .before .before .before .before .before .before .before .before .before .before .before .before .before .args .text .now) (c .before .before .before .before .before .before .before .before .before .before .before .before .before .args .levels) (c .before .before .before .before .before .before .before .before .before .before .before .before .before .args .c .at) (c .before .before .before .before .before .before .before .before .before .before .before .before .before .args .c .count) (c .before .before .before .before .before .before .before .before .before .before .before .loop .at) (c .before .before .before .before .before .before .before .before .before .before .before .loop .count) (c .before .before .before .before .before .before .before .before .before .before .before .loop .before) (c .before .before .before .before .before .before .before .before .before .before .before .loop .inv) (omega arith) (c .before .before .before .before .before .before .before .before .if1 .left) (c .before .before .before .before .before .from .given .0 .0) (c .before .before .before .before .before .from .given .0 .1 .0) (ap (keyIs (c .before .before .before .before .before .before .before .before .before .before .before .before .before .args .text .now) (c .before .before .before .before .before .before .before .before .before .before .before .loop .count)) (sym (c .before .before .before .before .before .from .given .1)) ∙ c .before .before .before .before .before .before .before .next-key .ensures) (c .before .r .given .0 .0) (sym (c .before .r .given .1) ∙ c .before .before .before .value .ensures)
 
 -- src/lib.rt:144:24
-dictionary-enum-known-r-2 : (t : ℕ) → dictionary-lts.Need-enum-known-r-2 (
-  passed-reads.Asked,
-  passed-reads.Learnt,
-  next-key-reads.Asked,
-  next-key-reads.Learnt,
-  value-below t,
-  value.Post,
-  bad-reads.Asked,
-  bad-reads.Learnt,
-) (dictionary-at t) dictionary.Post dictionary-Inv-loop dictionary-μ-loop
-dictionary-enum-known-r-2 t c = ?
+dictionary-enum-known-r-2 : (t : ℕ) → dictionary-lts.Need-enum-known-r-2 (dictionary-calls t) (dictionary-at t) dictionary.Post dictionary-Inv-loop dictionary-μ-loop
+dictionary-enum-known-r-2 t c = search needs
 
 -- src/lib.rt:144:30
-dictionary-returns-3 : (t : ℕ) → dictionary-lts.Need-returns-3 (
-  passed-reads.Asked,
-  passed-reads.Learnt,
-  next-key-reads.Asked,
-  next-key-reads.Learnt,
-  value-below t,
-  value.Post,
-  bad-reads.Asked,
-  bad-reads.Learnt,
-) (dictionary-at t) dictionary.Post dictionary-Inv-loop dictionary-μ-loop
-dictionary-returns-3 t c = ?
+dictionary-returns-3 : (t : ℕ) → dictionary-lts.Need-returns-3 (dictionary-calls t) (dictionary-at t) dictionary.Post dictionary-Inv-loop dictionary-μ-loop
+dictionary-returns-3 t c = dict-not (c .before .before .before .before .before .before .before .before .before .args .text .now) (c .before .before .before .before .before .before .before .before .before .args .levels) (c .before .before .before .before .before .before .before .before .before .args .c .at) (c .before .before .before .before .before .before .before .before .before .args .c .count) (c .before .before .before .before .before .before .before .loop .at) (c .before .before .before .before .before .before .before .loop .count) (c .before .before .before .before .before .before .before .loop .before) (c .before .before .before .before .before .before .before .loop .inv) (omega arith) (c .before .before .before .before .if1 .left) (c .before .r2 .given .0 .0) (ap (keyIs (c .before .before .before .before .before .before .before .before .before .args .text .now) (c .before .before .before .before .before .before .before .loop .count)) (sym (c .before .r2 .given .1)) ∙ c .before .before .before .next-key .ensures)
 
 -- src/lib.rt:147:5
-dictionary-bad-requires : (t : ℕ) → dictionary-lts.Need-bad-requires (
-  passed-reads.Asked,
-  passed-reads.Learnt,
-  next-key-reads.Asked,
-  next-key-reads.Learnt,
-  value-below t,
-  value.Post,
-  bad-reads.Asked,
-  bad-reads.Learnt,
-) (dictionary-at t) dictionary.Post dictionary-Inv-loop dictionary-μ-loop
-dictionary-bad-requires t c κs = ?
+dictionary-bad-requires : (t : ℕ) → dictionary-lts.Need-bad-requires (dictionary-calls t) (dictionary-at t) dictionary.Post dictionary-Inv-loop dictionary-μ-loop
+dictionary-bad-requires t c κs = search needs
 
 -- src/lib.rt:111:1
-dictionary-returns-4 : (t : ℕ) → dictionary-lts.Need-returns-4 (
-  passed-reads.Asked,
-  passed-reads.Learnt,
-  next-key-reads.Asked,
-  next-key-reads.Learnt,
-  value-below t,
-  value.Post,
-  bad-reads.Asked,
-  bad-reads.Learnt,
-) (dictionary-at t) dictionary.Post dictionary-Inv-loop dictionary-μ-loop
-dictionary-returns-4 t c = ?
+dictionary-returns-4 : (t : ℕ) → dictionary-lts.Need-returns-4 (dictionary-calls t) (dictionary-at t) dictionary.Post dictionary-Inv-loop dictionary-μ-loop
+dictionary-returns-4 t c = c .bad .ensures ∙ dict-out (c .before .before .before .before .args .text .now) (c .before .before .before .before .args .levels) (c .before .before .before .before .args .c .at) (c .before .before .before .before .args .c .count) (c .before .before .loop .at) (c .before .before .loop .count) (c .before .before .loop .before) (c .before .before .loop .inv) (omega arith)
 
 abbrev list-Inv-loop : list-lts.InvT-loop
-list-Inv-loop text levels at₀ count₀ at count = ?
+list-Inv-loop text levels at₀ count₀ at count = ListTurn text levels at₀ count₀ at count
 
 abbrev list-μ-loop : list-lts.MeasureT-loop
-list-μ-loop text levels at₀ count₀ at count = ?
+list-μ-loop text levels at₀ count₀ at count = length text - at
 
 -- src/lib.rt:95:5
-list-loop-holds : (t : ℕ) → list-lts.Need-loop-holds (
-  passed-reads.Asked,
-  passed-reads.Learnt,
-  value-below t,
-  value.Post,
-  bad-reads.Asked,
-  bad-reads.Learnt,
-) (list-at t) list.Post list-Inv-loop list-μ-loop
-list-loop-holds t c = ?
+list-loop-holds : (t : ℕ) → list-lts.Need-loop-holds (list-calls t) (list-at t) list.Post list-Inv-loop list-μ-loop
+list-loop-holds t c = list-start _ _ _ _
 
 -- src/lib.rt:96:12
-list-shared-slice-read-if1 : (t : ℕ) → list-lts.Need-shared-slice-read-if1 (
-  passed-reads.Asked,
-  passed-reads.Learnt,
-  value-below t,
-  value.Post,
-  bad-reads.Asked,
-  bad-reads.Learnt,
-) (list-at t) list.Post list-Inv-loop list-μ-loop
-list-shared-slice-read-if1 t c = ?
+list-shared-slice-read-if1 : (t : ℕ) → list-lts.Need-shared-slice-read-if1 (list-calls t) (list-at t) list.Post list-Inv-loop list-μ-loop
+list-shared-slice-read-if1 t c = omega arith
 
 -- src/lib.rt:97:27
-list-add-passed : (t : ℕ) → list-lts.Need-add-passed (
-  passed-reads.Asked,
-  passed-reads.Learnt,
-  value-below t,
-  value.Post,
-  bad-reads.Asked,
-  bad-reads.Learnt,
-) (list-at t) list.Post list-Inv-loop list-μ-loop
-list-add-passed t c = ?
+list-add-passed : (t : ℕ) → list-lts.Need-add-passed (list-calls t) (list-at t) list.Post list-Inv-loop list-μ-loop
+list-add-passed t c = omega arith
 
 -- src/lib.rt:97:13
-list-passed-requires : (t : ℕ) → list-lts.Need-passed-requires (
-  passed-reads.Asked,
-  passed-reads.Learnt,
-  value-below t,
-  value.Post,
-  bad-reads.Asked,
-  bad-reads.Learnt,
-) (list-at t) list.Post list-Inv-loop list-μ-loop
-list-passed-requires t c κs = ?
+list-passed-requires : (t : ℕ) → list-lts.Need-passed-requires (list-calls t) (list-at t) list.Post list-Inv-loop list-μ-loop
+list-passed-requires t c κs = search needs
 
 -- src/lib.rt:97:13
-list-returns : (t : ℕ) → list-lts.Need-returns (
-  passed-reads.Asked,
-  passed-reads.Learnt,
-  value-below t,
-  value.Post,
-  bad-reads.Asked,
-  bad-reads.Learnt,
-) (list-at t) list.Post list-Inv-loop list-μ-loop
-list-returns t c = ?
+list-returns : (t : ℕ) → list-lts.Need-returns (list-calls t) (list-at t) list.Post list-Inv-loop list-μ-loop
+list-returns t c = c .passed .ensures ∙ list-close (c .before .before .before .before .before .before .args .text .now) (c .before .before .before .before .before .before .args .levels) (c .before .before .before .before .before .before .args .c .at) (c .before .before .before .before .before .before .args .c .count) (c .before .before .before .before .loop .at) (c .before .before .before .before .loop .count) (c .before .before .before .before .loop .inv) (omega arith) (omega arith)
 
 -- src/lib.rt:99:15
-list-value-requires : (t : ℕ) → list-lts.Need-value-requires (
-  passed-reads.Asked,
-  passed-reads.Learnt,
-  value-below t,
-  value.Post,
-  bad-reads.Asked,
-  bad-reads.Learnt,
-) (list-at t) list.Post list-Inv-loop list-μ-loop
-list-value-requires t c κs = ?
+list-value-requires : (t : ℕ) → list-lts.Need-value-requires (list-calls t) (list-at t) list.Post list-Inv-loop list-μ-loop
+list-value-requires t c κs = (omega arith, tt)
 
 -- src/lib.rt:100:24
-list-enum-known-next : (t : ℕ) → list-lts.Need-enum-known-next (
-  passed-reads.Asked,
-  passed-reads.Learnt,
-  value-below t,
-  value.Post,
-  bad-reads.Asked,
-  bad-reads.Learnt,
-) (list-at t) list.Post list-Inv-loop list-μ-loop
-list-enum-known-next t c = ?
+list-enum-known-next : (t : ℕ) → list-lts.Need-enum-known-next (list-calls t) (list-at t) list.Post list-Inv-loop list-μ-loop
+list-enum-known-next t c = search needs
 
 -- src/lib.rt:95:5
-list-loop-less : (t : ℕ) → list-lts.Need-loop-less (
-  passed-reads.Asked,
-  passed-reads.Learnt,
-  value-below t,
-  value.Post,
-  bad-reads.Asked,
-  bad-reads.Learnt,
-) (list-at t) list.Post list-Inv-loop list-μ-loop
-list-loop-less t c = ?
+list-loop-less : (t : ℕ) → list-lts.Need-loop-less (list-calls t) (list-at t) list.Post list-Inv-loop list-μ-loop
+list-loop-less t c = omega (arith, list-more (c .before .before .before .before .before .before .before .before .before .args .text .now) (c .before .before .before .before .before .before .before .before .before .args .levels) (c .before .before .before .before .before .before .before .before .before .args .c .at) (c .before .before .before .before .before .before .before .before .before .args .c .count) (c .before .before .before .before .before .before .before .loop .at) (c .before .before .before .before .before .before .before .loop .count) (c .before .before .before .before .before .before .before .loop .inv) (omega arith) (c .before .before .before .before .if1 .left) (c .before .next .given .0 .0) (sym (c .before .next .given .1) ∙ c .before .before .before .value .ensures) .0)
 
 -- src/lib.rt:95:5
-list-loop-again : (t : ℕ) → list-lts.Need-loop-again (
-  passed-reads.Asked,
-  passed-reads.Learnt,
-  value-below t,
-  value.Post,
-  bad-reads.Asked,
-  bad-reads.Learnt,
-) (list-at t) list.Post list-Inv-loop list-μ-loop
-list-loop-again t c = ?
+list-loop-again : (t : ℕ) → list-lts.Need-loop-again (list-calls t) (list-at t) list.Post list-Inv-loop list-μ-loop
+list-loop-again t c = list-more (c .before .before .before .before .before .before .before .before .before .args .text .now) (c .before .before .before .before .before .before .before .before .before .args .levels) (c .before .before .before .before .before .before .before .before .before .args .c .at) (c .before .before .before .before .before .before .before .before .before .args .c .count) (c .before .before .before .before .before .before .before .loop .at) (c .before .before .before .before .before .before .before .loop .count) (c .before .before .before .before .before .before .before .loop .inv) (omega arith) (c .before .before .before .before .if1 .left) (c .before .next .given .0 .0) (sym (c .before .next .given .1) ∙ c .before .before .before .value .ensures) .1
 
 -- src/lib.rt:104:23
-list-enum-known-r : (t : ℕ) → list-lts.Need-enum-known-r (
-  passed-reads.Asked,
-  passed-reads.Learnt,
-  value-below t,
-  value.Post,
-  bad-reads.Asked,
-  bad-reads.Learnt,
-) (list-at t) list.Post list-Inv-loop list-μ-loop
-list-enum-known-r t c = ?
+list-enum-known-r : (t : ℕ) → list-lts.Need-enum-known-r (list-calls t) (list-at t) list.Post list-Inv-loop list-μ-loop
+list-enum-known-r t c = search needs
 
 -- src/lib.rt:104:29
-list-returns-2 : (t : ℕ) → list-lts.Need-returns-2 (
-  passed-reads.Asked,
-  passed-reads.Learnt,
-  value-below t,
-  value.Post,
-  bad-reads.Asked,
-  bad-reads.Learnt,
-) (list-at t) list.Post list-Inv-loop list-μ-loop
-list-returns-2 t c = ?
+list-returns-2 : (t : ℕ) → list-lts.Need-returns-2 (list-calls t) (list-at t) list.Post list-Inv-loop list-μ-loop
+list-returns-2 t c = list-bad (c .before .before .before .before .before .before .before .before .before .args .text .now) (c .before .before .before .before .before .before .before .before .before .args .levels) (c .before .before .before .before .before .before .before .before .before .args .c .at) (c .before .before .before .before .before .before .before .before .before .args .c .count) (c .before .before .before .before .before .before .before .loop .at) (c .before .before .before .before .before .before .before .loop .count) (c .before .before .before .before .before .before .before .loop .inv) (c .before .r .given .0 .0) (omega arith) (c .before .before .before .before .if1 .left) (sym (c .before .r .given .1) ∙ c .before .before .before .value .ensures)
 
 -- src/lib.rt:107:5
-list-bad-requires : (t : ℕ) → list-lts.Need-bad-requires (
-  passed-reads.Asked,
-  passed-reads.Learnt,
-  value-below t,
-  value.Post,
-  bad-reads.Asked,
-  bad-reads.Learnt,
-) (list-at t) list.Post list-Inv-loop list-μ-loop
-list-bad-requires t c κs = ?
+list-bad-requires : (t : ℕ) → list-lts.Need-bad-requires (list-calls t) (list-at t) list.Post list-Inv-loop list-μ-loop
+list-bad-requires t c κs = search needs
 
 -- src/lib.rt:90:1
-list-returns-3 : (t : ℕ) → list-lts.Need-returns-3 (
-  passed-reads.Asked,
-  passed-reads.Learnt,
-  value-below t,
-  value.Post,
-  bad-reads.Asked,
-  bad-reads.Learnt,
-) (list-at t) list.Post list-Inv-loop list-μ-loop
-list-returns-3 t c = ?
+list-returns-3 : (t : ℕ) → list-lts.Need-returns-3 (list-calls t) (list-at t) list.Post list-Inv-loop list-μ-loop
+list-returns-3 t c = c .bad .ensures ∙ list-out (c .before .before .before .before .args .text .now) (c .before .before .before .before .args .levels) (c .before .before .before .before .args .c .at) (c .before .before .before .before .args .c .count) (c .before .before .loop .at) (c .before .before .loop .count) (c .before .before .loop .inv) (omega arith)
 
 -- src/lib.rt:61:9
-value-bad-requires : (t : ℕ) → value-lts.Need-bad-requires (
-  bad-reads.Asked,
-  bad-reads.Learnt,
-  begins-reads.Asked,
-  begins-reads.Learnt,
-  integer-reads.Asked,
-  integer-reads.Learnt,
-  digit-reads.Asked,
-  digit-reads.Learnt,
-  string-reads.Asked,
-  string-reads.Learnt,
-  list-below t,
-  list.Post,
-  dictionary-below t,
-  dictionary.Post,
-) (value-at t) value.Post
-value-bad-requires t c κs = ?
+value-bad-requires : (t : ℕ) → value-lts.Need-bad-requires (value-calls t) (value-at t) value.Post
+value-bad-requires t c κs = search needs
 
 -- src/lib.rt:61:9
-value-returns : (t : ℕ) → value-lts.Need-returns (
-  bad-reads.Asked,
-  bad-reads.Learnt,
-  begins-reads.Asked,
-  begins-reads.Learnt,
-  integer-reads.Asked,
-  integer-reads.Learnt,
-  digit-reads.Asked,
-  digit-reads.Learnt,
-  string-reads.Asked,
-  string-reads.Learnt,
-  list-below t,
-  list.Post,
-  dictionary-below t,
-  dictionary.Post,
-) (value-at t) value.Post
-value-returns t c = ?
+value-returns : (t : ℕ) → value-lts.Need-returns (value-calls t) (value-at t) value.Post
+value-returns t c = c .bad .ensures ∙ ap stepOf (sym (value-out (c .before .before .before .args .text .now) (c .before .before .before .args .c .at) (c .before .before .before .args .c .count) (c .before .before .before .args .levels) (omega arith)))
 
 -- src/lib.rt:63:13
-value-shared-slice-read-b : (t : ℕ) → value-lts.Need-shared-slice-read-b (
-  bad-reads.Asked,
-  bad-reads.Learnt,
-  begins-reads.Asked,
-  begins-reads.Learnt,
-  integer-reads.Asked,
-  integer-reads.Learnt,
-  digit-reads.Asked,
-  digit-reads.Learnt,
-  string-reads.Asked,
-  string-reads.Learnt,
-  list-below t,
-  list.Post,
-  dictionary-below t,
-  dictionary.Post,
-) (value-at t) value.Post
-value-shared-slice-read-b t c = ?
+value-shared-slice-read-b : (t : ℕ) → value-lts.Need-shared-slice-read-b (value-calls t) (value-at t) value.Post
+value-shared-slice-read-b t c = search needs
 
 -- src/lib.rt:64:8
-value-begins-requires : (t : ℕ) → value-lts.Need-begins-requires (
-  bad-reads.Asked,
-  bad-reads.Learnt,
-  begins-reads.Asked,
-  begins-reads.Learnt,
-  integer-reads.Asked,
-  integer-reads.Learnt,
-  digit-reads.Asked,
-  digit-reads.Learnt,
-  string-reads.Asked,
-  string-reads.Learnt,
-  list-below t,
-  list.Post,
-  dictionary-below t,
-  dictionary.Post,
-) (value-at t) value.Post
-value-begins-requires t c κs = ?
+value-begins-requires : (t : ℕ) → value-lts.Need-begins-requires (value-calls t) (value-at t) value.Post
+value-begins-requires t c κs = search needs
 
 -- src/lib.rt:66:13
-value-bad-requires-2 : (t : ℕ) → value-lts.Need-bad-requires-2 (
-  bad-reads.Asked,
-  bad-reads.Learnt,
-  begins-reads.Asked,
-  begins-reads.Learnt,
-  integer-reads.Asked,
-  integer-reads.Learnt,
-  digit-reads.Asked,
-  digit-reads.Learnt,
-  string-reads.Asked,
-  string-reads.Learnt,
-  list-below t,
-  list.Post,
-  dictionary-below t,
-  dictionary.Post,
-) (value-at t) value.Post
-value-bad-requires-2 t c κs = ?
+value-bad-requires-2 : (t : ℕ) → value-lts.Need-bad-requires-2 (value-calls t) (value-at t) value.Post
+value-bad-requires-2 t c κs = search needs
 
 -- src/lib.rt:66:13
-value-returns-2 : (t : ℕ) → value-lts.Need-returns-2 (
-  bad-reads.Asked,
-  bad-reads.Learnt,
-  begins-reads.Asked,
-  begins-reads.Learnt,
-  integer-reads.Asked,
-  integer-reads.Learnt,
-  digit-reads.Asked,
-  digit-reads.Learnt,
-  string-reads.Asked,
-  string-reads.Learnt,
-  list-below t,
-  list.Post,
-  dictionary-below t,
-  dictionary.Post,
-) (value-at t) value.Post
-value-returns-2 t c = ?
+value-returns-2 : (t : ℕ) → value-lts.Need-returns-2 (value-calls t) (value-at t) value.Post
+value-returns-2 t c = c .bad2 .ensures ∙ ap stepOf (sym (value-many (c .before .before .before .before .before .before .before .args .text .now) (c .before .before .before .before .before .before .before .args .c .at) (c .before .before .before .before .before .before .before .args .c .count) (omega arith) (c .before .before .before .before .before .before .before .args .levels) (cc) (omega arith)))
 
 -- src/lib.rt:69:38
-value-add-integer : (t : ℕ) → value-lts.Need-add-integer (
-  bad-reads.Asked,
-  bad-reads.Learnt,
-  begins-reads.Asked,
-  begins-reads.Learnt,
-  integer-reads.Asked,
-  integer-reads.Learnt,
-  digit-reads.Asked,
-  digit-reads.Learnt,
-  string-reads.Asked,
-  string-reads.Learnt,
-  list-below t,
-  list.Post,
-  dictionary-below t,
-  dictionary.Post,
-) (value-at t) value.Post
-value-add-integer t c = ?
+value-add-integer : (t : ℕ) → value-lts.Need-add-integer (value-calls t) (value-at t) value.Post
+value-add-integer t c = search needs
 
 -- src/lib.rt:69:13
-value-integer-requires : (t : ℕ) → value-lts.Need-integer-requires (
-  bad-reads.Asked,
-  bad-reads.Learnt,
-  begins-reads.Asked,
-  begins-reads.Learnt,
-  integer-reads.Asked,
-  integer-reads.Learnt,
-  digit-reads.Asked,
-  digit-reads.Learnt,
-  string-reads.Asked,
-  string-reads.Learnt,
-  list-below t,
-  list.Post,
-  dictionary-below t,
-  dictionary.Post,
-) (value-at t) value.Post
-value-integer-requires t c κs = ?
+value-integer-requires : (t : ℕ) → value-lts.Need-integer-requires (value-calls t) (value-at t) value.Post
+value-integer-requires t c κs = search needs
 
 -- src/lib.rt:69:13
-value-returns-3 : (t : ℕ) → value-lts.Need-returns-3 (
-  bad-reads.Asked,
-  bad-reads.Learnt,
-  begins-reads.Asked,
-  begins-reads.Learnt,
-  integer-reads.Asked,
-  integer-reads.Learnt,
-  digit-reads.Asked,
-  digit-reads.Learnt,
-  string-reads.Asked,
-  string-reads.Learnt,
-  list-below t,
-  list.Post,
-  dictionary-below t,
-  dictionary.Post,
-) (value-at t) value.Post
-value-returns-3 t c = ?
+value-returns-3 : (t : ℕ) → value-lts.Need-returns-3 (value-calls t) (value-at t) value.Post
+value-returns-3 t c = c .integer .ensures ∙ value-int (c .before .before .before .before .before .before .before .before .args .text .now) (c .before .before .before .before .before .before .before .before .args .c .at) (c .before .before .before .before .before .before .before .before .args .c .count) (omega arith) (c .before .before .before .before .before .before .before .before .args .levels) (c .before .if4 .taken) (omega arith)
 
 -- src/lib.rt:71:12
-value-digit-requires : (t : ℕ) → value-lts.Need-digit-requires (
-  bad-reads.Asked,
-  bad-reads.Learnt,
-  begins-reads.Asked,
-  begins-reads.Learnt,
-  integer-reads.Asked,
-  integer-reads.Learnt,
-  digit-reads.Asked,
-  digit-reads.Learnt,
-  string-reads.Asked,
-  string-reads.Learnt,
-  list-below t,
-  list.Post,
-  dictionary-below t,
-  dictionary.Post,
-) (value-at t) value.Post
-value-digit-requires t c κs = ?
+value-digit-requires : (t : ℕ) → value-lts.Need-digit-requires (value-calls t) (value-at t) value.Post
+value-digit-requires t c κs = search needs
 
 -- src/lib.rt:72:37
-value-add-string : (t : ℕ) → value-lts.Need-add-string (
-  bad-reads.Asked,
-  bad-reads.Learnt,
-  begins-reads.Asked,
-  begins-reads.Learnt,
-  integer-reads.Asked,
-  integer-reads.Learnt,
-  digit-reads.Asked,
-  digit-reads.Learnt,
-  string-reads.Asked,
-  string-reads.Learnt,
-  list-below t,
-  list.Post,
-  dictionary-below t,
-  dictionary.Post,
-) (value-at t) value.Post
-value-add-string t c = ?
+value-add-string : (t : ℕ) → value-lts.Need-add-string (value-calls t) (value-at t) value.Post
+value-add-string t c = search needs
 
 -- src/lib.rt:72:13
-value-string-requires : (t : ℕ) → value-lts.Need-string-requires (
-  bad-reads.Asked,
-  bad-reads.Learnt,
-  begins-reads.Asked,
-  begins-reads.Learnt,
-  integer-reads.Asked,
-  integer-reads.Learnt,
-  digit-reads.Asked,
-  digit-reads.Learnt,
-  string-reads.Asked,
-  string-reads.Learnt,
-  list-below t,
-  list.Post,
-  dictionary-below t,
-  dictionary.Post,
-) (value-at t) value.Post
-value-string-requires t c κs = ?
+value-string-requires : (t : ℕ) → value-lts.Need-string-requires (value-calls t) (value-at t) value.Post
+value-string-requires t c κs = omega arith
 
 -- src/lib.rt:72:13
-value-returns-4 : (t : ℕ) → value-lts.Need-returns-4 (
-  bad-reads.Asked,
-  bad-reads.Learnt,
-  begins-reads.Asked,
-  begins-reads.Learnt,
-  integer-reads.Asked,
-  integer-reads.Learnt,
-  digit-reads.Asked,
-  digit-reads.Learnt,
-  string-reads.Asked,
-  string-reads.Learnt,
-  list-below t,
-  list.Post,
-  dictionary-below t,
-  dictionary.Post,
-) (value-at t) value.Post
-value-returns-4 t c = ?
+value-returns-4 : (t : ℕ) → value-lts.Need-returns-4 (value-calls t) (value-at t) value.Post
+value-returns-4 t c = c .string .ensures ∙ value-str (c .before .before .before .before .before .before .before .before .before .before .args .text .now) (c .before .before .before .before .before .before .before .before .before .before .args .c .at) (c .before .before .before .before .before .before .before .before .before .before .args .c .count) (omega arith) (c .before .before .before .before .before .before .before .before .before .before .args .levels) (cc) (omega arith)
 
 -- src/lib.rt:75:13
-value-bad-requires-3 : (t : ℕ) → value-lts.Need-bad-requires-3 (
-  bad-reads.Asked,
-  bad-reads.Learnt,
-  begins-reads.Asked,
-  begins-reads.Learnt,
-  integer-reads.Asked,
-  integer-reads.Learnt,
-  digit-reads.Asked,
-  digit-reads.Learnt,
-  string-reads.Asked,
-  string-reads.Learnt,
-  list-below t,
-  list.Post,
-  dictionary-below t,
-  dictionary.Post,
-) (value-at t) value.Post
-value-bad-requires-3 t c κs = ?
+value-bad-requires-3 : (t : ℕ) → value-lts.Need-bad-requires-3 (value-calls t) (value-at t) value.Post
+value-bad-requires-3 t c κs = search needs
 
 -- src/lib.rt:75:13
-value-returns-5 : (t : ℕ) → value-lts.Need-returns-5 (
-  bad-reads.Asked,
-  bad-reads.Learnt,
-  begins-reads.Asked,
-  begins-reads.Learnt,
-  integer-reads.Asked,
-  integer-reads.Learnt,
-  digit-reads.Asked,
-  digit-reads.Learnt,
-  string-reads.Asked,
-  string-reads.Learnt,
-  list-below t,
-  list.Post,
-  dictionary-below t,
-  dictionary.Post,
-) (value-at t) value.Post
-value-returns-5 t c = ?
+value-returns-5 : (t : ℕ) → value-lts.Need-returns-5 (value-calls t) (value-at t) value.Post
+value-returns-5 t c = c .bad3 .ensures ∙ ap stepOf (sym (value-deep (c .before .before .before .before .before .before .before .before .before .before .before .args .text .now) (c .before .before .before .before .before .before .before .before .before .before .before .args .c .at) (c .before .before .before .before .before .before .before .before .before .before .before .args .c .count) (omega arith) (c .before .before .before .before .before .before .before .before .before .before .before .args .levels) (omega arith) (kind-opens _ (cc) (c .before .before .before .before .if4 .left) (cc)) (omega arith)))
 
 -- src/lib.rt:78:17
-value-add-t18 : (t : ℕ) → value-lts.Need-add-t18 (
-  bad-reads.Asked,
-  bad-reads.Learnt,
-  begins-reads.Asked,
-  begins-reads.Learnt,
-  integer-reads.Asked,
-  integer-reads.Learnt,
-  digit-reads.Asked,
-  digit-reads.Learnt,
-  string-reads.Asked,
-  string-reads.Learnt,
-  list-below t,
-  list.Post,
-  dictionary-below t,
-  dictionary.Post,
-) (value-at t) value.Post
-value-add-t18 t c = ?
+value-add-t18 : (t : ℕ) → value-lts.Need-add-t18 (value-calls t) (value-at t) value.Post
+value-add-t18 t c = search needs
 
 -- src/lib.rt:79:20
-value-add-dictionary : (t : ℕ) → value-lts.Need-add-dictionary (
-  bad-reads.Asked,
-  bad-reads.Learnt,
-  begins-reads.Asked,
-  begins-reads.Learnt,
-  integer-reads.Asked,
-  integer-reads.Learnt,
-  digit-reads.Asked,
-  digit-reads.Learnt,
-  string-reads.Asked,
-  string-reads.Learnt,
-  list-below t,
-  list.Post,
-  dictionary-below t,
-  dictionary.Post,
-) (value-at t) value.Post
-value-add-dictionary t c = ?
+value-add-dictionary : (t : ℕ) → value-lts.Need-add-dictionary (value-calls t) (value-at t) value.Post
+value-add-dictionary t c = search needs
 
 -- src/lib.rt:82:39
-value-sub-list : (t : ℕ) → value-lts.Need-sub-list (
-  bad-reads.Asked,
-  bad-reads.Learnt,
-  begins-reads.Asked,
-  begins-reads.Learnt,
-  integer-reads.Asked,
-  integer-reads.Learnt,
-  digit-reads.Asked,
-  digit-reads.Learnt,
-  string-reads.Asked,
-  string-reads.Learnt,
-  list-below t,
-  list.Post,
-  dictionary-below t,
-  dictionary.Post,
-) (value-at t) value.Post
-value-sub-list t c = ?
+value-sub-list : (t : ℕ) → value-lts.Need-sub-list (value-calls t) (value-at t) value.Post
+value-sub-list t c = search needs
 
 -- src/lib.rt:82:13
-value-list-requires : (t : ℕ) → value-lts.Need-list-requires (
-  bad-reads.Asked,
-  bad-reads.Learnt,
-  begins-reads.Asked,
-  begins-reads.Learnt,
-  integer-reads.Asked,
-  integer-reads.Learnt,
-  digit-reads.Asked,
-  digit-reads.Learnt,
-  string-reads.Asked,
-  string-reads.Learnt,
-  list-below t,
-  list.Post,
-  dictionary-below t,
-  dictionary.Post,
-) (value-at t) value.Post
-value-list-requires t c κs = ?
+value-list-requires : (t : ℕ) → value-lts.Need-list-requires (value-calls t) (value-at t) value.Post
+value-list-requires t c κs = (omega arith, tt)
 
 -- src/lib.rt:82:13
-value-returns-6 : (t : ℕ) → value-lts.Need-returns-6 (
-  bad-reads.Asked,
-  bad-reads.Learnt,
-  begins-reads.Asked,
-  begins-reads.Learnt,
-  integer-reads.Asked,
-  integer-reads.Learnt,
-  digit-reads.Asked,
-  digit-reads.Learnt,
-  string-reads.Asked,
-  string-reads.Learnt,
-  list-below t,
-  list.Post,
-  dictionary-below t,
-  dictionary.Post,
-) (value-at t) value.Post
-value-returns-6 t c = ?
+value-returns-6 : (t : ℕ) → value-lts.Need-returns-6 (value-calls t) (value-at t) value.Post
+value-returns-6 t c = c .list .ensures ∙ value-list (c .before .before .before .before .before .before .before .before .before .before .before .before .args .text .now) (c .before .before .before .before .before .before .before .before .before .before .before .before .args .c .at) (c .before .before .before .before .before .before .before .before .before .before .before .before .args .c .count) (omega arith) (c .before .before .before .before .before .before .before .before .before .before .before .before .args .levels) (c .before .before .if6 .left) (kind-L _ (c .before .if7 .taken)) (omega arith)
 
 -- src/lib.rt:84:41
-value-sub-dictionary : (t : ℕ) → value-lts.Need-sub-dictionary (
-  bad-reads.Asked,
-  bad-reads.Learnt,
-  begins-reads.Asked,
-  begins-reads.Learnt,
-  integer-reads.Asked,
-  integer-reads.Learnt,
-  digit-reads.Asked,
-  digit-reads.Learnt,
-  string-reads.Asked,
-  string-reads.Learnt,
-  list-below t,
-  list.Post,
-  dictionary-below t,
-  dictionary.Post,
-) (value-at t) value.Post
-value-sub-dictionary t c = ?
+value-sub-dictionary : (t : ℕ) → value-lts.Need-sub-dictionary (value-calls t) (value-at t) value.Post
+value-sub-dictionary t c = search needs
 
 -- src/lib.rt:84:9
-value-dictionary-requires : (t : ℕ) → value-lts.Need-dictionary-requires (
-  bad-reads.Asked,
-  bad-reads.Learnt,
-  begins-reads.Asked,
-  begins-reads.Learnt,
-  integer-reads.Asked,
-  integer-reads.Learnt,
-  digit-reads.Asked,
-  digit-reads.Learnt,
-  string-reads.Asked,
-  string-reads.Learnt,
-  list-below t,
-  list.Post,
-  dictionary-below t,
-  dictionary.Post,
-) (value-at t) value.Post
-value-dictionary-requires t c κs = ?
+value-dictionary-requires : (t : ℕ) → value-lts.Need-dictionary-requires (value-calls t) (value-at t) value.Post
+value-dictionary-requires t c κs = (omega arith, tt)
 
 -- src/lib.rt:84:9
-value-returns-7 : (t : ℕ) → value-lts.Need-returns-7 (
-  bad-reads.Asked,
-  bad-reads.Learnt,
-  begins-reads.Asked,
-  begins-reads.Learnt,
-  integer-reads.Asked,
-  integer-reads.Learnt,
-  digit-reads.Asked,
-  digit-reads.Learnt,
-  string-reads.Asked,
-  string-reads.Learnt,
-  list-below t,
-  list.Post,
-  dictionary-below t,
-  dictionary.Post,
-) (value-at t) value.Post
-value-returns-7 t c = ?
+value-returns-7 : (t : ℕ) → value-lts.Need-returns-7 (value-calls t) (value-at t) value.Post
+value-returns-7 t c = c .dictionary .ensures ∙ value-dict (c .before .before .before .before .before .before .before .before .before .before .before .before .args .text .now) (c .before .before .before .before .before .before .before .before .before .before .before .before .args .c .at) (c .before .before .before .before .before .before .before .before .before .before .before .before .args .c .count) (omega arith) (c .before .before .before .before .before .before .before .before .before .before .before .before .args .levels) (c .before .before .if6 .left) (kind-open _ (cc) (c .before .before .before .before .before .if4 .left) (cc) (c .before .if7 .left)) (omega arith)
 
 -- src/lib.rt:86:5
-value-bad-requires-4 : (t : ℕ) → value-lts.Need-bad-requires-4 (
-  bad-reads.Asked,
-  bad-reads.Learnt,
-  begins-reads.Asked,
-  begins-reads.Learnt,
-  integer-reads.Asked,
-  integer-reads.Learnt,
-  digit-reads.Asked,
-  digit-reads.Learnt,
-  string-reads.Asked,
-  string-reads.Learnt,
-  list-below t,
-  list.Post,
-  dictionary-below t,
-  dictionary.Post,
-) (value-at t) value.Post
-value-bad-requires-4 t c κs = ?
+value-bad-requires-4 : (t : ℕ) → value-lts.Need-bad-requires-4 (value-calls t) (value-at t) value.Post
+value-bad-requires-4 t c κs = search needs
 
 -- src/lib.rt:55:1
-value-returns-8 : (t : ℕ) → value-lts.Need-returns-8 (
-  bad-reads.Asked,
-  bad-reads.Learnt,
-  begins-reads.Asked,
-  begins-reads.Learnt,
-  integer-reads.Asked,
-  integer-reads.Learnt,
-  digit-reads.Asked,
-  digit-reads.Learnt,
-  string-reads.Asked,
-  string-reads.Learnt,
-  list-below t,
-  list.Post,
-  dictionary-below t,
-  dictionary.Post,
-) (value-at t) value.Post
-value-returns-8 t c = ?
+value-returns-8 : (t : ℕ) → value-lts.Need-returns-8 (value-calls t) (value-at t) value.Post
+value-returns-8 t c = c .bad4 .ensures ∙ ap stepOf (sym (value-wrong (c .before .before .before .before .before .before .args .text .now) (c .before .before .before .before .before .before .args .c .at) (c .before .before .before .before .before .before .args .c .count) (omega arith) (c .before .before .before .before .before .before .args .levels) (cc)))
 
 pub +dictionary+list+value-spec : {M : Type 1} → statement M
-+dictionary+list+value-spec = close μ-dictionary μ-list μ-value (λ t. dictionary-lts.spec (
-  passed-reads.Asked,
-  passed-reads.Learnt,
-  next-key-reads.Asked,
-  next-key-reads.Learnt,
-  value-below t,
-  value.Post,
-  bad-reads.Asked,
-  bad-reads.Learnt,
-)
++dictionary+list+value-spec = close μ-dictionary μ-list μ-value (λ t. dictionary-lts.spec (dictionary-calls t)
     (dictionary-at t)
     dictionary.Post
     dictionary-Inv-loop
