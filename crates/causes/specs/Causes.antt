@@ -1,13 +1,13 @@
--- When a text is refused by 1 to 8, and where: the causes in document 01's words, over what is written before the fault. Assumes nothing: these are definitions.
+-- When a text is refused by 1 to 7, and where: the causes in document 01's words, over what is written before the fault; 8 is its length alone. Assumes nothing: these are definitions.
 -- Throughout, l is what is left of the text, p its place, n how many values have begun before it, and d how many more levels of lists and dictionaries may open.
 use mathlib.Core.Path.{_≡_}
 use mathlib.Core.Logic.{_⊎_}
-use mathlib.Core.Bool.{Bool, true, false, cond}
+use mathlib.Core.Bool.{Bool, true, false}
 use mathlib.Core.List.{List, [], _∷_, _++_}
 use Prim.Native.Nat.{ℕ, zero, suc, _+_, _<_, _≤_}
 use lib.IntN.{ℤ, pos, negsuc}
 use lib.ListN.{length}
-use Rattle.refusal.specs.Limits.{mostText, mostValues, mostLevels}
+use Rattle.refusal.specs.Limits.{mostValues, mostLevels}
 use Rattle.scalar.specs.Written.{decimal, written, signed, writtenInt, inRange}
 use Rattle.scalar.specs.Reading.{isDigit}
 use Rattle.bencode.specs.Value.{Value, encode, count, Keeps, Prev, start, last, follows}
@@ -40,11 +40,12 @@ Begins item l = ⊥
 Begins (key before) [] = ⊥
 Begins (key before) (b ∷ t) = isDigit b ≡ true
 
--- no digit may follow 0, and any other number
+-- whether b goes on with the digits of m: after 0 none may
 abbrev pub more : ℕ → ℕ → Bool
 more zero b = false
 more (suc m) b = isDigit b
 
+-- an integer without its sign
 abbrev pub size : ℤ → ℕ
 size (pos m) = m
 size (negsuc m) = suc m
@@ -87,15 +88,15 @@ pub data Cut (s : List ℕ) : ℕ → Type 0 where
 pub data Byte (s : List ℕ) : ℕ → Type 0 where
   no-value : {b : ℕ} {t : List ℕ} {p n d : ℕ} → Comes s value (b ∷ t) p n d → kindOf b ≡ other → Byte s p
   no-key : {before : Prev} {b : ℕ} {t : List ℕ} {p n d : ℕ} → Comes s (key before) (b ∷ t) p n d → isDigit b ≡ false → (b ≡ 101 → ⊥) → Byte s p
-  within : {due : Due} {w t : List ℕ} {b p n d : ℕ} → Comes s due (w ++ b ∷ t) p n d → n < mostValues → Stops due w b → Byte s (p + length w)
+  within : {due : Due} {p n d : ℕ} (w : List ℕ) (b : ℕ) (t : List ℕ) → Comes s due (w ++ b ∷ t) p n d → n < mostValues → Stops due w b → Byte s (p + length w)
 
 -- 3: a key not greater than the one before; offset of its first digit
 pub data Order (s : List ℕ) : ℕ → Type 0 where
-  not-greater : {before : Prev} {l : List ℕ} {p n d : ℕ} (k : List ℕ) → Comes s (key before) (written k ++ l) p n d → n < mostValues → follows before k ≡ false → Order s p
+  not-greater : {before : Prev} {p n d : ℕ} (k l : List ℕ) → Comes s (key before) (written k ++ l) p n d → n < mostValues → follows before k ≡ false → Order s p
 
 -- 4: integer outside -2^63 .. 2^63-1; offset of its i
 pub data Integer (s : List ℕ) : ℕ → Type 0 where
-  outside : {l : List ℕ} {p n d : ℕ} (z : ℤ) → Comes s value (writtenInt z ++ l) p n d → n < mostValues → inRange z ≡ false → Integer s p
+  outside : {p n d : ℕ} (z : ℤ) (l : List ℕ) → Comes s value (writtenInt z ++ l) p n d → n < mostValues → inRange z ≡ false → Integer s p
 
 -- 5: list or dictionary at level 33; its offset
 pub data Deep (s : List ℕ) : ℕ → Type 0 where

@@ -1,0 +1,1 @@
+-- On a text where a value stands, the walk tells that value part by part. Assumes nothing.

@@ -1,0 +1,101 @@
+-- What stands at a place of any text, by its first bytes there. Assumes nothing: these are definitions.
+use mathlib.Core.Bool.{Bool, true, false, cond}
+use mathlib.Core.List.{List, [], _∷_}
+use Prim.Native.Nat.{ℕ, _+_, _-_}
+use lib.Dec.{eqb}
+use lib.IntN.{ℤ}
+use lib.ListN.{length, drop}
+use Rattle.refusal.specs.Paper.{Outcome, taken, refused, refusal, then}
+use Rattle.refusal.specs.Numbers.{cut, byte}
+use Rattle.refusal.specs.Limits.{mostLevels}
+use Rattle.scalar.specs.Written.{inRange}
+use Rattle.scalar.specs.Reading.{Got, got, bad, onHead, stringAt, integerAt}
+use Rattle.bencode.specs.Value.{Value}
+use Rattle.bencode.specs.Decode.{valueOf}
+use Rattle.walk.specs.declared.Part.{Part}
+use Rattle.walk.specs.declared.Seen.{Seen}
+use Rattle.walk.specs.declared.Seen.the-variants.{String, Integer, Long, List as ListSeen, Dictionary, End, Refused}
+use Rattle.walk.specs.declared.Next.{Next}
+use Rattle.walk.specs.declared.Next.the-variants.{Key, Close, Not}
+use Rattle.walk.specs.declared.Past.{Past}
+use Rattle.walk.specs.declared.Past.the-variants.{To, Bad}
+
+-- what can stand at a place; the last number is the place past it, or of the first thing in a list or dictionary
+pub data Head : Type 0 where
+  string : ℕ → ℕ → ℕ → Head
+  integer : ℤ → ℕ → Head
+  long : ℕ → ℕ → ℕ → Head
+  list : ℕ → Head
+  dictionary : ℕ → Head
+  end : ℕ → Head
+
+-- what the answers of `look` say: of a string, and of an integer outside 64 bits, where its bytes begin and how many they are
+abbrev pub paper : Seen → Outcome Head
+paper (String p q) = taken (string (p .from) (p .len) q)
+paper (Integer z q) = taken (integer z q)
+paper (Long p q) = taken (long (p .from) (p .len) q)
+paper (ListSeen q) = taken (list q)
+paper (Dictionary q) = taken (dictionary q)
+paper (End q) = taken (end q)
+paper (Refused r) = refusal r
+
+-- a string that was read: its bytes end where it does
+abbrev pub stringHead : Got (List ℕ) → Outcome Head
+stringHead (got k l q n) = taken (string (q - length k) (length k) q)
+stringHead (bad r p) = refused r p
+
+-- an integer whose i stands at p: sign and digits stand between the i and the e
+abbrev pub integerHead : ℕ → Got ℤ → Outcome Head
+integerHead p (got z l q n) = taken (cond (inRange z) (integer z q) (long (p + 1) (q - (p + 2)) q))
+integerHead p (bad r o) = refused r o
+
+abbrev pub stringSeen : List ℕ → ℕ → Outcome Head
+stringSeen s p = stringHead (stringAt (length s) (drop p s) p 0)
+
+abbrev pub integerSeen : List ℕ → ℕ → Outcome Head
+integerSeen s p = integerHead p (integerAt (length s) (drop p s) p 0)
+
+-- what stands at p: i an integer, l a list, d a dictionary, e an end, and else it must be a string
+abbrev pub lookAt : List ℕ → ℕ → ℕ → Outcome Head
+lookAt s p b =
+    cond (eqb b 105) (integerSeen s p)
+    (cond (eqb b 108) (taken (list (p + 1)))
+    (cond (eqb b 100) (taken (dictionary (p + 1)))
+    (cond (eqb b 101) (taken (end (p + 1)))
+    (stringSeen s p))))
+
+unfoldable pub lookOf : List ℕ → ℕ → Outcome Head
+lookOf s p = onHead (drop p s) (refused cut (length s)) (λ b t. lookAt s p b)
+
+-- what stands where an entry is due: a key's bytes and the place of its value, or the end and the place past it
+pub data Due : Type 0 where
+  key : ℕ → ℕ → ℕ → Due
+  close : ℕ → Due
+
+abbrev pub entryPaper : Next → Outcome Due
+entryPaper (Key p q) = taken (key (p .from) (p .len) q)
+entryPaper (Close q) = taken (close q)
+entryPaper (Not r) = refusal r
+
+abbrev pub dueOf : ℕ → Head → Outcome Due
+dueOf at (string p n q) = taken (key p n q)
+dueOf at (integer z q) = refused byte at
+dueOf at (long p n q) = refused byte at
+dueOf at (list q) = refused byte at
+dueOf at (dictionary q) = refused byte at
+dueOf at (end q) = taken (close q)
+
+abbrev pub entryOf : List ℕ → ℕ → Outcome Due
+entryOf s p = then (lookOf s p) (dueOf p)
+
+-- the place past the value that stands at p
+abbrev pub pastPaper : Past → Outcome ℕ
+pastPaper (To q) = taken q
+pastPaper (Bad r) = refusal r
+
+abbrev pub pastOf : Got Value → Outcome ℕ
+pastOf (got v l q n) = taken q
+pastOf (bad r p) = refused r p
+
+abbrev pub skipOf : List ℕ → ℕ → Outcome ℕ
+skipOf s p = pastOf (valueOf mostLevels (length s) (drop p s) p 0)

@@ -1,0 +1,154 @@
+// A walk over a bencode text: what stands at a place, and where the next thing stands. Every call answers for any text
+// and any place; on a text that `bencode::check` has taken, what it tells is the text's value, part by part.
+ghost use mathlib.Core.Path.{_≡_};
+ghost use Prim.Native.Nat.{ℕ, _+_, _-_, _≤_, min};
+ghost use lib.ListN.{length, take, drop};
+ghost use Rattle.walk.specs.Walk.{paper, stringSeen, integerSeen, lookOf, entryPaper, entryOf, pastPaper, skipOf};
+
+use bencode::Cursor;
+use bencode::Step;
+use refusal::limit;
+use refusal::number;
+use refusal::Refusal;
+use scalar::Int;
+use scalar::Text;
+
+// A part of the text: the place of its first byte, and how many they are.
+pub struct Part {
+    pub from: usize,
+    pub len: usize,
+}
+
+// What stands at a place. The last number is the place past it; of a list or dictionary it is the place of the first
+// item or key, or of the e.
+pub enum Seen {
+    String(Part, usize),
+    Integer(i64, usize),
+    // An integer outside 64 bits, by its sign and digits.
+    Long(Part, usize),
+    List(usize),
+    Dictionary(usize),
+    End(usize),
+    Refused(Refusal),
+}
+
+// What stands where a dictionary's next entry may begin: a key's bytes and the place of its value, or the e and the place past it.
+pub enum Next {
+    Key(Part, usize),
+    Close(usize),
+    Not(Refusal),
+}
+
+// The place past a value.
+pub enum Past {
+    To(usize),
+    Bad(Refusal),
+}
+
+// What stands at a place.
+pub fn look(text: &[u8], at: usize) -> Seen
+    ensures { λ r. ⌜ paper r ≡ lookOf (now (text .entry)) at ⌝ }
+{
+    if text.len() <= at {
+        return refused(number::CUT, text.len());
+    }
+    let b = text[at];
+    if b == b'i' {
+        return integer(text, at);
+    }
+    if b == b'l' {
+        return Seen::List(at + 1);
+    }
+    if b == b'd' {
+        return Seen::Dictionary(at + 1);
+    }
+    if b == b'e' {
+        return Seen::End(at + 1);
+    }
+    string(text, at)
+}
+
+// What stands where an entry of a dictionary, or its e, is due.
+pub fn entry(text: &[u8], at: usize) -> Next
+    ensures { λ r. ⌜ entryPaper r ≡ entryOf (now (text .entry)) at ⌝ }
+{
+    match look(text, at) {
+        Seen::String(key, value) => Next::Key(key, value),
+        Seen::End(past) => Next::Close(past),
+        Seen::Refused(r) => Next::Not(r),
+        Seen::Integer(_, _) => no_key(at),
+        Seen::Long(_, _) => no_key(at),
+        Seen::List(_) => no_key(at),
+        Seen::Dictionary(_) => no_key(at),
+    }
+}
+
+// The place past the value at a place, whatever it holds.
+pub fn skip(text: &[u8], at: usize) -> Past
+    ensures { λ r. ⌜ pastPaper r ≡ skipOf (now (text .entry)) at ⌝ }
+{
+    match bencode::value(text, Cursor { at, count: 0 }, limit::LEVELS) {
+        Step::Past(c) => Past::To(c.at),
+        Step::Bad(r) => Past::Bad(r),
+    }
+}
+
+// The very part of the text, as far as the text goes.
+pub fn bytes(text: &[u8], p: Part) -> &[u8]
+    ensures same { λ r. ⌜ now r ≡ take (p .len) (drop (p .from) (now (text .entry))) ⌝ }
+    ensures there { λ r. ⌜ (r .ptr .0 ≡ text .entry .ptr .0) × (r .ptr .1 ≡ text .entry .ptr .1 + min (p .from) (length (now (text .entry)))) ⌝ }
+{
+    let from = least(p.from, text.len());
+    let len = least(p.len, text.len() - from);
+    let end = from + len;
+    &text[from..end]
+}
+
+fn string(text: &[u8], at: usize) -> Seen
+    requires { ⌜ at ≤ length (now text) ⌝ }
+    ensures { λ r. ⌜ paper r ≡ stringSeen (now (text .entry)) at ⌝ }
+{
+    match scalar::string(text, at) {
+        Text::Whole(from, len) => Seen::String(Part { from, len }, from + len),
+        Text::Broken(r) => Seen::Refused(r),
+    }
+}
+
+fn integer(text: &[u8], at: usize) -> Seen
+    ensures { λ r. ⌜ paper r ≡ integerSeen (now (text .entry)) at ⌝ }
+{
+    match scalar::integer(text, at) {
+        Int::Is(z, next) => Seen::Integer(z, next),
+        Int::Large(next) => long(at, next),
+        Int::Unread(r) => Seen::Refused(r),
+    }
+}
+
+// Sign and digits stand between the i and the e.
+fn long(at: usize, next: usize) -> Seen
+    requires { ⌜ at + 2 ≤ next ⌝ }
+    ensures { λ r. ⌜ r ≡ Seen.Long (record { from = at + 1; len = next - (at + 2) }) next ⌝ }
+{
+    Seen::Long(Part { from: at + 1, len: next - (at + 2) }, next)
+}
+
+fn refused(number: u8, place: usize) -> Seen
+    ensures { λ r. ⌜ r ≡ Seen.Refused (record { number = number; place = place }) ⌝ }
+{
+    Seen::Refused(Refusal { number, place })
+}
+
+fn no_key(at: usize) -> Next
+    ensures { λ r. ⌜ r ≡ Next.Not (record { number = 2; place = at }) ⌝ }
+{
+    Next::Not(Refusal {
+        number: number::BYTE,
+        place: at,
+    })
+}
+
+fn least(a: usize, b: usize) -> usize
+    ensures { λ r. ⌜ r ≡ min a b ⌝ }
+{
+    if a < b { a } else { b }
+}
