@@ -1,6 +1,6 @@
-// First bytes, lists, dictionaries, and what follows a value.
+// First bytes, lists, dictionaries, and bytes after a value.
+use crate::report::each;
 use crate::report::plain;
-use crate::report::show;
 
 pub fn all() {
     firsts();
@@ -10,54 +10,20 @@ pub fn all() {
 }
 
 fn firsts() {
-    plain(b"e");
-    plain(b"x");
-    plain(b"I1e");
-    show(b"a space", b" ");
-    show(b"byte 0", b"\x00");
-    show(b"byte 255", b"\xff");
-    show(b"the byte before the digits", b"/:");
-    show(b"the byte after the digits", b"::");
+    each(b"e x I1e / ; \x00 \xff");
+    plain(b" ");
 }
 
 fn lists() {
-    plain(b"l");
-    plain(b"le");
-    plain(b"l0:");
-    plain(b"l0:e");
-    plain(b"li1e");
-    plain(b"li1e1:ae");
-    plain(b"lx");
-    plain(b"lle");
-    plain(b"llelee");
-    plain(b"ldee");
+    each(b"l le l0: l0:e li1e li1e1:ae lx lle llelee ldee");
 }
 
 fn dictionaries() {
-    plain(b"d");
-    plain(b"de");
-    plain(b"d0:");
-    plain(b"d0:e");
-    plain(b"d0:0:");
-    plain(b"d0:0:e");
-    plain(b"d1:a");
-    plain(b"d1:ae");
-    plain(b"d1:a1:b");
-    plain(b"d1:a1:be");
-    plain(b"di1e0:e");
-    plain(b"dle0:e");
-    plain(b"dde0:e");
-    plain(b"d01:a0:e");
-    plain(b"d1:a0:x");
+    each(b"d de d0: d0:e d0:0: d0:0:e d1:a d1:ae d1:a1:b d1:a1:be");
+    each(b"di1e0:e dle0:e dde0:e d-1:a0:e d01:a0:e d1x0:e d1:a0:x d1:a0:i1e0:e");
 }
 
 fn afters() {
-    show(b"an integer and a space", b"i1e ");
-    show(b"an integer and a line feed", b"i1e\n");
-    show(b"an integer and byte 0", b"i1e\x00");
-    plain(b"i1ei2e");
-    plain(b"0:0:");
-    plain(b"1:ab");
-    plain(b"dee");
-    plain(b"led");
+    each(b"i1ei2e i1e\n i1e\x00 0:0: 1:ab leli1ee dee led");
+    plain(b"i1e ");
 }

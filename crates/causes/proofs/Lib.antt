@@ -1,6 +1,5 @@
 -- What the laws of the refusals rest on, and the laws.
 pub mod Fails
-pub mod Digits
 pub mod Scalars
 pub mod Only
 pub mod Every

@@ -13,10 +13,10 @@ use Rattle.scalar.specs.Written.{decimal, signed}
 use Rattle.scalar.specs.Reading.{Got, bad, isDigit, numVal, numLen, colonOf, stringOf, signedAs, endOf, closedOf, minusAt, integerOf}
 use Rattle.scalar.proofs.Decimal.{digit-range, range-digit}
 use Rattle.scalar.proofs.Printed.{num-pos}
-use Rattle.scalar.proofs.Sound.{by-cond, At, at-then, at-byte, at-left, never}
+use Rattle.scalar.proofs.Sound.{at-number, shown, by-cond, At, at-then, at-byte, at-left, never}
 use Rattle.causes.specs.Causes.{size, StringEnds, IntegerEnds, StringStops, IntegerStops}
 use Rattle.causes.proofs.Fails.{Fails}
-use Rattle.causes.proofs.Digits.{Over, more-other, over-number, at-number, digits}
+use Rattle.scalar.proofs.Numbers.{Over, more-other, over-number, digits}
 
 -- why a string is refused
 module _ (Q : ℕ → ℕ → Type 0) (e p b : ℕ) (t : List ℕ) (ends : StringEnds (b ∷ t) → Q cut e) (stops : (w : List ℕ) (c : ℕ) (u : List ℕ) → b ∷ t ≡ w ++ c ∷ u → StringStops w c → Q byte (p + length w)) where
@@ -35,10 +35,6 @@ module _ (Q : ℕ → ℕ → Type 0) (e p b : ℕ) (t : List ℕ) (ends : Strin
       colon-fails (p + 1 + numLen b t) (numVal b t) (drop (numLen b t) t) n a (at-left a h) (over-number b t)
 
 -- the number with its sign
-shown : (neg : Bool) (m : ℕ) → (neg ≡ true → 1 ≤ m) → cond neg (105 ∷ 45 ∷ []) (105 ∷ []) ++ decimal m ≡ 105 ∷ signed (signedAs neg m)
-shown true m h = let e : suc (pred m) ≡ m = omega (arith, h refl) in rw e
-shown false m h = refl
-
 sized : (neg : Bool) (m : ℕ) → (neg ≡ true → 1 ≤ m) → m ≡ size (signedAs neg m)
 sized true m h = omega (arith, h refl)
 sized false m h = refl

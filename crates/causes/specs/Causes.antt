@@ -9,7 +9,7 @@ use lib.IntN.{ℤ, pos, negsuc}
 use lib.ListN.{length}
 use Rattle.refusal.specs.Limits.{mostValues, mostLevels}
 use Rattle.scalar.specs.Written.{decimal, written, signed, writtenInt, inRange}
-use Rattle.scalar.specs.Reading.{isDigit}
+use Rattle.scalar.specs.Reading.{isDigit, more}
 use Rattle.bencode.specs.Value.{Value, encode, count, Keeps, Prev, start, last, follows}
 use Rattle.bencode.specs.Decode.{kindOf, other, begun, closes}
 
@@ -39,11 +39,6 @@ Begins value (b ∷ t) = begun (kindOf b) ≡ true
 Begins item l = ⊥
 Begins (key before) [] = ⊥
 Begins (key before) (b ∷ t) = isDigit b ≡ true
-
--- whether b goes on with the digits of m: after 0 none may
-abbrev pub more : ℕ → ℕ → Bool
-more zero b = false
-more (suc m) b = isDigit b
 
 -- an integer without its sign
 abbrev pub size : ℤ → ℕ

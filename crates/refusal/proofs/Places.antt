@@ -8,7 +8,7 @@ use native.Mathlib.Numerals.{add-one}
 use native.Mathlib.Omega.{arith}
 use borrow.Author.Tests.{leb-true, leb-false, le-leb, lt-leb}
 use lib.Dec.{leb, lit<}
-use lib.ListN.{length, getD, take, drop, length-take, length-drop}
+use lib.ListN.{length, getD, take, drop, set, length-take, length-drop}
 use lib.Seq.{sets, sets-eq, length-sets, length-take-le, take-add, take-at, drop-at, drop-drop, drop-cons, getD-drop}
 use Rattle.refusal.specs.BigEndian.{Bytes, bigEndian, bytesOf, fits, numberAt, written}
 use Rattle.refusal.specs.declared.big_endian.Number.{Number}
@@ -92,17 +92,15 @@ is-cut w at s = go (fits w s at) refl
 
 -- ---- writing
 
-sets-append : (a b l : List ℕ) (i : ℕ) → sets l i (a ++ b) ≡ sets (sets l i a) (i + length a) b
-sets-append [] b l i = rw add-zero
-sets-append (v ∷ a) b l i =
-    let e : i + suc (length a) ≡ suc i + length a = omega arith in
-    rw e (sets-append a b _ (suc i))
+pub sets-append : (l : List ℕ) (i : ℕ) (v w : List ℕ) → sets l i (v ++ w) ≡ sets (sets l i v) (i + length v) w
+sets-append l i [] w = rw add-zero
+sets-append l i (a ∷ v) w = let e : i + suc (length v) ≡ suc i + length v = omega arith in rw e (sets-append (set l i a) (suc i) v w)
 
 -- the bytes of twice the width are written half by half
 pub halves-written : (w at x : ℕ) (out : List ℕ) {mid end : List ℕ} → mid ≡ sets out at (bytesOf w (x / 256 ^ w)) → end ≡ sets mid (at + w) (bytesOf w x)
     → end ≡ sets out at (bytesOf (w + w) x)
 halves-written w at x out p q =
-    rw (q, p, bytesOf-append w w x, sets-append (bytesOf w (x / 256 ^ w)) (bytesOf w x) out at, length-bytesOf w (x / 256 ^ w))
+    rw (q, p, bytesOf-append w w x, sets-append out at (bytesOf w (x / 256 ^ w)) (bytesOf w x), length-bytesOf w (x / 256 ^ w))
 
 -- after a test of the room
 pub write-done : (w at x : ℕ) (out : List ℕ) {t : Bool} {left : List ℕ} → t ≡ fits w out at → t ≡ true → left ≡ sets out at (bytesOf w x)

@@ -12,58 +12,11 @@ use borrow.Author.Tests.{le-leb, ltb-true, ltb-false, ne-eqb}
 use Rattle.scalar.specs.Written.{decimal, written, signed, writtenInt}
 use Rattle.scalar.specs.Reading.{Got, got, bad, isDigit, digitsVal, digitsLen, numVal, numLen, stringOf, closedOf, integerOf}
 use Rattle.scalar.proofs.Decimal.{digit-range, range-digit}
-use Rattle.scalar.proofs.Printed.{shape, decimal-zero}
-
-val-stop : (m b : ℕ) (t : List ℕ) → isDigit b ≡ false → digitsVal m (b ∷ t) ≡ m
-unfolding digitsVal
-val-stop m b t h = rw h
-
-len-stop : (b : ℕ) (t : List ℕ) → isDigit b ≡ false → digitsLen (b ∷ t) ≡ 0
-unfolding digitsLen
-len-stop b t h = rw h
+use Rattle.scalar.proofs.Numbers.{Digits, digits, more-other}
 
 -- a number, before a byte x that is no digit
-pub record Numeral (m x : ℕ) (r : List ℕ) : Type 0 where
-  pub first : ℕ
-  pub rest : List ℕ
-  pub text : decimal m ++ x ∷ r ≡ first ∷ rest
-  pub starts : isDigit first ≡ true
-  pub value : numVal first rest ≡ m
-  pub left : drop (numLen first rest) rest ≡ x ∷ r
-  pub size : suc (numLen first rest) ≡ length (decimal m)
-  pub not-zero : 1 ≤ m → first ≡ 48 → ⊥
-
-numeral-by : (m x : ℕ) (r : List ℕ) → isDigit x ≡ false → (t : Bool) → ltb 0 m ≡ t → Numeral m x r
-numeral-by m x r d true e =
-    let k : 1 ≤ m = ltb-true 0 m e in
-    let h = shape m k in
-    let n : (h .first ≡ 48) → ⊥ = omega (arith, h .low) in
-    let z : digitsLen (h .others ++ x ∷ r) ≡ length (h .others) = omega (arith, h .len (x ∷ r), len-stop x r d) in
-    record {
-      first = h .first;
-      rest = h .others ++ x ∷ r;
-      text = ap (λ (l : List ℕ). l ++ x ∷ r) (h .text);
-      starts = range-digit (h .first) (omega (arith, h .low)) (h .high);
-      value = rw (ne-eqb _ _ n) (h .val (x ∷ r) ∙ val-stop m x r d);
-      left = rw (ne-eqb _ _ n, z) (drop-append-seam (h .others) (x ∷ r));
-      size = rw (ne-eqb _ _ n, z, h .text);
-      not-zero = λ y. n;
-    }
-numeral-by m x r d false e =
-    let k : m ≡ 0 = omega (arith, ltb-false 0 m e) in
-    record {
-      first = 48;
-      rest = x ∷ r;
-      text = ap (λ (l : List ℕ). l ++ x ∷ r) (ap decimal k ∙ decimal-zero);
-      starts = refl;
-      value = sym k;
-      left = refl;
-      size = rw (k, decimal-zero);
-      not-zero = λ y. absurd (omega arith);
-    }
-
-pub numeral : (m x : ℕ) (r : List ℕ) → isDigit x ≡ false → Numeral m x r
-numeral m x r d = numeral-by m x r d (ltb 0 m) refl
+pub numeral : (m x : ℕ) (r : List ℕ) → isDigit x ≡ false → Digits m (x ∷ r)
+numeral m x r d = digits m (x ∷ r) (more-other m x d)
 
 -- a string at the head of a list
 pub record Key (e : ℕ) (k r : List ℕ) (p : ℕ) : Type 0 where

@@ -4,4 +4,5 @@ pub mod Keys
 pub mod Printed
 pub mod Forms
 pub mod Sound
+pub mod Numbers
 pub mod Complete

@@ -15,7 +15,7 @@ use Rattle.scalar.specs.Written.{decimalIn, decimal}
 use Rattle.scalar.specs.Reading.{isDigit, digitsVal, digitsLen, numVal, numLen}
 use Rattle.scalar.proofs.Decimal.{digit-range, range-digit}
 
-dec-small : (f n : ℕ) → n < 10 → decimalIn (suc f) n ≡ (48 + n) ∷ []
+pub dec-small : (f n : ℕ) → n < 10 → decimalIn (suc f) n ≡ (48 + n) ∷ []
 unfolding decimalIn
 dec-small f n h = rw (lt-ltb n 10 h)
 

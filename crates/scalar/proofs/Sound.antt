@@ -53,7 +53,7 @@ pub at-left : {l r w : List ℕ} {p q e : ℕ} → At l p r q w → p + length l
 at-left {l} {r} {w} {p} {q} {e} x h = omega (arith, x .place, ap length (x .text), length-append w r)
 
 -- a number
-at-number : (b : ℕ) (t : List ℕ) (p : ℕ) → isDigit b ≡ true → At (b ∷ t) p (drop (numLen b t) t) (p + 1 + numLen b t) (decimal (numVal b t))
+pub at-number : (b : ℕ) (t : List ℕ) (p : ℕ) → isDigit b ≡ true → At (b ∷ t) p (drop (numLen b t) t) (p + 1 + numLen b t) (decimal (numVal b t))
 at-number b t p d =
     let n = number-sound b t d in
     record { text = n .text; place = omega (arith, n .fits, ap length (n .text), length-append (decimal (numVal b t)) (drop (numLen b t) t), length-drop (numLen b t) t) }
@@ -90,7 +90,7 @@ string-sound e b t p n d h =
 abbrev pub IntP : List ℕ → ℕ → ℕ → ℤ → List ℕ → ℕ → ℕ → Type 0
 IntP l p n z r q m = At l p r q (writtenInt z) × (m ≡ n)
 
-shown : (neg : Bool) (m : ℕ) → (neg ≡ true → 1 ≤ m) → cond neg (105 ∷ 45 ∷ []) (105 ∷ []) ++ decimal m ≡ 105 ∷ signed (signedAs neg m)
+pub shown : (neg : Bool) (m : ℕ) → (neg ≡ true → 1 ≤ m) → cond neg (105 ∷ 45 ∷ []) (105 ∷ []) ++ decimal m ≡ 105 ∷ signed (signedAs neg m)
 shown true m h = let e : suc (pred m) ≡ m = omega (arith, h refl) in rw e
 shown false m h = refl
 

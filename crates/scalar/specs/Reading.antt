@@ -30,6 +30,11 @@ onHead (b ∷ t) x f = f b t
 abbrev pub isDigit : ℕ → Bool
 isDigit b = cond (ltb b 48) false (ltb b 58)
 
+-- whether b goes on with the digits of m: after 0 none may
+abbrev pub more : ℕ → ℕ → Bool
+more zero b = false
+more (suc m) b = isDigit b
+
 -- the digits that a list begins with, as a number whose digits so far are acc, and how many they are
 unfoldable pub digitsVal : ℕ → List ℕ → ℕ
 digitsVal acc [] = acc

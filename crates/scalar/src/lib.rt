@@ -132,12 +132,12 @@ fn negative(text: &[u8], at: usize) -> Int
     if text.len() <= at {
         return unread(number::CUT, text.len());
     }
-    let b = text[at];
-    if b == b'0' {
+    let first = text[at];
+    if first == b'0' {
         return unread(number::BYTE, at);
     }
-    if digit(b) {
-        return closed(text, true, b, at + 1);
+    if digit(first) {
+        return closed(text, true, first, at + 1);
     }
     unread(number::BYTE, at)
 }

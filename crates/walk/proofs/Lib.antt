@@ -1,3 +1,4 @@
 -- What the proofs of several functions and crates use.
 pub mod Seeing
 pub mod Standing
+pub mod Determined

@@ -4,12 +4,11 @@ ghost use mathlib.Core.Path.{_≡_};
 ghost use Prim.Native.Nat.{ℕ, _+_, _-_, _≤_, min};
 ghost use lib.ListN.{length, take, drop};
 ghost use Rattle.walk.specs.Walk.{paper, stringSeen, integerSeen, lookOf, entryPaper, entryOf, pastPaper, skipOf};
-
 use bencode::Cursor;
 use bencode::Step;
+use refusal::Refusal;
 use refusal::limit;
 use refusal::number;
-use refusal::Refusal;
 use scalar::Int;
 use scalar::Text;
 
@@ -129,7 +128,13 @@ fn long(at: usize, next: usize) -> Seen
     requires { ⌜ at + 2 ≤ next ⌝ }
     ensures { λ r. ⌜ r ≡ Seen.Long (record { from = at + 1; len = next - (at + 2) }) next ⌝ }
 {
-    Seen::Long(Part { from: at + 1, len: next - (at + 2) }, next)
+    Seen::Long(
+        Part {
+            from: at + 1,
+            len: next - (at + 2),
+        },
+        next,
+    )
 }
 
 fn refused(number: u8, place: usize) -> Seen

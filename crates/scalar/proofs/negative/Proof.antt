@@ -20,8 +20,8 @@ returns : tie.Need-returns
 returns c = λ n. c .unread .ensures ∙ sym (ap integerIs (minus-out (c .before .before .before .args .text .now) (c .before .before .before .args .at) n (omega arith)))
 
 -- src/lib.rt:129:13
-shared-slice-read-b : tie.Need-shared-slice-read-b
-shared-slice-read-b c = search needs
+shared-slice-read-first : tie.Need-shared-slice-read-first
+shared-slice-read-first c = search needs
 
 -- src/lib.rt:131:9
 unread-requires-2 : tie.Need-unread-requires-2
@@ -61,7 +61,7 @@ negative-spec =
     (tie.spec
     unread-requires
     returns
-    shared-slice-read-b
+    shared-slice-read-first
     unread-requires-2
     returns-2
     digit-requires

@@ -8,12 +8,11 @@ use lib.Dec.{ltb, eqb}
 use lib.ListN.{length, drop, length-append, length-drop}
 use lib.Seq.{drop-append-seam}
 use borrow.Author.Tests.{ltb-true, ltb-false, ne-eqb}
 use Rattle.scalar.specs.Written.{decimal}
-use Rattle.scalar.specs.Reading.{isDigit, digitsVal, digitsLen, numVal, numLen}
+use Rattle.scalar.specs.Reading.{isDigit, more, digitsVal, digitsLen, numVal, numLen}
 use Rattle.scalar.proofs.Decimal.{range-digit}
 use Rattle.scalar.proofs.Printed.{number-sound, shape, decimal-zero}
 use Rattle.scalar.proofs.Sound.{by-cond, At}
-use Rattle.causes.specs.Causes.{more}
 
 -- r does not go on with the digits of m
 abbrev pub Over : ℕ → List ℕ → Type 0
@@ -40,11 +39,6 @@ over-by b t false = over-run (digitsVal (b - 48) t) t
 -- a number that is read: its digits, and all of them
 pub over-number : (b : ℕ) (t : List ℕ) → Over (numVal b t) (drop (numLen b t) t)
 over-number b t = over-by b t (eqb b 48)
-
-pub at-number : (b : ℕ) (t : List ℕ) (p : ℕ) → isDigit b ≡ true → At (b ∷ t) p (drop (numLen b t) t) (p + 1 + numLen b t) (decimal (numVal b t))
-at-number b t p d =
-    let n = number-sound b t d in
-    record { text = n .text; place = omega (arith, n .fits, ap length (n .text), length-append (decimal (numVal b t)) (drop (numLen b t) t), length-drop (numLen b t) t) }
 
 val-over : (m : ℕ) (r : List ℕ) → 1 ≤ m → Over m r → digitsVal m r ≡ m
 unfolding digitsVal

@@ -1,0 +1,59 @@
+-- Two answers that a contract of the walk permits for one text and place are the same. Assumes nothing.
+use mathlib.Core.Path.{_≡_, refl, sym, ap, _∙_}
+use mathlib.Core.List.{List}
+use Prim.Native.Nat.{ℕ}
+use Rattle.refusal.specs.Paper.{Outcome, taken, refused}
+use Rattle.walk.specs.Walk.{Head, string, integer, long, list, dictionary, end, paper, lookOf, Due, key, close, entryPaper, entryOf, pastPaper, skipOf}
+use Rattle.walk.specs.declared.Seen.{Seen}
+use Rattle.walk.specs.declared.Seen.the-variants.{String, Integer, Long, List as ListSeen, Dictionary, End, Refused}
+use Rattle.walk.specs.declared.Next.{Next}
+use Rattle.walk.specs.declared.Next.the-variants.{Key, Close, Not}
+use Rattle.walk.specs.declared.Past.{Past}
+use Rattle.walk.specs.declared.Past.the-variants.{To, Bad}
+
+-- the answer that the paper's words say
+abbrev seenAs : Outcome Head → Seen
+seenAs (taken (string a m q)) = String (record { from = a; len = m }) q
+seenAs (taken (integer z q)) = Integer z q
+seenAs (taken (long a m q)) = Long (record { from = a; len = m }) q
+seenAs (taken (list q)) = ListSeen q
+seenAs (taken (dictionary q)) = Dictionary q
+seenAs (taken (end q)) = End q
+seenAs (refused n p) = Refused (record { number = n; place = p })
+
+seen-again : (r : Seen) → seenAs (paper r) ≡ r
+seen-again (String p q) = refl
+seen-again (Integer z q) = refl
+seen-again (Long p q) = refl
+seen-again (ListSeen q) = refl
+seen-again (Dictionary q) = refl
+seen-again (End q) = refl
+seen-again (Refused r) = refl
+
+abbrev nextAs : Outcome Due → Next
+nextAs (taken (key a m q)) = Key (record { from = a; len = m }) q
+nextAs (taken (close q)) = Close q
+nextAs (refused n p) = Not (record { number = n; place = p })
+
+next-again : (r : Next) → nextAs (entryPaper r) ≡ r
+next-again (Key p q) = refl
+next-again (Close q) = refl
+next-again (Not r) = refl
+
+abbrev pastAs : Outcome ℕ → Past
+pastAs (taken q) = To q
+pastAs (refused n p) = Bad (record { number = n; place = p })
+
+past-again : (r : Past) → pastAs (pastPaper r) ≡ r
+past-again (To q) = refl
+past-again (Bad r) = refl
+
+module _ (s : List ℕ) (p : ℕ) where
+  pub look-determined : (r t : Seen) → paper r ≡ lookOf s p → paper t ≡ lookOf s p → r ≡ t
+  look-determined r t e f = sym (seen-again r) ∙ ap seenAs (e ∙ sym f) ∙ seen-again t
+
+  pub entry-determined : (r t : Next) → entryPaper r ≡ entryOf s p → entryPaper t ≡ entryOf s p → r ≡ t
+  entry-determined r t e f = sym (next-again r) ∙ ap nextAs (e ∙ sym f) ∙ next-again t
+
+  pub skip-determined : (r t : Past) → pastPaper r ≡ skipOf s p → pastPaper t ≡ skipOf s p → r ≡ t
+  skip-determined r t e f = sym (past-again r) ∙ ap pastAs (e ∙ sym f) ∙ past-again t
