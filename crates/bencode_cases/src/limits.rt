@@ -7,7 +7,8 @@ pub fn all(space: &mut [u8]) {
     sizes(space);
     rubbish(space);
     levels(space);
-    mixed_levels(space);
+    last_level(space);
+    cut_levels(space);
     values(space);
     many_values(space);
 }
@@ -29,18 +30,22 @@ fn rubbish(space: &mut [u8]) {
 fn levels(space: &mut [u8]) {
     nested(space, b"32 dictionaries", b"d0:", 31, b"de", 31);
     nested(space, b"33 dictionaries", b"d0:", 32, b"de", 32);
-    nested(space, b"32 dictionaries and a string", b"d0:", 32, b"0:", 32);
-    nested(space, b"32 dictionaries and a list", b"d0:", 32, b"le", 32);
-    nested(space, b"32 lists and a dictionary", b"l", 32, b"de", 32);
-    nested(space, b"32 lists and an integer", b"l", 32, b"i1e", 32);
+    nested(space, b"16 lists of dictionaries", b"ld0:", 16, b"0:", 32);
+    nested(space, b"31 lists and two in the last", b"l", 31, b"lele", 31);
 }
 
-fn mixed_levels(space: &mut [u8]) {
-    nested(space, b"31 lists and two in the last", b"l", 31, b"lele", 31);
-    nested(space, b"16 dictionaries in 16 lists", b"ld0:", 16, b"0:", 32);
-    nested(space, b"16 dictionaries in 16 lists, and a list", b"ld0:", 16, b"le", 32);
-    nested(space, b"32 lists, cut", b"l", 32, b"", 31);
-    nested(space, b"33 lists, cut", b"l", 33, b"", 0);
+// 32 levels, and what may stand in the last of them.
+fn last_level(space: &mut [u8]) {
+    nested(space, b"32 dictionaries and a string", b"d0:", 32, b"0:", 32);
+    nested(space, b"32 dictionaries and a list", b"d0:", 32, b"le", 32);
+    nested(space, b"32 lists and an integer", b"l", 32, b"i1e", 32);
+    nested(space, b"32 lists and a dictionary", b"l", 32, b"de", 32);
+}
+
+fn cut_levels(space: &mut [u8]) {
+    nested(space, b"32 lists, one not closed", b"l", 32, b"", 31);
+    nested(space, b"32 lists, one closed twice", b"l", 32, b"", 33);
+    nested(space, b"33 lists, none closed", b"l", 33, b"", 0);
     nested(space, b"32 lists and a wrong byte", b"l", 32, b"x", 32);
 }
 

@@ -1,0 +1,35 @@
+// The library that C links: each call answers a number, 0 for what is taken or else the refusal's, and leaves what else it says in a lent record.
+ghost use mathlib.Core.Path.{_≡_};
+ghost use Rattle.bencode.specs.Answers.{paper, checkOf};
+ghost use Rattle.wardrail.specs.Said.{numberOf, detailOf};
+use bencode::Checked;
+
+// Whether a text is one value that keeps the limits. `detail` becomes its count of values, or the refusal's place.
+#[no_mangle]
+pub extern "C" fn wardrail_check(text: &[u8], detail: &mut u64) -> u64
+    ensures { λ r. ⌜ (r ≡ numberOf (checkOf (now (text .entry)))) × (now (detail .exit) ≡ detailOf (checkOf (now (text .entry)))) ⌝ }
+{
+    let c = bencode::check(text);
+    *detail = check_detail(c);
+    check_number(c)
+}
+
+// The number of an answer.
+fn check_number(c: Checked) -> u64
+    ensures { λ r. ⌜ r ≡ numberOf (paper c) ⌝ }
+{
+    match c {
+        Checked::Taken(_) => 0,
+        Checked::Refused(r) => r.number as u64,
+    }
+}
+
+// What else an answer says.
+fn check_detail(c: Checked) -> u64
+    ensures { λ r. ⌜ r ≡ detailOf (paper c) ⌝ }
+{
+    match c {
+        Checked::Taken(n) => n as u64,
+        Checked::Refused(r) => r.place as u64,
+    }
+}
