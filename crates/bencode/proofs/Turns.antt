@@ -20,7 +20,7 @@ use Rattle.scalar.specs.declared.Int.{Int}
 use Rattle.scalar.specs.declared.Int.the-variants.{Is, Large, Unread}
 use Rattle.scalar.proofs.Decimal.{digit-range}
 use Rattle.scalar.proofs.Forms.{at-head, at-byte}
-use Rattle.scalar.proofs.Sound.{Holds, At as Stood, at-left, TextP, string-at-sound, IntP, integer-at-sound}
+use Rattle.scalar.proofs.Sound.{Holds, At as Stood, at-left, IntP, integer-at-sound}
 use Rattle.bencode.specs.Value.{Value, Items, Entries, str, int, list, dict, item, entry, count, Prev, start, last, follows}
 use Rattle.bencode.specs.Decode.{Kind, digit, letterI, letterL, letterD, other, kindOf, begun, begin, ranged, valueBy, closes, itemsBy, itemsOf, ordered, keyOf, entriesBy, entriesOf, valueOf}
 use Rattle.bencode.specs.Answers.{stepOf, prevIs, prevOf, keyIs}
@@ -250,13 +250,6 @@ module _ (s : List ℕ) (d p₀ n₀ p n : ℕ) where
   pub list-more : ListTurn s d p₀ n₀ p n → p < length s → (getD s p 0 ≡ 101 → ⊥) → (c : Cursor) → Past c ≡ stepOf (valueOf d (length s) (drop p s) p n)
       → (p < c .at) × ListTurn s d p₀ n₀ (c .at) (c .count)
   list-more t l x c g = more-with (t .left) (t .enough) (t .same) l (closes-no s p l x) c g
-
--- a string that was read whole ends within the text
-pub whole-inside : (s : List ℕ) (p a m : ℕ) → p ≤ length s → textOf s 0 (Whole a m) ≡ stringAt (length s) (drop p s) p 0 → a + m ≤ length s
-whole-inside s p a m h e =
-    let v : TextP (drop p s) p 0 (take m (drop a s)) (drop (a + m) s) (a + m) 0 = subst (Holds (TextP (drop p s) p 0)) (sym e) (string-at-sound (length s) (drop p s) p 0 (omega (arith, length-drop p s))) in
-    let z : a + m + length (drop (a + m) s) ≡ length s = at-left (v .0) (omega (arith, length-drop p s)) in
-    omega (arith, length-drop (a + m) s)
 
 -- a key that the code found
 pub key-further : (s : List ℕ) (before : Prev) (p n a m : ℕ) → p ≤ length s → keyIs s n (At a m) ≡ keyOf (length s) before (drop p s) p n → (p < a + m) × (a + m ≤ length s) × (n < 16384)

@@ -6,3 +6,4 @@ pub mod Forms
 pub mod Sound
 pub mod Numbers
 pub mod Complete
+pub mod Determined

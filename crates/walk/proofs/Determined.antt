@@ -1,7 +1,8 @@
 -- Two answers that a contract of the walk permits for one text and place are the same. Assumes nothing.
 use mathlib.Core.Path.{_≡_, refl, sym, ap, _∙_}
 use mathlib.Core.List.{List}
-use Prim.Native.Nat.{ℕ}
+use Prim.Native.Nat.{ℕ, _+_, min}
+use lib.ListN.{length, take, drop}
 use Rattle.refusal.specs.Paper.{Outcome, taken, refused}
 use Rattle.walk.specs.Walk.{Head, string, integer, long, list, dictionary, end, paper, lookOf, Due, key, close, entryPaper, entryOf, pastPaper, skipOf}
 use Rattle.walk.specs.declared.Seen.{Seen}
@@ -57,3 +58,8 @@ module _ (s : List ℕ) (p : ℕ) where
 
   pub skip-determined : (r t : Past) → pastPaper r ≡ skipOf s p → pastPaper t ≡ skipOf s p → r ≡ t
   skip-determined r t e f = sym (past-again r) ∙ ap pastAs (e ∙ sym f) ∙ past-again t
+
+-- the bytes handed back and where they lie: block and offset
+pub bytes-determined : (s l m : List ℕ) (from len block offset b c o q : ℕ) → l ≡ take len (drop from s) → m ≡ take len (drop from s)
+    → (b ≡ block) × (o ≡ offset + min from (length s)) → (c ≡ block) × (q ≡ offset + min from (length s)) → (l ≡ m) × (b ≡ c) × (o ≡ q)
+bytes-determined s l m from len block offset b c o q x y u v = (cc, cc, cc)

@@ -28,7 +28,7 @@ use Rattle.bencode.specs.Value.{Value}
 use Rattle.bencode.specs.Answers.{stepOf}
 use Rattle.bencode.specs.declared.Step.{Step}
 use Rattle.bencode.specs.declared.Step.the-variants.{Past as Passed, Bad as Failed}
-use Rattle.bencode.proofs.Turns.{whole-inside}
+use Rattle.scalar.proofs.Determined.{whole-inside}
 use Rattle.walk.specs.Walk.{Head, string, integer, long, list, dictionary, end, stringHead, integerHead, stringSeen, integerSeen, lookAt, lookOf, pastOf}
 
 no-way : {A : Type 0} → _≡_ {A = ℕ} 0 1 → A

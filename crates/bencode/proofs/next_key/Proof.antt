@@ -1,5 +1,6 @@
 use borrow.Author.Needs.{needs}
-use Rattle.bencode.proofs.Turns.{key-out, key-wrong, key-many, key-broken, key-order, key-found, whole-inside}
+use Rattle.scalar.proofs.Determined.{whole-inside}
+use Rattle.bencode.proofs.Turns.{key-out, key-wrong, key-many, key-broken, key-order, key-found}
 use Rattle.bencode.specs.Answers.{prevOf, keyIs}
 use Rattle.scalar.specs.Answers.{textOf}
 use Prim.Native.Nat.{_+_}

@@ -1,5 +1,5 @@
 use borrow.Author.Needs.{needs}
-use Rattle.bencode.proofs.Turns.{whole-inside}
+use Rattle.scalar.proofs.Determined.{whole-inside}
 use Rattle.bencode.specs.Answers.{stepOf}
 use Rattle.scalar.specs.Answers.{textOf}
 use native.Mathlib.Omega.{arith}

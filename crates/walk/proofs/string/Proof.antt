@@ -1,6 +1,6 @@
 use borrow.Author.Needs.{needs}
 use Rattle.walk.proofs.Seeing.{whole-seen, broken-seen}
-use Rattle.bencode.proofs.Turns.{whole-inside}
+use Rattle.scalar.proofs.Determined.{whole-inside}
 use Rattle.scalar.specs.Answers.{textOf}
 use native.Mathlib.Omega.{arith}
 use mathlib.Core.Path.{_≡_, refl, sym, ap, _∙_, subst}
