@@ -1,4 +1,5 @@
 -- What the proofs of several functions and crates use.
 pub mod Seeing
 pub mod Standing
+pub mod Seeking
 pub mod Determined

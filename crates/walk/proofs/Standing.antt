@@ -25,10 +25,10 @@ use Rattle.walk.specs.Walk as walk
 use Rattle.walk.specs.Stands.{Stands, StandItems, StandEntries}
 
 -- what follows w, where w stands at p
-past : (s : List ℕ) (p : ℕ) (w r : List ℕ) → drop p s ≡ w ++ r → drop (p + length w) s ≡ r
+pub past : (s : List ℕ) (p : ℕ) (w r : List ℕ) → drop p s ≡ w ++ r → drop (p + length w) s ≡ r
 past s p w r e = sym (drop-drop (length w) p s) ∙ ap (drop (length w)) e ∙ drop-append-seam w r
 
-room : (s : List ℕ) (p : ℕ) (w r : List ℕ) → p ≤ length s → drop p s ≡ w ++ r → p + length w ≤ length s
+pub room : (s : List ℕ) (p : ℕ) (w r : List ℕ) → p ≤ length s → drop p s ≡ w ++ r → p + length w ≤ length s
 room s p w r h e = omega (arith, length-drop p s, ap length e, length-append w r)
 
 -- more levels do no harm

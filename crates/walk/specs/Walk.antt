@@ -1,14 +1,14 @@
 -- What stands at a place of any text, by its first bytes there. Assumes nothing: these are definitions.
 use mathlib.Core.Bool.{Bool, true, false, cond}
 use mathlib.Core.List.{List, [], _∷_}
-use Prim.Native.Nat.{ℕ, _+_, _-_}
+use Prim.Native.Nat.{ℕ, zero, suc, _+_, _-_}
 use lib.Dec.{eqb}
 use lib.IntN.{ℤ}
-use lib.ListN.{length, drop}
+use lib.ListN.{length, take, drop}
 use Rattle.refusal.specs.Paper.{Outcome, taken, refused, refusal, then}
 use Rattle.refusal.specs.Numbers.{cut, byte}
 use Rattle.refusal.specs.Limits.{mostLevels}
-use Rattle.scalar.specs.Written.{inRange}
+use Rattle.scalar.specs.Written.{inRange, keyLt}
 use Rattle.scalar.specs.Reading.{Got, got, bad, onHead, stringAt, integerAt}
 use Rattle.bencode.specs.Value.{Value}
 use Rattle.bencode.specs.Decode.{valueOf}
@@ -17,6 +17,8 @@ use Rattle.walk.specs.declared.Seen.{Seen}
 use Rattle.walk.specs.declared.Seen.the-variants.{String, Integer, Long, List as ListSeen, Dictionary, End, Refused}
 use Rattle.walk.specs.declared.Next.{Next}
 use Rattle.walk.specs.declared.Next.the-variants.{Key, Close, Not}
+use Rattle.walk.specs.declared.Sought.{Sought}
+use Rattle.walk.specs.declared.Sought.the-variants.{Found, Missing, Unread}
 use Rattle.walk.specs.declared.Past.{Past}
 use Rattle.walk.specs.declared.Past.the-variants.{To, Bad}
 
@@ -99,3 +101,25 @@ pastOf (bad r p) = refused r p
 
 abbrev pub skipOf : List ℕ → ℕ → Outcome ℕ
 skipOf s p = pastOf (valueOf mostLevels (length s) (drop p s) p 0)
+
+-- where a key was found, by the places of its entry and its value; or where it would stand
+pub data Hit : Type 0 where
+  found : ℕ → ℕ → Hit
+  missing : ℕ → Hit
+
+abbrev pub seekPaper : Sought → Outcome Hit
+seekPaper (Found p q) = taken (found p q)
+seekPaper (Missing p) = taken (missing p)
+seekPaper (Unread r) = refusal r
+
+-- the search for k at the entry that stands at p, with `on` for the search from a later place
+abbrev pub seekBy : List ℕ → ℕ → List ℕ → (ℕ → Outcome Hit) → Due → Outcome Hit
+seekBy s p k on (key a m q) =
+    let r : Outcome Hit = then (skipOf s q) on in
+    cond (keyLt (take m (drop a s)) k) r (taken (cond (keyLt k (take m (drop a s))) (missing p) (found p q)))
+seekBy s p k on (close q) = taken (missing p)
+
+-- f bounds the number of entries
+unfoldable pub seekOf : ℕ → List ℕ → ℕ → List ℕ → Outcome Hit
+seekOf zero s p k = refused cut (length s)
+seekOf (suc f) s p k = then (entryOf s p) (seekBy s p k (λ q. seekOf f s q k))

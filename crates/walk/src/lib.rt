@@ -1,9 +1,12 @@
 // A walk over a bencode text: what stands at a place, and where the next thing stands. Every call answers for any text
 // and any place; on a text that `bencode::check` has taken, what it tells is the text's value, part by part.
 ghost use mathlib.Core.Path.{_≡_};
-ghost use Prim.Native.Nat.{ℕ, _+_, _-_, _≤_, min};
+ghost use mathlib.Core.Bool.{cond};
+ghost use Prim.Native.Nat.{ℕ, suc, _+_, _-_, _≤_, min};
+ghost use Rattle.refusal.specs.Paper.{taken};
+ghost use Rattle.scalar.specs.Written.{keyLt};
 ghost use lib.ListN.{length, take, drop};
-ghost use Rattle.walk.specs.Walk.{paper, stringSeen, integerSeen, lookOf, entryPaper, entryOf, pastPaper, skipOf};
+ghost use Rattle.walk.specs.Walk.{paper, stringSeen, integerSeen, lookOf, entryPaper, entryOf, pastPaper, skipOf, seekPaper, seekOf, found, missing};
 use bencode::Cursor;
 use bencode::Step;
 use refusal::Refusal;
@@ -36,6 +39,13 @@ pub enum Next {
     Key(Part, usize),
     Close(usize),
     Not(Refusal),
+}
+
+// Where a key was found, by the places of its entry and its value, or where it would stand.
+pub enum Sought {
+    Found(usize, usize),
+    Missing(usize),
+    Unread(Refusal),
 }
 
 // The place past a value.
@@ -79,6 +89,31 @@ pub fn entry(text: &[u8], at: usize) -> Next
         Seen::Long(_, _) => no_key(at),
         Seen::List(_) => no_key(at),
         Seen::Dictionary(_) => no_key(at),
+    }
+}
+
+// Where a key stands among the entries from a place on: they ascend, so it stops at the first key that is not before it.
+// A later key may be sought from the place where this one was found or missed.
+pub fn seek(text: &[u8], at: usize, key: &[u8]) -> Sought
+    ensures { λ r. ⌜ seekPaper r ≡ seekOf (suc (length (now (text .entry)))) (now (text .entry)) at (now (key .entry)) ⌝ }
+{
+    let mut p = at;
+    loop {
+        match entry(text, p) {
+            Next::Key(k, value) => {
+                let here = bytes(text, k);
+                if scalar::precedes(here, key) {
+                    match skip(text, value) {
+                        Past::To(next) => p = next,
+                        Past::Bad(r) => return Sought::Unread(r),
+                    }
+                } else {
+                    return reached(here, key, p, value);
+                }
+            }
+            Next::Close(_) => return Sought::Missing(p),
+            Next::Not(r) => return Sought::Unread(r),
+        }
     }
 }
 
@@ -141,6 +176,17 @@ fn refused(number: u8, place: usize) -> Seen
     ensures { λ r. ⌜ r ≡ Seen.Refused (record { number = number; place = place }) ⌝ }
 {
     Seen::Refused(Refusal { number, place })
+}
+
+// A key that is not before the sought one is that one, or after it.
+fn reached(here: &[u8], key: &[u8], at: usize, value: usize) -> Sought
+    ensures { λ r. ⌜ seekPaper r ≡ taken (cond (keyLt (now (key .entry)) (now (here .entry))) (missing at) (found at value)) ⌝ }
+{
+    if scalar::precedes(key, here) {
+        Sought::Missing(at)
+    } else {
+        Sought::Found(at, value)
+    }
 }
 
 fn no_key(at: usize) -> Next
