@@ -1,41 +1,22 @@
 // Which refusal comes first where a text has cause for two.
-use crate::build::full;
 use crate::report::each;
 
-pub fn all(space: &mut [u8]) {
-    values(space);
-    keys(space);
-    levels(space);
-    key_order();
+pub fn all() {
+    beginnings();
+    keys();
     faults();
 }
 
-// A wrong byte comes before too many values, and that before what the value goes on with.
-fn values(space: &mut [u8]) {
-    full(space, b"value 16,385 missing", 1, 16383, b"");
-    full(space, b"value 16,385 a wrong byte", 1, 16383, b"x");
-    full(space, b"value 16,385 a broken integer", 1, 16383, b"i-0e");
-    full(space, b"value 16,385 a cut string", 1, 16383, b"4:spa");
-}
-
-fn keys(space: &mut [u8]) {
-    full(space, b"key 16,385", 1, 16382, b"d1:a0:ee");
-    full(space, b"key 16,385 cut", 1, 16382, b"d1");
-    full(space, b"key 16,385 a wrong byte", 1, 16382, b"dx");
-    full(space, b"key 16,385 an integer", 1, 16382, b"di1e0:ee");
-    full(space, b"key 16,385 out of order", 1, 16380, b"d1:a0:1:a0:ee");
-}
-
-// Too many values come before too many levels.
-fn levels(space: &mut [u8]) {
-    full(space, b"value 16,384 a list at level 33", 32, 16351, b"l");
-    full(space, b"value 16,385 a list at level 33", 32, 16352, b"l");
-    full(space, b"value 16,385 a dictionary at level 33", 32, 16352, b"d");
-    full(space, b"value 16,385 a wrong byte at level 33", 32, 16352, b"x");
+// Where a value or a key begins: a wrong byte, then too many values, then too many levels.
+fn beginnings() {
+    each(b"l(16383*0:) l(16383*0:)x l(16383*0:)i-0e l(16383*0:)4:spa");
+    each(b"l(16382*0:)d0:0:ee l(16382*0:)d1 l(16382*0:)dx l(16382*0:)di1e0:ee");
+    each(b"l(16379*0:)d1:a0:1:a0:ee l(16380*0:)d1:a0:1:a0:ee");
+    each(b"(32*l)(16351*0:)l (32*l)(16352*0:)l (32*l)(16352*0:)d (32*l)(16352*0:)x");
 }
 
 // A key is read whole before its order is looked at, and its order before its value.
-fn key_order() {
+fn keys() {
     each(b"d1:b0:1 d1:b0:1: d1:b0:2:a d1:b0:1x d1:b0:01:a");
     each(b"d1:b0:1:a d1:b0:1:ax d1:b0:1:ai-0ee");
 }

@@ -1,1 +1,4 @@
+-- What the proofs of several functions and crates use.
 pub mod Bits
+pub mod Stores
+pub mod Blocks

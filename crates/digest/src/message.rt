@@ -1,7 +1,7 @@
 // The bytes that a message's whole blocks leave, in a block of their own, and the last blocks with the padding.
 ghost use mathlib.Core.Path.{_≡_};
 ghost use mathlib.Core.List.{_++_};
-ghost use Prim.Native.Nat.{_+_, _%_, _≤_};
+ghost use Prim.Native.Nat.{_+_, _%_, _≤_, min};
 ghost use lib.ListN.{length, take};
 ghost use lib.Seq.{sets};
 ghost use Rattle.digest.specs.Message.{padding, filled};
@@ -19,8 +19,8 @@ pub fn gathered(held: &[u8], part: &[u8]) -> [u8; 64]
 }
 
 // The one or two last blocks of a message of `length` bytes, whose bytes after the whole blocks begin `tail`; zeros after them.
-pub fn ended(tail: &[u8; 64], length: u32) -> [u8; 128]
-    ensures { λ r. ⌜ r ≡ filled 128 (take (length % 64) (now (tail .entry)) ++ padding length) ⌝ }
+pub fn ended(tail: [u8; 64], length: u32) -> [u8; 128]
+    ensures { λ r. ⌜ r ≡ filled 128 (take (length % 64) tail ++ padding length) ⌝ }
 {
     let held = (length % 64) as usize;
     let bits = (length as u64) * 8;
@@ -48,7 +48,7 @@ fn store(out: &mut [u8], at: usize, bytes: &[u8])
 }
 
 fn least(a: usize, b: usize) -> usize
-    ensures { λ r. ⌜ (r ≤ a) × (r ≤ b) × ((r ≡ a) ⊎ (r ≡ b)) ⌝ }
+    ensures { λ r. ⌜ r ≡ min a b ⌝ }
 {
     if a < b { a } else { b }
 }

@@ -4,11 +4,13 @@ use mathlib.Core.List.{List}
 use Prim.Native.Nat.{ℕ, _+_, min}
 use lib.ListN.{length, take, drop}
 use Rattle.refusal.specs.Paper.{Outcome, taken, refused}
-use Rattle.walk.specs.Walk.{Head, string, integer, long, list, dictionary, end, paper, lookOf, Due, key, close, entryPaper, entryOf, pastPaper, skipOf}
+use Rattle.walk.specs.Walk.{Head, string, integer, long, list, dictionary, end, paper, lookOf, Due, key, close, entryPaper, entryOf, pastPaper, skipOf, Hit, found, missing, seekPaper, seekOf}
 use Rattle.walk.specs.declared.Seen.{Seen}
 use Rattle.walk.specs.declared.Seen.the-variants.{String, Integer, Long, List as ListSeen, Dictionary, End, Refused}
 use Rattle.walk.specs.declared.Next.{Next}
 use Rattle.walk.specs.declared.Next.the-variants.{Key, Close, Not}
+use Rattle.walk.specs.declared.Sought.{Sought}
+use Rattle.walk.specs.declared.Sought.the-variants.{Found, Missing, Unread}
 use Rattle.walk.specs.declared.Past.{Past}
 use Rattle.walk.specs.declared.Past.the-variants.{To, Bad}
 
@@ -63,3 +65,16 @@ module _ (s : List ℕ) (p : ℕ) where
 pub bytes-determined : (s l m : List ℕ) (from len block offset b c o q : ℕ) → l ≡ take len (drop from s) → m ≡ take len (drop from s)
     → (b ≡ block) × (o ≡ offset + min from (length s)) → (c ≡ block) × (q ≡ offset + min from (length s)) → (l ≡ m) × (b ≡ c) × (o ≡ q)
 bytes-determined s l m from len block offset b c o q x y u v = (cc, cc, cc)
+
+abbrev soughtAs : Outcome Hit → Sought
+soughtAs (taken (found p q)) = Found p q
+soughtAs (taken (missing p)) = Missing p
+soughtAs (refused n p) = Unread (record { number = n; place = p })
+
+sought-again : (r : Sought) → soughtAs (seekPaper r) ≡ r
+sought-again (Found p q) = refl
+sought-again (Missing p) = refl
+sought-again (Unread r) = refl
+
+pub seek-determined : (f : ℕ) (s : List ℕ) (p : ℕ) (k : List ℕ) (r t : Sought) → seekPaper r ≡ seekOf f s p k → seekPaper t ≡ seekOf f s p k → r ≡ t
+seek-determined f s p k r t e g = sym (sought-again r) ∙ ap soughtAs (e ∙ sym g) ∙ sought-again t

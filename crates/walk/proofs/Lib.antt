@@ -2,4 +2,5 @@
 pub mod Seeing
 pub mod Standing
 pub mod Seeking
+pub mod Finding
 pub mod Determined

@@ -1,2 +1,3 @@
 pub mod Walk
 pub mod Stands
+pub mod Lookup

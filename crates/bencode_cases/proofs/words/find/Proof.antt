@@ -1,15 +1,15 @@
--- `bencode_cases::report::word_end` answers a place between `from` and the line's end. The measure is what is left of the line.
+-- `bencode_cases::words::find` answers a place from `from` to the word's end. The measure is what is left of the word.
 use Prim.Native.Nat.{_≤_, _-_}
 use borrow.Author.Needs.{needs}
 use lib.ListN.{length}
-use Rattle.bencode_cases.proofs.report.word_end.Statement.{statement}
-use Rattle.bencode_cases.proofs.report.word_end.Tie as tie
+use Rattle.bencode_cases.proofs.words.find.Statement.{statement}
+use Rattle.bencode_cases.proofs.words.find.Tie as tie
 
 abbrev Inv-loop : tie.InvT-loop
-Inv-loop line from to₀ to = (from ≤ to) × (to ≤ length line)
+Inv-loop word from b at₀ at = (from ≤ at) × (at ≤ length word)
 
 abbrev μ-loop : tie.MeasureT-loop
-μ-loop line from to₀ to = length line - to
+μ-loop word from b at₀ at = length word - at
 
 loop-holds : tie.Need-loop-holds Inv-loop μ-loop
 loop-holds c = search needs
@@ -20,8 +20,8 @@ shared-slice-read-if1 c = search needs
 returns : tie.Need-returns Inv-loop μ-loop
 returns c = search needs
 
-add-to : tie.Need-add-to Inv-loop μ-loop
-add-to c = search needs
+add-at : tie.Need-add-at Inv-loop μ-loop
+add-at c = search needs
 
 loop-less : tie.Need-loop-less Inv-loop μ-loop
 loop-less c = search needs
@@ -32,8 +32,8 @@ loop-again c = search needs
 returns-2 : tie.Need-returns-2 Inv-loop μ-loop
 returns-2 c = search needs
 
-pub word-end-spec : {M : Type 1} → statement M
-word-end-spec =
+pub find-spec : {M : Type 1} → statement M
+find-spec =
     tie.close
     (tie.spec
     Inv-loop
@@ -41,7 +41,7 @@ word-end-spec =
     loop-holds
     shared-slice-read-if1
     returns
-    add-to
+    add-at
     loop-less
     loop-again
     returns-2)

@@ -1,24 +1,28 @@
--- `bencode_cases::build::repeat` is safe and ends. The loop keeps the space's length; its measure is how many times are left.
+-- `bencode_cases::words::copy` is safe and ends. The measure is what is left of the part.
+use Prim.Native.Nat.{_≤_, _-_}
 use mathlib.Core.Path.{_≡_}
 use borrow.Author.Needs.{needs}
 use lib.ListN.{length}
-use Rattle.bencode_cases.proofs.build.repeat.Statement.{statement}
-use Rattle.bencode_cases.proofs.build.repeat.Tie as tie
+use Rattle.bencode_cases.proofs.words.copy.Statement.{statement}
+use Rattle.bencode_cases.proofs.words.copy.Tie as tie
 
 abbrev Inv-loop : tie.InvT-loop
-Inv-loop space₀ at part times to₀ left₀ space to left = length space ≡ length space₀
+Inv-loop space₀ at part to₀ i₀ space to i = (i ≤ length part) × (length space ≡ length space₀)
 
 abbrev μ-loop : tie.MeasureT-loop
-μ-loop space₀ at part times to₀ left₀ space to left = left
+μ-loop space₀ at part to₀ i₀ space to i = length part - i
 
 loop-holds : tie.Need-loop-holds Inv-loop μ-loop
 loop-holds c = search needs
 
+shared-slice-read-put : tie.Need-shared-slice-read-put Inv-loop μ-loop
+shared-slice-read-put c = search needs
+
 put-requires : tie.Need-put-requires Inv-loop μ-loop
 put-requires c κs = search needs
 
-sub-left : tie.Need-sub-left Inv-loop μ-loop
-sub-left c = search needs
+add-i : tie.Need-add-i Inv-loop μ-loop
+add-i c = search needs
 
 loop-less : tie.Need-loop-less Inv-loop μ-loop
 loop-less c = search needs
@@ -32,15 +36,16 @@ same-length c = search needs
 returns : tie.Need-returns Inv-loop μ-loop
 returns c = search needs
 
-pub repeat-spec : {M : Type 1} → statement M
-repeat-spec =
+pub copy-spec : {M : Type 1} → statement M
+copy-spec =
     tie.close
     (tie.spec
     Inv-loop
     μ-loop
     loop-holds
+    shared-slice-read-put
     put-requires
-    sub-left
+    add-i
     loop-less
     loop-again
     same-length

@@ -1,0 +1,5 @@
+pub mod Rules
+pub mod Spans
+pub mod Answers
+pub mod Covers
+pub mod Stars
