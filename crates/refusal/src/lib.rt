@@ -3,8 +3,9 @@ pub mod big_endian;
 pub mod limit;
 pub mod number;
 
-// A refusal: its number in document 01's table, and the byte offset of its cause, 0 for every number from 20 on.
+// A refusal: the byte offset of its cause, 0 for every number from 20 on, and its number in document 01's table.
+// The place stands first: an answer that is a place or a refusal is then copied whole, and not byte by byte.
 pub struct Refusal {
-    pub number: u8,
     pub place: usize,
+    pub number: u8,
 }

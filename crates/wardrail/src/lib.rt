@@ -1,4 +1,4 @@
-// The library that C links: each call answers a number, 0 for what is taken or else the refusal's, and leaves what else it says in a lent record.
+// The library that C links: each call answers a number, 0 for what is taken or else the refusal's, and leaves what else it says in what is lent.
 ghost use mathlib.Core.Path.{_≡_};
 ghost use Rattle.bencode.specs.Answers.{paper, checkOf};
 ghost use Rattle.wardrail.specs.Said.{numberOf, detailOf};
