@@ -11,9 +11,12 @@ mod words;
 
 fn main() {
     paper::all();
-    scalars::all();
+    scalars::integers();
+    scalars::strings();
     shapes::all();
     keys::all();
-    limits::all();
+    limits::bytes();
+    limits::levels();
+    limits::values();
     order::all();
 }

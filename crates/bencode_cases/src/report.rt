@@ -4,7 +4,7 @@ use crate::words::write_out;
 use bencode::Checked;
 use libc::STDOUT_FILENO;
 
-// Each word of a line, by spaces.
+// Shows the words of a line, which spaces part.
 pub fn each(line: &[u8]) {
     let mut space = [0u8; 1048577];
     lend(&mut space, line);

@@ -35,6 +35,7 @@ pub fn find(word: &[u8], from: usize, b: u8) -> usize
     at
 }
 
+// A run, a byte by its digits, or a byte as it is.
 fn step(space: &mut [u8], word: &[u8], read: usize, written: usize) -> Progress
     requires { ⌜ read < length (now word) ⌝ }
     ensures { λ r. ⌜ read < r .read ⌝ }
@@ -52,7 +53,7 @@ fn step(space: &mut [u8], word: &[u8], read: usize, written: usize) -> Progress
     }
 }
 
-// What `32*l)` stands for. A run that is cut ends its word.
+// A run, from its number on. One that is cut ends the word.
 fn run(space: &mut [u8], word: &[u8], from: usize, written: usize) -> Progress
     requires { ⌜ from ≤ length (now word) ⌝ }
     ensures { λ r. ⌜ from ≤ r .read ⌝ }
@@ -73,7 +74,7 @@ fn run(space: &mut [u8], word: &[u8], from: usize, written: usize) -> Progress
     }
 }
 
-// What the `FF` of `%FF` stands for. A byte that is cut ends its word.
+// A byte, from its digits on. One that is cut ends the word.
 fn byte(space: &mut [u8], word: &[u8], from: usize, written: usize) -> Progress
     requires { ⌜ from ≤ length (now word) ⌝ }
     ensures { λ r. ⌜ from ≤ r .read ⌝ }
@@ -111,7 +112,7 @@ fn number(digits: &[u8]) -> usize {
     n
 }
 
-// A number of at most seven digits with one more at its end.
+// A number of up to six digits with one more.
 fn with_digit(n: usize, digit: u8) -> usize {
     if n < 1000000 && b'0' <= digit && digit <= b'9' {
         return n * 10 + (digit - b'0') as usize;
@@ -119,6 +120,7 @@ fn with_digit(n: usize, digit: u8) -> usize {
     n
 }
 
+// Writes `part` so many times from `at` on, and answers the place past it.
 fn repeat(space: &mut [u8], at: usize, part: &[u8], times: usize) -> usize {
     let mut to = at;
     let mut left = times;

@@ -1,4 +1,5 @@
 -- What it is for parts to be a block's bytes, for files to be laid out in pieces, and what each refusal is caused by. Assumes nothing: these are definitions.
+use mathlib.Core.Path.{_≡_}
 use mathlib.Core.Logic.{_⊎_}
 use mathlib.Core.List.{List, [], _∷_, _++_}
 use Prim.Native.Nat.{ℕ, zero, suc, _+_, _*_, _≤_, _<_}
@@ -68,19 +69,19 @@ Rules ss pl = Lawful pl (lengths ss) (pieces ss pl)
 
 -- of the length of a piece
 pub data SizeCause (ss : List Span) (pl p : ℕ) : ℕ → Type 0 where
-  range : (Rules ss pl → ⊥) → SizeCause ss pl p no.range
-  beyond : Rules ss pl → pieces ss pl ≤ p → SizeCause ss pl p no.beyond
+  size-range : (Rules ss pl → ⊥) → SizeCause ss pl p no.range
+  size-beyond : Rules ss pl → pieces ss pl ≤ p → SizeCause ss pl p no.beyond
 
 -- of a block, whose output has room for so many numbers
 pub data BlockCause (ss : List Span) (pl p o n count : ℕ) : ℕ → Type 0 where
-  range : (Rules ss pl → ⊥) → BlockCause ss pl p o n count no.range
-  beyond : Rules ss pl → pieces ss pl ≤ p → BlockCause ss pl p o n count no.beyond
-  outside : Rules ss pl → p < pieces ss pl → (Block (heldIn ss pl p) o n → ⊥) → BlockCause ss pl p o n count no.outside
-  room : Rules ss pl → p < pieces ss pl → Block (heldIn ss pl p) o n → count < 3 * length (partsOf ss (p * pl + o) n)
+  block-range : (Rules ss pl → ⊥) → BlockCause ss pl p o n count no.range
+  block-beyond : Rules ss pl → pieces ss pl ≤ p → BlockCause ss pl p o n count no.beyond
+  block-outside : Rules ss pl → p < pieces ss pl → (Block (heldIn ss pl p) o n → ⊥) → BlockCause ss pl p o n count no.outside
+  block-room : Rules ss pl → p < pieces ss pl → Block (heldIn ss pl p) o n → count < 3 * length (partsOf ss (p * pl + o) n)
       → BlockCause ss pl p o n count no.room
 
 -- of a file's byte
 pub data ByteCause (ss : List Span) (pl f o : ℕ) : ℕ → Type 0 where
-  range : (Rules ss pl → ⊥) → ByteCause ss pl f o no.range
-  beyond : Rules ss pl → length ss ≤ f → ByteCause ss pl f o no.beyond
-  outside : Rules ss pl → f < length ss → getD ss f nowhere .size ≤ o → ByteCause ss pl f o no.outside
+  byte-range : (Rules ss pl → ⊥) → ByteCause ss pl f o no.range
+  byte-beyond : Rules ss pl → length ss ≤ f → ByteCause ss pl f o no.beyond
+  byte-outside : Rules ss pl → f < length ss → getD ss f nowhere .size ≤ o → ByteCause ss pl f o no.outside

@@ -1,5 +1,6 @@
 pub mod Rules
 pub mod Spans
+pub mod Steps
 pub mod Answers
 pub mod Covers
 pub mod Stars

@@ -65,4 +65,4 @@ pub record Lawful (pl : ℕ) (ns : List ℕ) (pieces : ℕ) : Type 0 where
   pub few : length ns ≤ mostFiles
   pub files : (i : ℕ) → getD ns i 0 ≤ longestFile
   pub some : 1 ≤ sum ns
-  pub pieces : pieces ≤ mostPieces
+  pub most : pieces ≤ mostPieces

@@ -44,7 +44,7 @@ pub fn with_file(total: Total, n: u64) -> Total
 
 // How many pieces the total has; none where the piece length is 0.
 pub fn pieces(total: Total, piece_length: u64) -> u64
-    ensures { λ r. ⌜ r ≡ piecesOf (total .0) piece_length ⌝ }
+    ensures { λ r. ⌜ r ≡ piecesOf (total .0) «piece_length» ⌝ }
 {
     if piece_length == 0 {
         return 0;
@@ -57,7 +57,7 @@ pub fn pieces(total: Total, piece_length: u64) -> u64
 
 // Whether the total is at least 1, and its pieces at most 16,384.
 pub fn legal_total(total: Total, piece_length: u64) -> bool
-    ensures { λ r. ⌜ r ≡ totalAnd (total .0) (piecesOf (total .0) piece_length) ⌝ }
+    ensures { λ r. ⌜ r ≡ totalAnd (total .0) (piecesOf (total .0) «piece_length») ⌝ }
 {
     if total.0 < 1 {
         return false;

@@ -5,8 +5,8 @@ use Prim.Native.Nat.{ℕ, zero, suc, _+_, _-_, _*_, _/_, _%_, _≤_, _<_}
 use native.Mathlib.Nat.{add-zero}
 use native.Mathlib.Numerals.{add-one}
 use native.Mathlib.Omega.{arith}
-use lib.ListN.{length, take, drop, replicate, length-append, length-take, length-drop, length-replicate, take-append-drop}
-use lib.Seq.{length-take-le, take-all, take-take, take-at, drop-at, take-append-le, drop-append-le, drop-drop, drop-length}
+use lib.ListN.{length, take, drop, replicate, length-append, length-take, length-drop, length-replicate, take-append-drop, drop-of-length-le}
+use lib.Seq.{length-take-le, take-all, take-take, take-at, drop-at, take-append-le, drop-append-le, drop-append-add, drop-drop}
 use Rattle.digest.specs.Message.{zeros, padding, pad, folded, hashed, rest, filled}
 use Rattle.digest.proofs.Stores.{filled-short, filled-whole, length-padding}
 
@@ -33,6 +33,18 @@ rest-append m l =
     let k = length (rest m ++ l) / 64 in
     let e : 64 * (length (m ++ l) / 64) ≡ 64 * q + 64 * k = omega (arith, blocks-append m l) in
     ap (λ (i : ℕ). drop i (m ++ l)) e ∙ sym (drop-drop (64 * k) (64 * q) (m ++ l)) ∙ ap (λ (x : List ℕ). drop (64 * k) x) (drop-rest m l)
+
+-- fewer bytes than a block
+pub rest-few : (l : List ℕ) → length l < 64 → rest l ≡ l
+rest-few l b = let e : length l / 64 ≡ 0 = omega arith in rw e
+
+rest-block : (l : List ℕ) → length l ≡ 64 → rest l ≡ []
+rest-block l b = let h : length l ≤ 64 * (length l / 64) = omega arith in drop-of-length-le l h
+
+-- a first block, and what comes after it
+pub rest-first : (l : List ℕ) → 64 ≤ length l → rest l ≡ rest (drop 64 l)
+rest-first l b =
+    ap rest (sym (take-append-drop 64 l)) ∙ rest-append (take 64 l) (drop 64 l) ∙ ap (λ (x : List ℕ). rest (x ++ drop 64 l)) (rest-block (take 64 l) (length-take-le 64 l b))
 
 -- ---- the padded message
 
@@ -80,10 +92,10 @@ module _ {H : Type 0} (compress : H → List ℕ → H) where
   -- ---- what the steps of the code leave
 
   -- one more block of a message
-  pub hashed-next : (m : List ℕ) (i : ℕ) {h g r : H} → g ≡ folded compress h m i → r ≡ compress g (take (64 * i + 64 - 64 * i) (drop (64 * i) m))
+  pub hashed-next : (m : List ℕ) (i : ℕ) (h : H) {g r : H} → g ≡ folded compress h m i → r ≡ compress g (take (64 * i + 64 - 64 * i) (drop (64 * i) m))
       → r ≡ folded compress h m (i + 1)
   unfolding folded
-  hashed-next m i e q =
+  hashed-next m i h {g} {r} e q =
       let n : 64 * i + 64 - 64 * i ≡ 64 = omega arith in
       rw add-one (cc)
 
@@ -98,10 +110,44 @@ module _ {H : Type 0} (compress : H → List ℕ → H) where
 
   -- a first block, and what comes after it
   pub hashed-first : (h : H) (l : List ℕ) → 64 ≤ length l → hashed compress h l ≡ hashed compress (compress h (take 64 l)) (drop 64 l)
-  hashed-first h l b = ?
+  hashed-first h l b =
+      let f = take 64 l in
+      let g = drop 64 l in
+      ap (hashed compress h) (sym (take-append-drop 64 l)) ∙ hashed-append h f g ∙ ap (λ (x : H). hashed compress x (rest f ++ g)) (hashed-one h f (length-take-le 64 l b))
+      ∙ ap (λ (x : List ℕ). hashed compress (compress h f) (x ++ g)) (rest-block f (length-take-le 64 l b))
 
-pub rest-few : (l : List ℕ) → length l < 64 → rest l ≡ l
-rest-few l b = let e : length l / 64 ≡ 0 = omega arith in rw e
+  -- the last blocks: what is left of a message of n bytes and its padding, in one block or in two
+  pub last-one : (h : H) (s t : List ℕ) (n : ℕ) {r : H} → length s ≡ n % 64 → n % 64 < 56 → t ≡ filled 128 (s ++ padding n) → r ≡ compress h (take 64 t)
+      → r ≡ hashed compress h (s ++ padding n)
+  last-one h s t n l b e q =
+      let p : List ℕ = s ++ padding n in
+      let k : length p ≡ 64 = omega (arith, length-append s (padding n), length-padding n) in
+      let f : take 64 t ≡ p = ap (take 64) (e ∙ filled-short 128 p (omega arith)) ∙ take-at p (replicate (128 - length p) 0) 64 k in
+      q ∙ ap (compress h) f ∙ sym (hashed-one h p k)
 
-pub rest-first : (l : List ℕ) → 64 ≤ length l → rest l ≡ rest (drop 64 l)
-rest-first l b = ?
+  pub last-two : (h : H) (s t : List ℕ) (n : ℕ) {g r : H} → length s ≡ n % 64 → 56 ≤ n % 64 → t ≡ filled 128 (s ++ padding n) → g ≡ compress h (take 64 t)
+      → r ≡ compress g (take 64 (drop 64 t)) → r ≡ hashed compress h (s ++ padding n)
+  last-two h s t n l b e v q =
+      let p : List ℕ = s ++ padding n in
+      let k : length p ≡ 128 = omega (arith, length-append s (padding n), length-padding n) in
+      let f : t ≡ p = e ∙ filled-whole 128 p (omega arith) ∙ take-all 128 p (omega arith) in
+      let d : length (drop 64 p) ≡ 64 = omega (arith, length-drop 64 p) in
+      q ∙ ap (λ (x : H). compress x (take 64 (drop 64 t))) v ∙ ap (λ (x : List ℕ). compress (compress h (take 64 x)) (take 64 (drop 64 x))) f
+      ∙ ap (compress (compress h (take 64 p))) (take-all 64 (drop 64 p) (omega arith)) ∙ sym (hashed-one (compress h (take 64 p)) (drop 64 p) d)
+      ∙ sym (hashed-first h p (omega arith))
+
+  -- a part after the bytes that are held: too few for a block, or a first block and the rest of the part
+  pub part-few : (h : H) (s l : List ℕ) (k : ℕ) → length s ≤ k → length l < 64 - k → (hashed compress h (s ++ l) ≡ h) × (rest (s ++ l) ≡ s ++ l)
+  part-few h s l k a b =
+      let c : length (s ++ l) < 64 = omega (arith, length-append s l) in
+      (hashed-few h (s ++ l) c, rest-few (s ++ l) c)
+
+  pub part-first : (h : H) (s l : List ℕ) (k : ℕ) → length s ≡ k → k < 64 → 64 - k ≤ length l
+      → (hashed compress h (s ++ l) ≡ hashed compress (compress h (filled 64 (s ++ l))) (drop (64 - k) l)) × (rest (s ++ l) ≡ rest (drop (64 - k) l))
+  part-first h s l k a b c =
+      let n : 64 ≤ length (s ++ l) = omega (arith, length-append s l) in
+      let i : 64 ≡ length s + (64 - k) = omega arith in
+      let d : drop 64 (s ++ l) ≡ drop (64 - k) l = ap (λ (j : ℕ). drop j (s ++ l)) i ∙ drop-append-add s l (64 - k) in
+      (hashed-first h (s ++ l) n ∙ ap (λ (x : List ℕ). hashed compress (compress h x) (drop 64 (s ++ l))) (sym (filled-whole 64 (s ++ l) n))
+       ∙ ap (hashed compress (compress h (filled 64 (s ++ l)))) d,
+       rest-first (s ++ l) n ∙ ap rest d)

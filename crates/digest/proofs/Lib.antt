@@ -2,3 +2,4 @@
 pub mod Bits
 pub mod Stores
 pub mod Blocks
+pub mod Words

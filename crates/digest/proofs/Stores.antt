@@ -1,13 +1,15 @@
 -- Bytes stored into zeros: the block that is kept between two parts, and the last blocks with their padding. Assumes nothing.
 use mathlib.Core.Path.{_≡_, refl, sym, ap, _∙_}
+use mathlib.Core.Bool.{Bool, true, cond}
 use mathlib.Core.List.{List, [], _∷_, _++_, append-assoc}
 use Prim.Native.Nat.{ℕ, zero, suc, _+_, _-_, _*_, _/_, _%_, _≤_, _<_, min}
 use native.Mathlib.Nat.{add-zero}
 use native.Mathlib.Numerals.{add-one}
 use native.Mathlib.Omega.{arith}
 use lib.ListN.{length, take, drop, getD, set, replicate, length-append, length-take, length-drop, length-replicate, length-set, replicate-append-replicate, drop-of-length-le}
-use lib.Seq.{sets, sets-eq, take-all, take-nil, take-at, drop-at, set-at, take-append-le, drop-drop, drop-cons}
-use Rattle.refusal.specs.BigEndian.{bytesOf}
+use lib.Seq.{sets, sets-eq, length-sets, paste, paste-zero, paste-suc, take-length, take-all, take-nil, take-at, drop-at, set-at, take-append-le, drop-drop, drop-cons}
+use borrow.Author.Tests.{le-leb}
+use Rattle.refusal.specs.BigEndian.{bytesOf, fits, written}
 use Rattle.refusal.proofs.Bytes.{length-bytesOf}
 use Rattle.refusal.proofs.Places.{sets-append}
 use Rattle.digest.specs.Message.{zeros, padding, filled}
@@ -79,6 +81,19 @@ gathers n a b x y o o′ {i} {j} p q s t u v =
     let f : x ++ y ≡ take n (a ++ b) = ap (λ (z : List ℕ). z ++ y) ex ∙ ap (λ (z : List ℕ). take n a ++ z) ey ∙ sym (take-append n a b) in
     v ∙ ap (λ (z : List ℕ). sets z i y) u ∙ e ∙ ap (λ (z : List ℕ). sets (replicate n 0) 0 z) f ∙ stored-filled n (a ++ b)
 
+-- ---- a run of stores, one after the other
+
+-- what the first i of them leave, and then all
+module _ (all : List ℕ) (at : ℕ) (before : List ℕ) where
+  pub store-next : (i : ℕ) {out : List ℕ} → at + length all ≤ length before → i < length all → out ≡ paste before at all i
+      → set out (at + i) (getD all i 0) ≡ paste before at all (i + 1)
+  store-next i h b e = rw (e, add-one) (paste-suc before at all i 0 (omega arith) b)
+
+  pub store-all : {i : ℕ} {out : List ℕ} → at + length all ≤ length before → i ≤ length all → length all ≤ i → out ≡ paste before at all i → out ≡ sets before at all
+  store-all {i} h b c e =
+      let k : i ≡ length all = omega arith in
+      e ∙ ap (paste before at all) k ∙ rw (sets-eq all before at h, take-length all)
+
 -- ---- the padding
 
 pub length-padding : (n : ℕ) → length (padding n) ≡ 9 + zeros n
@@ -105,8 +120,28 @@ ended-at s b r at e h k l =
     let u : set (s ++ replicate (128 - r) 0) r 128 ≡ q = marked s r at e h (omega arith) in
     let v : sets q at b ≡ take at q ++ b ++ drop (at + length b) q = sets-eq b q at (omega arith) in
     let w : take at q ≡ p = take-at p (replicate (128 - at) 0) at lp in
-    let m : drop (at + length b) q ≡ replicate (128 - (at + 8)) 0 = ? in
+    let z : 128 - at - 8 ≡ 128 - (at + 8) = omega arith in
+    let m : drop (at + length b) q ≡ replicate (128 - (at + 8)) 0 =
+        ap (λ (i : ℕ). drop i q) lb ∙ sym (drop-drop 8 at q) ∙ ap (λ (x : List ℕ). drop 8 x) (drop-at p (replicate (128 - at) 0) at lp)
+        ∙ drop-zeros 8 (128 - at) (omega arith) ∙ ap (λ (i : ℕ). replicate i 0) z in
     let f : filled 128 (p ++ b) ≡ (p ++ b) ++ replicate (128 - (at + 8)) 0 = filled-short 128 (p ++ b) (omega arith) ∙ rw lpb in
     let g : p ++ b ≡ s ++ ((128 ∷ []) ++ (replicate (at - 1 - r) 0 ++ b)) = append-assoc s ((128 ∷ []) ++ replicate (at - 1 - r) 0) b in
     ap (λ (x : List ℕ). sets x at b) u ∙ v ∙ ap (λ (x : List ℕ). x ++ b ++ drop (at + length b) q) w ∙ ap (λ (x : List ℕ). p ++ b ++ x) m ∙ sym f
     ∙ ap (λ (x : List ℕ). filled 128 x) g
+
+-- what the stores of s, of the byte 128 and of the length leave
+pub ends : (s o : List ℕ) (n at : ℕ) {bits : ℕ} → length s ≡ n % 64 → n % 64 < at → at + 8 ≤ 128 → zeros n ≡ at - 1 - n % 64 → bits ≡ n * 8
+    → o ≡ sets (replicate 128 0) 0 s → sets (set o (n % 64) 128) at (bytesOf 8 bits) ≡ filled 128 (s ++ padding n)
+unfolding padding
+ends s o n at {bits} l h k z b e =
+    let c : bits ≡ 8 * n = omega arith in
+    let f : o ≡ s ++ replicate (128 - n % 64) 0 = e ∙ stored 128 s (omega arith) ∙ ap (λ (i : ℕ). s ++ replicate (128 - i) 0) l in
+    rw (f, c, z) (ended-at s (bytesOf 8 (8 * n)) (n % 64) at l h k (length-bytesOf 8 (8 * n)))
+
+-- the same, from the call that writes the length
+pub ends-written : (s o t : List ℕ) (n at bits : ℕ) → length s ≡ n % 64 → n % 64 < at → at + 8 ≤ 128 → zeros n ≡ at - 1 - n % 64 → bits ≡ n * 8
+    → o ≡ sets (replicate 128 0) 0 s → t ≡ written 8 (set o (n % 64) 128) at bits → t ≡ filled 128 (s ++ padding n)
+ends-written s o t n at bits l h k z b e w =
+    let m : length (set o (n % 64) 128) ≡ 128 = length-set o (n % 64) 128 ∙ ap length e ∙ length-sets (replicate 128 0) 0 s ∙ length-replicate {A = ℕ} 128 0 in
+    let f : fits 8 (set o (n % 64) 128) at ≡ true = le-leb (at + 8) (length (set o (n % 64) 128)) (omega arith) in
+    w ∙ ap (λ (x : Bool). cond x (sets (set o (n % 64) 128) at (bytesOf 8 bits)) (set o (n % 64) 128)) f ∙ ends s o n at l h k z b e
