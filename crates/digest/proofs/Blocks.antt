@@ -1,12 +1,12 @@
 -- The fold over blocks, for any function of a block: what a message's parts leave is what the whole leaves. Assumes nothing.
 use mathlib.Core.Path.{_≡_, refl, sym, ap, _∙_}
-use mathlib.Core.List.{List, [], _∷_, _++_, append-assoc}
+use mathlib.Core.List.{List, [], _++_}
 use Prim.Native.Nat.{ℕ, zero, suc, _+_, _-_, _*_, _/_, _%_, _≤_, _<_}
 use native.Mathlib.Nat.{add-zero}
 use native.Mathlib.Numerals.{add-one}
 use native.Mathlib.Omega.{arith}
-use lib.ListN.{length, take, drop, replicate, length-append, length-take, length-drop, length-replicate, take-append-drop, drop-of-length-le}
-use lib.Seq.{length-take-le, take-all, take-take, take-at, drop-at, take-append-le, drop-append-le, drop-append-add, drop-drop}
+use lib.ListN.{length, take, drop, replicate, length-append, length-drop, take-append-drop, drop-of-length-le}
+use lib.Seq.{length-take-le, take-all, take-take, take-at, take-append-le, drop-append-le, drop-append-add, drop-drop}
 use Rattle.digest.specs.Message.{zeros, padding, pad, folded, hashed, rest, filled}
 use Rattle.digest.proofs.Stores.{filled-short, filled-whole, length-padding}
 
@@ -147,7 +147,8 @@ module _ {H : Type 0} (compress : H → List ℕ → H) where
   part-first h s l k a b c =
       let n : 64 ≤ length (s ++ l) = omega (arith, length-append s l) in
       let i : 64 ≡ length s + (64 - k) = omega arith in
-      let d : drop 64 (s ++ l) ≡ drop (64 - k) l = ap (λ (j : ℕ). drop j (s ++ l)) i ∙ drop-append-add s l (64 - k) in
-      (hashed-first h (s ++ l) n ∙ ap (λ (x : List ℕ). hashed compress (compress h x) (drop 64 (s ++ l))) (sym (filled-whole 64 (s ++ l) n))
-       ∙ ap (hashed compress (compress h (filled 64 (s ++ l)))) d,
-       rest-first (s ++ l) n ∙ ap rest d)
+      let d : drop 64 (s ++ l) ≡ drop (64 - k) l = ap (λ (j : ℕ). drop j (s ++ l)) i ∙ drop-append-add s l (64 - k) in (
+        hashed-first h (s ++ l) n ∙ ap (λ (x : List ℕ). hashed compress (compress h x) (drop 64 (s ++ l))) (sym (filled-whole 64 (s ++ l) n))
+            ∙ ap (hashed compress (compress h (filled 64 (s ++ l)))) d,
+        rest-first (s ++ l) n ∙ ap rest d,
+      )

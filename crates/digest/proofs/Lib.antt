@@ -3,3 +3,4 @@ pub mod Bits
 pub mod Stores
 pub mod Blocks
 pub mod Words
+pub mod Determined

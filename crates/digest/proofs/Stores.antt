@@ -1,13 +1,12 @@
 -- Bytes stored into zeros: the block that is kept between two parts, and the last blocks with their padding. Assumes nothing.
-use mathlib.Core.Path.{_≡_, refl, sym, ap, _∙_}
+use mathlib.Core.Path.{_≡_, sym, ap, _∙_}
 use mathlib.Core.Bool.{Bool, true, cond}
 use mathlib.Core.List.{List, [], _∷_, _++_, append-assoc}
-use Prim.Native.Nat.{ℕ, zero, suc, _+_, _-_, _*_, _/_, _%_, _≤_, _<_, min}
-use native.Mathlib.Nat.{add-zero}
+use Prim.Native.Nat.{ℕ, zero, suc, _+_, _-_, _*_, _%_, _≤_, _<_, min}
 use native.Mathlib.Numerals.{add-one}
 use native.Mathlib.Omega.{arith}
-use lib.ListN.{length, take, drop, getD, set, replicate, length-append, length-take, length-drop, length-replicate, length-set, replicate-append-replicate, drop-of-length-le}
-use lib.Seq.{sets, sets-eq, length-sets, paste, paste-zero, paste-suc, take-length, take-all, take-nil, take-at, drop-at, set-at, take-append-le, drop-drop, drop-cons}
+use lib.ListN.{length, take, drop, getD, set, replicate, length-append, length-take, length-replicate, length-set, replicate-append-replicate}
+use lib.Seq.{sets, sets-eq, length-sets, paste, paste-suc, take-length, take-all, take-at, drop-at, set-at, take-append-le, drop-drop}
 use borrow.Author.Tests.{le-leb}
 use Rattle.refusal.specs.BigEndian.{bytesOf, fits, written}
 use Rattle.refusal.proofs.Bytes.{length-bytesOf}
@@ -77,7 +76,7 @@ gathers n a b x y o o′ {i} {j} p q s t u v =
     let ey : y ≡ take (n - length a) b = t ∙ ap (λ (m : ℕ). take m b) q ∙ take-least (n - i) b ∙ ap (λ (m : ℕ). take m b) k in
     let lx : 0 + length x ≡ i = ap (λ (z : List ℕ). 0 + length z) s ∙ l in
     let e : sets (sets (replicate n 0) 0 x) i y ≡ sets (replicate n 0) 0 (x ++ y) =
-        ap (λ (m : ℕ). sets (sets (replicate n 0) 0 x) m y) (sym lx) ∙ sym (sets-append (replicate n 0) 0 x y) in
+    ap (λ (m : ℕ). sets (sets (replicate n 0) 0 x) m y) (sym lx) ∙ sym (sets-append (replicate n 0) 0 x y) in
     let f : x ++ y ≡ take n (a ++ b) = ap (λ (z : List ℕ). z ++ y) ex ∙ ap (λ (z : List ℕ). take n a ++ z) ey ∙ sym (take-append n a b) in
     v ∙ ap (λ (z : List ℕ). sets z i y) u ∙ e ∙ ap (λ (z : List ℕ). sets (replicate n 0) 0 z) f ∙ stored-filled n (a ++ b)
 
@@ -122,8 +121,8 @@ ended-at s b r at e h k l =
     let w : take at q ≡ p = take-at p (replicate (128 - at) 0) at lp in
     let z : 128 - at - 8 ≡ 128 - (at + 8) = omega arith in
     let m : drop (at + length b) q ≡ replicate (128 - (at + 8)) 0 =
-        ap (λ (i : ℕ). drop i q) lb ∙ sym (drop-drop 8 at q) ∙ ap (λ (x : List ℕ). drop 8 x) (drop-at p (replicate (128 - at) 0) at lp)
-        ∙ drop-zeros 8 (128 - at) (omega arith) ∙ ap (λ (i : ℕ). replicate i 0) z in
+    ap (λ (i : ℕ). drop i q) lb ∙ sym (drop-drop 8 at q) ∙ ap (λ (x : List ℕ). drop 8 x) (drop-at p (replicate (128 - at) 0) at lp)
+    ∙ drop-zeros 8 (128 - at) (omega arith) ∙ ap (λ (i : ℕ). replicate i 0) z in
     let f : filled 128 (p ++ b) ≡ (p ++ b) ++ replicate (128 - (at + 8)) 0 = filled-short 128 (p ++ b) (omega arith) ∙ rw lpb in
     let g : p ++ b ≡ s ++ ((128 ∷ []) ++ (replicate (at - 1 - r) 0 ++ b)) = append-assoc s ((128 ∷ []) ++ replicate (at - 1 - r) 0) b in
     ap (λ (x : List ℕ). sets x at b) u ∙ v ∙ ap (λ (x : List ℕ). x ++ b ++ drop (at + length b) q) w ∙ ap (λ (x : List ℕ). p ++ b ++ x) m ∙ sym f

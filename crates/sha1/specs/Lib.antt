@@ -1,0 +1,4 @@
+pub mod Sha1
+pub mod Digest
+pub mod Parts
+pub mod Example
