@@ -1,8 +1,10 @@
 // The library that C links: each call answers a number, 0 for what is taken or else the refusal's, and leaves what else it says in what is lent.
 ghost use mathlib.Core.Path.{_≡_};
 ghost use Rattle.bencode.specs.Answers.{paper, checkOf};
+ghost use Rattle.sha1.specs.Digest.{paper as hashedPaper, digestOf};
 ghost use Rattle.wardrail.specs.Said.{numberOf, detailOf};
 use bencode::Checked;
+use sha1::Hashed;
 
 // Whether a text is one value that keeps the limits. `detail` becomes its count of values, or the refusal's place.
 #[no_mangle]
@@ -14,7 +16,24 @@ pub extern "C" fn wardrail_check(text: &[u8], detail: &mut u64) -> u64
     check_number(c)
 }
 
+// Writes the SHA-1 digest of at most 16,777,216 bytes; a refusal leaves `digest` as it was.
+#[no_mangle]
+pub extern "C" fn wardrail_sha1(message: &[u8], digest: &mut [u8; 20]) -> u64
+    ensures { λ r. ⌜ (r ≡ numberOf (digestOf (now (message .entry)) (now (digest .entry)) .answer)) × (now (digest .exit) ≡ digestOf (now (message .entry)) (now (digest .entry)) .out) ⌝ }
+{
+    hashed_number(sha1::digest(message, digest))
+}
+
 // The number of an answer.
+fn hashed_number(h: Hashed) -> u64
+    ensures { λ r. ⌜ r ≡ numberOf (hashedPaper h) ⌝ }
+{
+    match h {
+        Hashed::Written => 0,
+        Hashed::Refused(r) => r.number as u64,
+    }
+}
+
 fn check_number(c: Checked) -> u64
     ensures { λ r. ⌜ r ≡ numberOf (paper c) ⌝ }
 {
