@@ -97,7 +97,10 @@ pub fn byte(lengths: &[u64], piece_length: u64, file: usize, offset: u64) -> Pla
         return nowhere(number::OUTSIDE);
     }
     let place = in_file(at, offset);
-    Place::At(piece_number(piece_length, place), piece_offset(piece_length, place))
+    Place::At(
+        piece_number(piece_length, place),
+        piece_offset(piece_length, place),
+    )
 }
 
 // The length of a piece: the piece length, and less where the last is short. One pass over the lengths.
@@ -188,6 +191,7 @@ fn held(total: Total, piece_length: u64, piece: PieceNumber) -> u64
     smaller(piece_length, total.0 - piece.0 as u64 * piece_length)
 }
 
+// Whether a block of so many bytes may be, and its last byte lies within its piece.
 fn lies_within(held: u64, offset: PieceOffset, count: u32) -> bool
     ensures { λ r. ⌜ r ≡ lies held (offset .0) count ⌝ }
 {
@@ -197,7 +201,11 @@ fn lies_within(held: u64, offset: PieceOffset, count: u32) -> bool
     if limit::BLOCK < count as usize {
         return false;
     }
-    offset.0 as u64 + count as u64 <= held
+    let last = offset.0 as u64 + (count as u64 - 1);
+    if held <= last {
+        return false;
+    }
+    true
 }
 
 // The first file that reaches past `from`, or the end of all. None before it has bytes from there on.
@@ -276,7 +284,7 @@ fn write(lengths: &[u64], first: File, from: ContentOffset, to: ContentOffset, o
         let low = larger(from.0, start.0);
         let high = smaller(to.0, end.0);
         if low < high {
-            put(out, at, i, low - start.0, high - low);
+            put(out, at, i, start, low, high);
             at += 3;
         }
         start = end;
@@ -284,14 +292,14 @@ fn write(lengths: &[u64], first: File, from: ContentOffset, to: ContentOffset, o
     }
 }
 
-// One part.
-fn put(out: &mut [u64], at: usize, file: usize, offset: u64, count: u64)
-    requires { ⌜ at + 3 ≤ length (now out) ⌝ }
-    ensures { λ _. ⌜ now (out .exit) ≡ sets (now (out .entry)) at (file ∷ offset ∷ count ∷ []) ⌝ }
+// One part: low..high of a file that starts at `start`.
+fn put(out: &mut [u64], at: usize, file: usize, start: Total, low: u64, high: u64)
+    requires { ⌜ (at + 3 ≤ length (now out)) × (start .0 ≤ low) × (low ≤ high) ⌝ }
+    ensures { λ _. ⌜ now (out .exit) ≡ sets (now (out .entry)) at (file ∷ (low - start .0) ∷ (high - low) ∷ []) ⌝ }
 {
     out[at] = file as u64;
-    out[at + 1] = offset;
-    out[at + 2] = count;
+    out[at + 1] = low - start.0;
+    out[at + 2] = high - low;
 }
 
 // Where a file starts, or the end of all if there is none of that number.

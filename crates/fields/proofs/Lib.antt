@@ -1,0 +1,6 @@
+-- What the proofs of several functions and crates use.
+pub mod Looking
+pub mod Fitting
+pub mod Standing
+pub mod Seeking
+pub mod Determined

@@ -1,0 +1,37 @@
+-- Two answers that a contract permits for one text are the same: document 01's words tell the answers apart. Assumes nothing.
+use mathlib.Core.Path.{_≡_, refl, sym, ap, _∙_}
+use mathlib.Core.List.{List}
+use Prim.Native.Nat.{ℕ}
+use Rattle.refusal.specs.Paper.{Outcome, taken, refused}
+use Rattle.metainfo.specs.declared.Torrent.{Torrent}
+use Rattle.metainfo.specs.declared.File.{File}
+use Rattle.metainfo.specs.declared.Reading.{Reading}
+use Rattle.metainfo.specs.declared.Reading.the-variants.{Read, Refused}
+use Rattle.metainfo.specs.declared.Filed.{Filed}
+use Rattle.metainfo.specs.declared.Filed.the-variants.{Is, Not}
+use Rattle.metainfo.specs.Reading.{paper, readOf, filePaper, fileAt}
+
+-- the way back
+abbrev readingAs : Outcome Torrent → Reading
+readingAs (taken t) = Read t
+readingAs (refused n p) = Refused (record { number = n; place = p })
+
+abbrev filedAs : Outcome File → Filed
+filedAs (taken f) = Is f
+filedAs (refused n p) = Not (record { number = n; place = p })
+
+reading-again : (r : Reading) → readingAs (paper r) ≡ r
+reading-again (Read t) = refl
+reading-again (Refused r) = refl
+
+filed-again : (r : Filed) → filedAs (filePaper r) ≡ r
+filed-again (Is f) = refl
+filed-again (Not r) = refl
+
+-- read
+pub read-determined : (s : List ℕ) (r t : Reading) → paper r ≡ readOf s → paper t ≡ readOf s → r ≡ t
+read-determined s r t e f = sym (reading-again r) ∙ ap readingAs (e ∙ sym f) ∙ reading-again t
+
+-- file_at
+pub file-determined : (s : List ℕ) (p : ℕ) (r t : Filed) → filePaper r ≡ fileAt s p → filePaper t ≡ fileAt s p → r ≡ t
+file-determined s p r t e f = sym (filed-again r) ∙ ap filedAs (e ∙ sym f) ∙ filed-again t

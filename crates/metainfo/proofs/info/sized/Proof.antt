@@ -1,0 +1,74 @@
+use borrow.Author.Needs.{needs}
+use Rattle.blocks.specs.Rules.{piecesOf}
+use Rattle.metainfo.specs.Reading.{paper}
+use Rattle.metainfo.proofs.Sizing.{few-pieces, sized-many, sized-total, sized-wrong, sized-right, sized-stopped, piece-good, piece-bad, piece-not, piece-legal}
+use native.Mathlib.Omega.{arith}
+use mathlib.Core.Path.{_≡_, refl, sym, ap, _∙_, subst}
+use Rattle.metainfo.proofs.info.sized.Statement.{statement}
+use Rattle.metainfo.proofs.info.sized.Tie as tie
+use Rattle.metainfo.proofs.info.sized.Reads as reads
+use Rattle.metainfo.proofs.info.sized.Lts as lts
+use Rattle.blocks.proofs.rules.legal_file_count.Reads as legal-file-count-reads
+use Rattle.blocks.proofs.rules.legal_total.Reads as legal-total-reads
+use Rattle.blocks.proofs.rules.pieces.Reads as pieces-reads
+use Rattle.metainfo.proofs.info.refused.Reads as refused-reads
+
+-- src/info.rt:95:8
+legal-file-count-requires : tie.Need-legal-file-count-requires
+legal-file-count-requires c κs = search needs
+
+-- src/info.rt:96:12
+legal-total-requires : tie.Need-legal-total-requires
+legal-total-requires c κs = search needs
+
+-- src/info.rt:97:17
+pieces-requires : tie.Need-pieces-requires
+pieces-requires c κs = search needs
+
+-- src/info.rt:98:37
+mul-if3 : tie.Need-mul-if3
+mul-if3 c = record { fits = omega (arith, few-pieces (c .before .before .before .before .before .args .c .total) (piecesOf (c .before .before .before .before .before .args .c .total) (c .before .before .before .before .before .args .piece-length)) (sym (c .before .before .legal-total .ensures) ∙ c .before .if2 .taken), c .pieces .ensures) }
+
+-- src/info.rt:99:17
+returns : tie.Need-returns
+returns c = sized-right (c .before .before .before .before .before .before .args .announce) (c .before .before .before .before .before .before .args .info) (c .before .before .before .before .before .before .args .name) (c .before .before .before .before .before .before .args .pieces) (c .before .before .before .before .before .before .args .place) (c .before .before .before .before .before .before .args .piece-length) (c .before .before .before .before .before .before .args .c) (sym (c .before .before .before .before .before .legal-file-count .ensures) ∙ c .before .before .before .before .if1 .taken) (sym (c .before .before .before .legal-total .ensures) ∙ c .before .before .if2 .taken) (c .before .pieces .result) (c .before .pieces .ensures) (omega arith)
+
+-- src/info.rt:109:13
+refused-requires : tie.Need-refused-requires
+refused-requires c κs = search needs
+
+-- src/info.rt:109:13
+returns-2 : tie.Need-returns-2
+returns-2 c = ap paper (c .refused .ensures) ∙ sized-wrong (c .before .before .before .before .before .before .before .args .announce) (c .before .before .before .before .before .before .before .args .info) (c .before .before .before .before .before .before .before .args .name) (c .before .before .before .before .before .before .before .args .pieces) (c .before .before .before .before .before .before .before .args .place) (c .before .before .before .before .before .before .before .args .piece-length) (c .before .before .before .before .before .before .before .args .c) (sym (c .before .before .before .before .before .before .legal-file-count .ensures) ∙ c .before .before .before .before .before .if1 .taken) (sym (c .before .before .before .before .legal-total .ensures) ∙ c .before .before .before .if2 .taken) (c .before .before .pieces .result) (c .before .before .pieces .ensures) (omega arith)
+
+-- src/info.rt:111:9
+refused-requires-2 : tie.Need-refused-requires-2
+refused-requires-2 c κs = search needs
+
+-- src/info.rt:111:9
+returns-3 : tie.Need-returns-3
+returns-3 c = ap paper (c .refused2 .ensures) ∙ sized-total (c .before .before .before .before .before .args .announce) (c .before .before .before .before .before .args .info) (c .before .before .before .before .before .args .name) (c .before .before .before .before .before .args .pieces) (c .before .before .before .before .before .args .place) (c .before .before .before .before .before .args .piece-length) (c .before .before .before .before .before .args .c) (sym (c .before .before .before .before .legal-file-count .ensures) ∙ c .before .before .before .if1 .taken) (sym (c .before .before .legal-total .ensures) ∙ c .before .if2 .left)
+
+-- src/info.rt:113:5
+refused-requires-3 : tie.Need-refused-requires-3
+refused-requires-3 c κs = search needs
+
+-- src/info.rt:92:1
+returns-4 : tie.Need-returns-4
+returns-4 c = ap paper (c .refused3 .ensures) ∙ sized-many (c .before .before .before .args .announce) (c .before .before .before .args .info) (c .before .before .before .args .name) (c .before .before .before .args .pieces) (c .before .before .before .args .place) (c .before .before .before .args .piece-length) (c .before .before .before .args .c) (sym (c .before .before .legal-file-count .ensures) ∙ c .before .if1 .left)
+
+pub sized-spec : {M : Type 1} → statement M
+sized-spec =
+    tie.close
+    (tie.spec
+    legal-file-count-requires
+    legal-total-requires
+    pieces-requires
+    mul-if3
+    returns
+    refused-requires
+    returns-2
+    refused-requires-2
+    returns-3
+    refused-requires-3
+    returns-4)

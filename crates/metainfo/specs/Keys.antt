@@ -1,0 +1,77 @@
+-- The keys that torrents have, byte by byte, and what a search for one tells. Assumes nothing: these are definitions.
+use mathlib.Core.Path.{_≡_}
+use mathlib.Core.List.{List, [], _∷_}
+use Prim.Native.Nat.{ℕ, suc}
+use lib.ListN.{length}
+use Rattle.refusal.specs.Paper.{Outcome}
+use Rattle.bencode.specs.Value.{Value}
+use Rattle.walk.specs.Walk.{Hit, seekPaper, seekOf}
+use Rattle.walk.specs.Stands.{Stands}
+use Rattle.walk.specs.Lookup.{Under, nothing, under}
+use Rattle.walk.specs.declared.Sought.{Sought}
+use Rattle.walk.specs.declared.Sought.the-variants.{Found, Missing, Unread}
+use Rattle.metainfo.specs.declared.Known.{Known}
+
+-- announce
+abbrev pub announceKey : List ℕ
+announceKey = 97 ∷ 110 ∷ 110 ∷ 111 ∷ 117 ∷ 110 ∷ 99 ∷ 101 ∷ []
+
+-- info
+abbrev pub infoKey : List ℕ
+infoKey = 105 ∷ 110 ∷ 102 ∷ 111 ∷ []
+
+-- files
+abbrev pub filesKey : List ℕ
+filesKey = 102 ∷ 105 ∷ 108 ∷ 101 ∷ 115 ∷ []
+
+-- length
+abbrev pub lengthKey : List ℕ
+lengthKey = 108 ∷ 101 ∷ 110 ∷ 103 ∷ 116 ∷ 104 ∷ []
+
+-- name
+abbrev pub nameKey : List ℕ
+nameKey = 110 ∷ 97 ∷ 109 ∷ 101 ∷ []
+
+-- path
+abbrev pub pathKey : List ℕ
+pathKey = 112 ∷ 97 ∷ 116 ∷ 104 ∷ []
+
+-- piece length
+abbrev pub pieceLengthKey : List ℕ
+pieceLengthKey = 112 ∷ 105 ∷ 101 ∷ 99 ∷ 101 ∷ 32 ∷ 108 ∷ 101 ∷ 110 ∷ 103 ∷ 116 ∷ 104 ∷ []
+
+-- pieces
+abbrev pub piecesKey : List ℕ
+piecesKey = 112 ∷ 105 ∷ 101 ∷ 99 ∷ 101 ∷ 115 ∷ []
+
+-- a search tells of what is under its key: the place where the value stands, or that there is none
+abbrev pub Tells : List ℕ → ℕ → Under → Sought → Type 0
+Tells s d (under q v) (Found p r) = (r ≡ q) × Stands s d q v
+Tells s d (under q v) (Missing p) = ⊥
+Tells s d (under q v) (Unread r) = ⊥
+Tells s d nothing (Found p r) = ⊥
+Tells s d nothing (Missing p) = Unit
+Tells s d nothing (Unread r) = ⊥
+
+-- where a search stopped: a later key is sought from there on
+abbrev pub stopOf : Sought → ℕ
+stopOf (Found p q) = p
+stopOf (Missing p) = p
+stopOf (Unread r) = r .place
+
+-- the place of the value that was found
+abbrev pub valueOf : Sought → ℕ
+valueOf (Found p q) = q
+valueOf (Missing p) = 0
+valueOf (Unread r) = 0
+
+abbrev pub soughtFrom : List ℕ → ℕ → List ℕ → Outcome Hit
+soughtFrom s p k = seekOf (suc (length s)) s p k
+
+-- one pass over info's entries, of which the first stands at p: each key is sought from where the one before it stopped
+pub record Noted (s : List ℕ) (p : ℕ) (k : Known) : Type 0 where
+  pub files : seekPaper (k .files) ≡ soughtFrom s p filesKey
+  pub length : seekPaper (k .length) ≡ soughtFrom s (stopOf (k .files)) lengthKey
+  pub name : seekPaper (k .name) ≡ soughtFrom s (stopOf (k .length)) nameKey
+  pub piece : seekPaper (k .«piece_length») ≡ soughtFrom s (stopOf (k .name)) pieceLengthKey
+  pub pieces : seekPaper (k .pieces) ≡ soughtFrom s (stopOf (k .«piece_length»)) piecesKey

@@ -1,0 +1,7 @@
+-- What the proofs of several functions use, and the laws of replies.
+pub mod Steps
+pub mod Agreeing
+pub mod Walking
+pub mod Determined
+pub mod Holding
+pub mod Exact

@@ -1,0 +1,6 @@
+pub mod Keys
+pub mod Entries
+pub mod Reply
+pub mod Reading
+pub mod Walks
+pub mod Exact

@@ -1,0 +1,72 @@
+// Entries of six bytes: four of address and two of port, the most significant first.
+ghost use mathlib.Core.Path.{_≡_};
+ghost use Prim.Native.Nat.{_+_, _*_, _≤_};
+ghost use lib.ListN.{length, getD};
+ghost use Rattle.tracker.specs.Entries.{packedOf, packedPaper, packedAt};
+use refusal::Refusal;
+use refusal::number;
+
+pub struct Address(pub u8, pub u8, pub u8, pub u8);
+
+pub struct Packed {
+    pub address: Address,
+    pub port: u64,
+}
+
+// An entry and the place past it.
+pub enum Packing {
+    Is(Packed, usize),
+    Not(Refusal),
+}
+
+// The entry that begins at a place.
+pub fn packed_at(text: &[u8], at: usize) -> Packing
+    ensures { λ r. ⌜ packedPaper r ≡ packedAt (now (text .entry)) at ⌝ }
+{
+    if text.len() < 6 {
+        return cut(text.len());
+    }
+    if text.len() - 6 < at {
+        return cut(text.len());
+    }
+    Packing::Is(six(text, at), at + 6)
+}
+
+// Entry number n of those from a place on.
+pub fn nth(text: &[u8], first: usize, n: usize) -> Packing
+    ensures { λ r. ⌜ packedPaper r ≡ packedAt (now (text .entry)) (first + n * 6) ⌝ }
+{
+    if text.len() / 6 <= n {
+        return cut(text.len());
+    }
+    let skipped = n * 6;
+    if text.len() - skipped < first {
+        return cut(text.len());
+    }
+    packed_at(text, first + skipped)
+}
+
+fn six(text: &[u8], at: usize) -> Packed
+    requires { ⌜ at + 6 ≤ length (now text) ⌝ }
+    ensures { λ r. ⌜ r ≡ packedOf (getD (now (text .entry)) at 0) (getD (now (text .entry)) (at + 1) 0) (getD (now (text .entry)) (at + 2) 0) (getD (now (text .entry)) (at + 3) 0) (getD (now (text .entry)) (at + 4) 0) (getD (now (text .entry)) (at + 5) 0) ⌝ }
+{
+    Packed {
+        address: Address(text[at], text[at + 1], text[at + 2], text[at + 3]),
+        port: port(text[at + 4], text[at + 5]),
+    }
+}
+
+fn port(high: u8, low: u8) -> u64
+    ensures { λ r. ⌜ r ≡ high * 256 + low ⌝ }
+{
+    (high as u64) * 256 + low as u64
+}
+
+fn cut(place: usize) -> Packing
+    ensures { λ r. ⌜ r ≡ Packing.Not (record { number = 1; place = place }) ⌝ }
+{
+    Packing::Not(Refusal {
+        number: number::CUT,
+        place,
+    })
+}

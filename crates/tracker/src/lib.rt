@@ -1,0 +1,194 @@
+// Tracker replies by document 01: read, asked for an entry, and walked; and compact ones written.
+ghost use mathlib.Core.Path.{_≡_};
+ghost use Rattle.refusal.specs.Numbers.{beyond};
+ghost use Rattle.refusal.specs.Paper.{then, map};
+ghost use Rattle.fields.specs.Looks.{dictionaryOf};
+ghost use Rattle.tracker.specs.Reply.{counted, replyOf, nthOf, compact, listing};
+ghost use Rattle.tracker.specs.Reading.{paper, peerPaper, wholeOf, topOf, failureOf, answeredOf, peersOf, compactOf, listingOf, entryAt};
+use bencode::Checked;
+use compact::Packed;
+use compact::Packing;
+use fields::Bytes;
+use fields::Inside;
+use fields::Natural;
+use listed::Counted;
+use listed::Listed;
+use listed::Listing;
+use refusal::Refusal;
+use refusal::limit;
+use refusal::number;
+use walk::Part;
+use walk::Seen;
+use walk::Sought;
+
+pub mod compact;
+pub mod listed;
+
+// What a reply that is no failure says: the seconds to wait, how many entries there are, and where the first stands.
+pub struct Peers {
+    pub interval: u64,
+    pub count: usize,
+    pub first: usize,
+}
+
+pub enum Reply {
+    // The bytes of the failure reason.
+    Failure(Part),
+    // Entries of six bytes.
+    Compact(Peers),
+    // Dictionaries of a list.
+    List(Peers),
+    Refused(Refusal),
+}
+
+pub enum Found {
+    Packed(Packed),
+    Listed(Listed),
+    Refused(Refusal),
+}
+
+// The reply that a text is.
+pub fn read(text: &[u8]) -> Reply
+    ensures { λ r. ⌜ paper r ≡ map counted (replyOf (now (text .entry))) ⌝ }
+{
+    match bencode::check(text) {
+        Checked::Taken(_) => whole(text),
+        Checked::Refused(r) => Reply::Refused(r),
+    }
+}
+
+// Entry number n of the reply that a text is.
+pub fn peer(text: &[u8], n: usize) -> Found
+    ensures { λ r. ⌜ peerPaper r ≡ then (replyOf (now (text .entry))) (nthOf n) ⌝ }
+{
+    match read(text) {
+        Reply::Failure(_) => no_peer(),
+        Reply::Compact(p) => packed_peer(text, p, n),
+        Reply::List(p) => listed_peer(text, p, n),
+        Reply::Refused(r) => Found::Refused(r),
+    }
+}
+
+fn whole(text: &[u8]) -> Reply
+    ensures { λ r. ⌜ paper r ≡ wholeOf (now (text .entry)) ⌝ }
+{
+    match fields::dictionary_at(text, 0) {
+        Inside::At(first) => top(text, first),
+        Inside::None(r) => Reply::Refused(r),
+    }
+}
+
+// A failure reason is the whole answer.
+fn top(text: &[u8], first: usize) -> Reply
+    ensures { λ r. ⌜ paper r ≡ topOf (now (text .entry)) first ⌝ }
+{
+    match walk::seek(text, first, b"failure reason") {
+        Sought::Found(_, value) => failure(text, value),
+        Sought::Missing(at) => answered(text, at),
+        Sought::Unread(r) => Reply::Refused(r),
+    }
+}
+
+fn failure(text: &[u8], at: usize) -> Reply
+    ensures { λ r. ⌜ paper r ≡ failureOf (now (text .entry)) at ⌝ }
+{
+    match fields::string_at(text, at) {
+        Bytes::Are(reason) => Reply::Failure(reason),
+        Bytes::Unread(r) => Reply::Refused(r),
+    }
+}
+
+fn answered(text: &[u8], at: usize) -> Reply
+    ensures { λ r. ⌜ paper r ≡ answeredOf (now (text .entry)) at ⌝ }
+{
+    let intervals = walk::seek(text, at, b"interval");
+    let peers = fields::seek_after(text, intervals, b"peers");
+    match fields::natural_under(text, 0, intervals, limit::INTERVAL as u64) {
+        Natural::Is(interval) => match peers {
+            Sought::Found(_, value) => peers_at(text, value, interval),
+            Sought::Missing(_) => refused(number::KIND, 0),
+            Sought::Unread(r) => Reply::Refused(r),
+        },
+        Natural::Not(r) => Reply::Refused(r),
+    }
+}
+
+fn peers_at(text: &[u8], at: usize, interval: u64) -> Reply
+    ensures { λ r. ⌜ paper r ≡ peersOf (now (text .entry)) interval at ⌝ }
+{
+    match walk::look(text, at) {
+        Seen::String(p, _) => packed_peers(p, at, interval),
+        Seen::List(first) => listed_peers(text, first, interval),
+        Seen::Refused(r) => Reply::Refused(r),
+        Seen::Integer(_, _) => refused(number::KIND, at),
+        Seen::Long(_, _) => refused(number::KIND, at),
+        Seen::Dictionary(_) => refused(number::KIND, at),
+        Seen::End(_) => refused(number::KIND, at),
+    }
+}
+
+fn packed_peers(p: Part, at: usize, interval: u64) -> Reply
+    ensures { λ r. ⌜ paper r ≡ compactOf interval at (p .from) (p .len) ⌝ }
+{
+    let len = p.len;
+    if len % 6 == 0 {
+        return Reply::Compact(Peers {
+            interval,
+            count: len / 6,
+            first: p.from,
+        });
+    }
+    refused(number::PEER, at)
+}
+
+fn listed_peers(text: &[u8], first: usize, interval: u64) -> Reply
+    ensures { λ r. ⌜ paper r ≡ listingOf (now (text .entry)) interval first ⌝ }
+{
+    match listed::count(text, first) {
+        Counted::Of(count) => Reply::List(Peers {
+            interval,
+            count,
+            first,
+        }),
+        Counted::Bad(r) => Reply::Refused(r),
+    }
+}
+
+fn packed_peer(text: &[u8], p: Peers, n: usize) -> Found
+    ensures { λ r. ⌜ peerPaper r ≡ entryAt (now (text .entry)) n (compact (p .interval) (p .first) (p .count)) ⌝ }
+{
+    if p.count <= n {
+        return no_peer();
+    }
+    match compact::nth(text, p.first, n) {
+        Packing::Is(x, _) => Found::Packed(x),
+        Packing::Not(r) => Found::Refused(r),
+    }
+}
+
+fn listed_peer(text: &[u8], p: Peers, n: usize) -> Found
+    ensures { λ r. ⌜ peerPaper r ≡ entryAt (now (text .entry)) n (listing (p .interval) (p .first) (p .count)) ⌝ }
+{
+    if p.count <= n {
+        return no_peer();
+    }
+    match listed::nth(text, p.first, n) {
+        Listing::Is(x, _) => Found::Listed(x),
+        Listing::Not(r) => Found::Refused(r),
+    }
+}
+
+fn refused(number: u8, place: usize) -> Reply
+    ensures { λ r. ⌜ r ≡ Reply.Refused (record { number = number; place = place }) ⌝ }
+{
+    Reply::Refused(Refusal { number, place })
+}
+
+fn no_peer() -> Found
+    ensures { λ r. ⌜ r ≡ Found.Refused (record { number = beyond; place = 0 }) ⌝ }
+{
+    Found::Refused(Refusal {
+        number: number::BEYOND,
+        place: 0,
+    })
+}

@@ -1,0 +1,151 @@
+// Entries that are dictionaries of a list: peer id, ip and port.
+ghost use mathlib.Core.Path.{_≡_};
+ghost use Prim.Native.Nat.{ℕ, suc};
+ghost use lib.ListN.{length};
+ghost use Rattle.refusal.specs.Numbers.{peer};
+ghost use Rattle.walk.specs.Walk.{seekPaper};
+ghost use Rattle.fields.specs.Looks.{needed, stringPaper};
+ghost use Rattle.tracker.specs.Entries.{idOf, listedPaper, peerBy, pastPeer, listedAt, countPaper, countFrom, nthAt};
+use fields::Bytes;
+use fields::Inside;
+use fields::Natural;
+use refusal::Refusal;
+use refusal::limit;
+use refusal::number;
+use walk::Part;
+use walk::Past;
+use walk::Sought;
+
+pub struct Listed {
+    pub id: Part,
+    pub ip: Part,
+    pub port: u64,
+}
+
+// An entry and the place past it.
+pub enum Listing {
+    Is(Listed, usize),
+    Not(Refusal),
+}
+
+// How many entries a list has.
+pub enum Counted {
+    Of(usize),
+    Bad(Refusal),
+}
+
+// The entry whose dictionary stands at a place.
+pub fn listed_at(text: &[u8], at: usize) -> Listing
+    ensures { λ r. ⌜ listedPaper r ≡ listedAt (now (text .entry)) at ⌝ }
+{
+    match fields::dictionary_at(text, at) {
+        Inside::At(first) => peer_in(text, at, first),
+        Inside::None(r) => Listing::Not(r),
+    }
+}
+
+// The entries of a list whose first item stands at a place, up to its e.
+pub fn count(text: &[u8], first: usize) -> Counted
+    ensures { λ r. ⌜ countPaper r ≡ countFrom (suc (length (now (text .entry)))) (now (text .entry)) first ⌝ }
+{
+    let mut at = first;
+    let mut n: usize = 0;
+    while at < text.len() {
+        if text[at] == b'e' {
+            return Counted::Of(n);
+        }
+        match listed_at(text, at) {
+            Listing::Is(_, next) => {
+                at = next;
+                n += 1;
+            }
+            Listing::Not(r) => return Counted::Bad(r),
+        }
+    }
+    uncounted(text.len())
+}
+
+// Entry number n of those from a place on.
+pub fn nth(text: &[u8], first: usize, n: usize) -> Listing
+    ensures { λ r. ⌜ listedPaper r ≡ nthAt n (now (text .entry)) first ⌝ }
+{
+    let mut at = first;
+    let mut left = n;
+    while 0 < left {
+        match walk::skip(text, at) {
+            Past::To(next) => {
+                at = next;
+                left -= 1;
+            }
+            Past::Bad(r) => return Listing::Not(r),
+        }
+    }
+    listed_at(text, at)
+}
+
+// The keys are sought in the order of their bytes, and checked in document 01's order.
+fn peer_in(text: &[u8], at: usize, first: usize) -> Listing
+    ensures { λ r. ⌜ listedPaper r ≡ peerBy (now (text .entry)) at first ⌝ }
+{
+    let ips = walk::seek(text, first, b"ip");
+    let ids = fields::seek_after(text, ips, b"peer id");
+    let ports = fields::seek_after(text, ids, b"port");
+    match id_under(text, at, ids) {
+        Bytes::Are(id) => match fields::string_under(text, at, ips) {
+            Bytes::Are(ip) => match fields::natural_under(text, at, ports, limit::PORT as u64) {
+                Natural::Is(port) => past(text, at, Listed { id, ip, port }),
+                Natural::Not(r) => Listing::Not(r),
+            },
+            Bytes::Unread(r) => Listing::Not(r),
+        },
+        Bytes::Unread(r) => Listing::Not(r),
+    }
+}
+
+fn past(text: &[u8], at: usize, peer: Listed) -> Listing
+    ensures { λ r. ⌜ listedPaper r ≡ pastPeer (now (text .entry)) at peer ⌝ }
+{
+    match walk::skip(text, at) {
+        Past::To(next) => Listing::Is(peer, next),
+        Past::Bad(r) => Listing::Not(r),
+    }
+}
+
+fn id_under(text: &[u8], dictionary: usize, sought: Sought) -> Bytes
+    ensures { λ r. ⌜ stringPaper r ≡ needed dictionary (seekPaper sought) (idOf (now (text .entry))) ⌝ }
+{
+    match sought {
+        Sought::Found(_, value) => id_at(text, value),
+        Sought::Missing(_) => unread(number::KIND, dictionary),
+        Sought::Unread(r) => Bytes::Unread(r),
+    }
+}
+
+fn id_at(text: &[u8], at: usize) -> Bytes
+    ensures { λ r. ⌜ stringPaper r ≡ idOf (now (text .entry)) at ⌝ }
+{
+    match fields::string_at(text, at) {
+        Bytes::Are(id) => {
+            if id.len == 20 {
+                return Bytes::Are(id);
+            }
+            unread(number::PEER, at)
+        }
+        Bytes::Unread(r) => Bytes::Unread(r),
+    }
+}
+
+fn unread(number: u8, place: usize) -> Bytes
+    ensures { λ r. ⌜ r ≡ Bytes.Unread (record { number = number; place = place }) ⌝ }
+{
+    Bytes::Unread(Refusal { number, place })
+}
+
+fn uncounted(place: usize) -> Counted
+    ensures { λ r. ⌜ r ≡ Counted.Bad (record { number = 1; place = place }) ⌝ }
+{
+    Counted::Bad(Refusal {
+        number: number::CUT,
+        place,
+    })
+}
