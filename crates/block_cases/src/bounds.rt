@@ -27,10 +27,6 @@ fn ends(two: &[u64]) {
     block(two, 16384, 0, 1, 16383, 6);
     block(two, 16384, 0, 1, 16384, 6);
     block(two, 16384, 0, 16383, 1, 6);
-    ends_more(two);
-}
-
-fn ends_more(two: &[u64]) {
     block(two, 16384, 0, 16383, 2, 6);
     block(two, 16384, 0, 16384, 1, 6);
     block(two, 32768, 1, 16384, 16384, 6);
@@ -42,10 +38,6 @@ fn wraps(two: &[u64]) {
     block(two, 16384, 0, 4294967295, 1, 6);
     block(two, 16384, 0, 4294967295, 2, 6);
     block(two, 16384, 0, 1, 4294967295, 6);
-    wraps_more(two);
-}
-
-fn wraps_more(two: &[u64]) {
     block(two, 16384, 0, 4294967295, 4294967295, 6);
     block(two, 16384, 4294967295, 0, 1, 6);
     block(two, 16384, 4294967295, 4294967295, 4294967295, 6);
@@ -68,10 +60,6 @@ fn rooms(two: &[u64]) {
     block(two, 16384, 2, 0, 16384, 3);
     block(two, 16384, 2, 0, 16384, 5);
     block(two, 16384, 2, 0, 16384, 6);
-    rooms_more(two);
-}
-
-fn rooms_more(two: &[u64]) {
     block(two, 16384, 2, 0, 16384, 7);
     block(two, 16384, 2, 0, 7232, 3);
     block(two, 16384, 2, 0, 7232, 2);
@@ -79,10 +67,6 @@ fn rooms_more(two: &[u64]) {
 }
 
 fn bytes(two: &[u64]) {
-    bytes_bytes(two);
-}
-
-fn bytes_bytes(two: &[u64]) {
     byte(two, 16384, 0, 0);
     byte(two, 16384, 0, 39999);
     byte(two, 16384, 0, 40000);

@@ -18,13 +18,9 @@ fn ones() {
     block(&many, 16384, 0, 500, 3, 9);
     block(&many, 16384, 0, 0, 1, 3);
     block(&many, 16384, 0, 1023, 1, 3);
-    ones_bytes(&many);
-}
-
-fn ones_bytes(many: &[u64]) {
-    byte(many, 16384, 1023, 0);
-    byte(many, 16384, 1023, 1);
-    byte(many, 16384, 1024, 0);
+    byte(&many, 16384, 1023, 0);
+    byte(&many, 16384, 1023, 1);
+    byte(&many, 16384, 1024, 0);
 }
 
 // Empty files at either end.
@@ -34,14 +30,10 @@ fn ends() {
     block(&lengths, 16384, 0, 0, 1, 3);
     block(&lengths, 16384, 0, 4, 1, 3);
     block(&lengths, 16384, 0, 5, 1, 3);
-    ends_bytes(&lengths);
-}
-
-fn ends_bytes(lengths: &[u64]) {
-    byte(lengths, 16384, 0, 0);
-    byte(lengths, 16384, 3, 4);
-    byte(lengths, 16384, 5, 0);
-    byte(lengths, 16384, 6, 0);
+    byte(&lengths, 16384, 0, 0);
+    byte(&lengths, 16384, 3, 4);
+    byte(&lengths, 16384, 5, 0);
+    byte(&lengths, 16384, 6, 0);
 }
 
 // Empty files between others, also where a piece ends.
@@ -54,12 +46,8 @@ fn between() {
     block(&lengths, 32768, 0, 16384, 16384, 3);
     block(&[1, 0, 1, 0, 0, 1, 0], 16384, 0, 0, 3, 9);
     block(&[1, 0, 1, 0, 0, 1, 0], 16384, 0, 1, 2, 9);
-    between_bytes(&lengths);
-}
-
-fn between_bytes(lengths: &[u64]) {
-    byte(lengths, 16384, 5, 0);
-    byte(lengths, 32768, 5, 16383);
+    byte(&lengths, 16384, 5, 0);
+    byte(&lengths, 32768, 5, 16383);
 }
 
 // 1,023 empty files before one byte, and after it.

@@ -17,14 +17,10 @@ fn one() {
     block(&lengths, 16777216, 16383, 16760833, 16384, 3);
     block(&lengths, 16777216, 16384, 0, 1, 3);
     block(&lengths, 8388608, 0, 0, 1, 3);
-    one_bytes(&lengths);
-}
-
-fn one_bytes(lengths: &[u64]) {
-    byte(lengths, 16777216, 0, 274877906943);
-    byte(lengths, 16777216, 0, 274877906944);
-    size(lengths, 16777216, 16383);
-    size(lengths, 16777216, 16384);
+    byte(&lengths, 16777216, 0, 274877906943);
+    byte(&lengths, 16777216, 0, 274877906944);
+    size(&lengths, 16777216, 16383);
+    size(&lengths, 16777216, 16384);
 }
 
 // Two that meet inside a piece.
@@ -35,13 +31,9 @@ fn two() {
     block(&lengths, 16777216, 8192, 0, 1, 6);
     block(&lengths, 16777216, 8192, 1, 1, 6);
     block(&lengths, 16777216, 16383, 16777215, 1, 3);
-    two_bytes(&lengths);
-}
-
-fn two_bytes(lengths: &[u64]) {
-    byte(lengths, 16777216, 0, 137438953472);
-    byte(lengths, 16777216, 1, 0);
-    byte(lengths, 16777216, 1, 137438953470);
+    byte(&lengths, 16777216, 0, 137438953472);
+    byte(&lengths, 16777216, 1, 0);
+    byte(&lengths, 16777216, 1, 137438953470);
 }
 
 // The largest, with empty files and with one byte too many behind it.
@@ -51,10 +43,6 @@ fn behind() {
     block(&[274877906943, 1], 16777216, 16383, 16777215, 1, 3);
     block(&[274877906943, 1], 16777216, 16383, 16777214, 2, 6);
     block(&[274877906944, 1], 16777216, 16383, 16777215, 1, 3);
-    behind_bytes();
-}
-
-fn behind_bytes() {
     byte(&[274877906943, 1], 16777216, 1, 0);
     byte(&[274877906944, 1], 16777216, 1, 0);
 }

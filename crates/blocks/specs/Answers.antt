@@ -28,9 +28,11 @@ pub record Spot : Type 0 where
   pub piece : ℕ
   pub offset : ℕ
 
+-- piece p, offset o
 abbrev pub spot : ℕ → ℕ → Spot
 spot p o = record { piece = p; offset = o }
 
+-- where a byte falls
 abbrev pub placePaper : Place → Outcome Spot
 placePaper (At p o) = taken (spot (p .0) (o .0))
 placePaper (Nowhere r) = refusal r
@@ -91,6 +93,7 @@ pub record Left : Type 0 where
   pub answer : Outcome ℕ
   pub out : List ℕ
 
+-- the answer a, and the output o
 abbrev pub left : Outcome ℕ → List ℕ → Left
 left a o = record { answer = a; out = o }
 

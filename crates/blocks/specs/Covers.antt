@@ -64,6 +64,7 @@ pub record Block (held o n : ℕ) : Type 0 where
   pub most : n ≤ longestBlock
   pub ends : o + n ≤ held
 
+-- the number rules hold for the files
 abbrev pub Rules : List Span → ℕ → Type 0
 Rules ss pl = Lawful pl (lengths ss) (pieces ss pl)
 

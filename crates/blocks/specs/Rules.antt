@@ -40,25 +40,30 @@ largest = 18446744073709551615
 
 -- ---- all of them, for file lengths, a piece length and the number of pieces
 
+-- the total of the file lengths
 unfoldable pub sum : List ℕ → ℕ
 sum [] = 0
 sum (n ∷ ns) = n + sum ns
 
+-- each of them is a file length
 unfoldable pub fileLengths : List ℕ → Bool
 fileLengths [] = true
 fileLengths (n ∷ ns) = fileLength n && fileLengths ns
 
+-- every rule holds
 unfoldable pub lawful : ℕ → List ℕ → ℕ → Bool
 lawful pl ns pieces = pieceLength pl && (fileCount (length ns) && (fileLengths ns && totalAnd (sum ns) pieces))
 
 -- ---- the same as statements
 
+-- n is 2 to a power from 14 to 24
 pub record PieceLength (n : ℕ) : Type 0 where
   pub exponent : ℕ
   pub low : 14 ≤ exponent
   pub high : exponent ≤ 24
   pub power : n ≡ 2 ^ exponent
 
+-- every rule holds: past the last file `getD` gives 0
 pub record Lawful (pl : ℕ) (ns : List ℕ) (pieces : ℕ) : Type 0 where
   pub piece : PieceLength pl
   pub one : 1 ≤ length ns

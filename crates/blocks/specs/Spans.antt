@@ -9,6 +9,7 @@ pub record Span : Type 0 where
   pub start : ℕ
   pub size : ℕ
 
+-- the file that starts at a and has n bytes
 abbrev pub span : ℕ → ℕ → Span
 span a n = record { start = a; size = n }
 
@@ -30,11 +31,12 @@ unfoldable pub lengths : List Span → List ℕ
 lengths [] = []
 lengths (s ∷ ss) = s .size ∷ lengths ss
 
--- where the last file ends
+-- where the last file ends, or b if there is none
 unfoldable pub endFrom : ℕ → List Span → ℕ
 endFrom b [] = b
 endFrom b (s ∷ ss) = endFrom (s .start + s .size) ss
 
+-- where the last file ends, or 0
 abbrev pub endOf : List Span → ℕ
 endOf ss = endFrom 0 ss
 
@@ -44,13 +46,15 @@ pub record Part : Type 0 where
   pub offset : ℕ
   pub size : ℕ
 
+-- the n bytes of file k from offset o on
 abbrev pub part : ℕ → ℕ → ℕ → Part
 part k o n = record { file = k; offset = o; size = n }
 
--- where a file and the bytes from..to begin to overlap, and where they end
+-- where a file and the bytes from..to begin to overlap
 abbrev pub low : Span → ℕ → ℕ
 low s from = max from (s .start)
 
+-- where they end to overlap
 abbrev pub high : Span → ℕ → ℕ
 high s to = min to (s .start + s .size)
 
@@ -67,6 +71,7 @@ partsFrom k (s ∷ ss) from to = let rest : List Part = partsFrom (suc k) ss fro
 abbrev pub partsOf : List Span → ℕ → ℕ → List Part
 partsOf ss from n = partsFrom 0 ss from (from + n)
 
+-- how many bytes the parts have
 unfoldable pub sizes : List Part → ℕ
 sizes [] = 0
 sizes (p ∷ ps) = p .size + sizes ps

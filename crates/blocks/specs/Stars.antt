@@ -12,6 +12,7 @@ pub data Star : Type 0 where
   block : ℕ → ℕ → ℕ → Outcome (List ℕ) → Star
   byte : ℕ → ℕ → Outcome (List ℕ) → Star
 
+-- what a row is to give
 abbrev pub asked : Star → Outcome (List ℕ)
 asked (block p o n x) = x
 asked (byte f o x) = x
@@ -20,14 +21,17 @@ asked (byte f o x) = x
 abbrev pub files : List Span
 files = joined (20000 ∷ 0 ∷ 12769 ∷ [])
 
+-- what the definitions give
 abbrev pub given : Star → Outcome (List ℕ)
 given (block p o n x) = map flat (blockOf files 16384 p o n)
 given (byte f o x) = map (λ (s : Spot). s .piece ∷ s .offset ∷ []) (byteOf files 16384 f o)
 
+-- of each row
 unfoldable pub each : (Star → Outcome (List ℕ)) → List Star → List (Outcome (List ℕ))
 each f [] = []
 each f (s ∷ ss) = f s ∷ each f ss
 
+-- document 01's rows
 unfoldable pub stars : List Star
 stars =
     block 1 0 16384 (taken (0 ∷ 16384 ∷ 3616 ∷ 2 ∷ 0 ∷ 12768 ∷ []))
@@ -38,6 +42,7 @@ stars =
     ∷ byte 1 0 (refused 34 0)
     ∷ []
 
+-- the definitions give what the paper says
 pub stars-hold : each given stars ≡ each asked stars
 unfolding each stars blockOf byteOf flat lawful powerFrom sum fileLengths joinedFrom lengths endFrom partsFrom sizes
 stars-hold = refl

@@ -44,8 +44,9 @@ pub enum Size {
 }
 
 // The parts of the block of `count` bytes at an offset of a piece, three numbers each from the start of `out` on: file, offset in it, length.
-// One pass over the lengths, of the files before the block, those in it and those past it; then those in it once more, to write.
-// No memory but `out`.
+// The output has room for a third as many parts as it has numbers; what stands past the parts stays.
+// One pass over the lengths: the files before the block, those in it, those past it. Only once everything is checked
+// those in it are read again, to write. So the cost is linear in the files, and no memory is used but `out`.
 pub fn block(
     lengths: &[u64],
     piece_length: u64,
