@@ -6,3 +6,4 @@ pub mod Sizing
 pub mod Informing
 pub mod Exact
 pub mod Determined
+pub mod Hashing

@@ -2,3 +2,4 @@ pub mod Keys
 pub mod Rules
 pub mod Reading
 pub mod Exact
+pub mod Hashes

@@ -12,10 +12,14 @@ ghost use Prim.Native.Nat.{ℕ, _+_, _≤_, min};
 ghost use lib.ListN.{length};
 ghost use Rattle.metainfo.specs.Rules.{torrentOf, topOf};
 ghost use Rattle.metainfo.specs.Reading.{paper, readOf, filePaper, fileAt, bytesOf, announceIn, nameIn};
+ghost use Rattle.sha1.specs.Digest.{left};
+ghost use Rattle.sha1.specs.Digest.{paper as hashPaper};
+ghost use Rattle.metainfo.specs.Hashes.{infoHashOf};
 use bencode::Checked;
 use fields::Bytes;
 use fields::Inside;
 use refusal::Refusal;
+use sha1::Hashed;
 use walk::Part;
 use walk::Past;
 use walk::Sought;
@@ -94,6 +98,16 @@ pub fn name(text: &[u8]) -> &[u8]
     ensures there { λ r. ⌜ (r .ptr .0 ≡ text .entry .ptr .0) × (r .ptr .1 ≡ text .entry .ptr .1 + min (nameIn (readOf (now (text .entry))) .from) (length (now (text .entry)))) ⌝ }
 {
     walk::bytes(text, name_part(read(text)))
+}
+
+// Writes the info hash: SHA-1 of info's bytes as they stand. A refusal leaves `out` as it was.
+pub fn info_hash(text: &[u8], out: &mut [u8; 20]) -> Hashed
+    ensures { λ r. ⌜ left (hashPaper r) (now (out .exit)) ≡ infoHashOf (now (text .entry)) (now (out .entry)) ⌝ }
+{
+    match read(text) {
+        Reading::Read(t) => sha1::digest(walk::bytes(text, t.info), out),
+        Reading::Refused(r) => Hashed::Refused(r),
+    }
 }
 
 // The file that stands at a place of any text. The first of many stands one past the place of their list, and each
