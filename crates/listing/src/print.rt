@@ -1,6 +1,5 @@
 // What the listing prints, a line at a time.
 ghost use Prim.Native.Nat.{_<_};
-
 use libc::STDOUT_FILENO;
 
 pub fn taken(values: usize) {

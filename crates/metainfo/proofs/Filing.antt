@@ -22,7 +22,7 @@ use Rattle.walk.specs.Stands.{Stands, StandItems, StandEntries}
 use Rattle.walk.specs.Lookup.{Under, nothing, under, lookup}
 use Rattle.walk.specs.declared.Sought.{Sought}
 use Rattle.walk.specs.declared.Sought.the-variants.{Found, Missing, Unread}
-use Rattle.walk.proofs.Standing.{list-stands, dictionary-stands, items-end, items-next, room}
+use Rattle.walk.proofs.Standing.{list-stands, dictionary-stands, items-end, items-next, room, keeps-more}
 use Rattle.walk.proofs.Seeking.{skip-further}
 use Rattle.fields.specs.Looks.{naturalOf, listOf, dictionaryOf, needed}
 use Rattle.fields.specs.Values.{naturalAt, listAt, dictionaryAt, must}
@@ -39,26 +39,6 @@ use Rattle.metainfo.proofs.Telling.{tells-found, tells-missing, tells-n
 -- a refusal is the same whatever might have been taken
 pub moved : {A B : Type 0} {r o n q : ℕ} → _≡_ {A = Outcome A} (refused r o) (refused n q) → _≡_ {A = Outcome B} (refused r o) (refused n q)
 moved {A} {B} e = ap (λ (x : Outcome A). then {B = B} x (λ y. refused 0 0)) e
-
--- more levels do no harm
-mutual
-  unfolding Keeps
-
-  keeps-more : (v : Value) (d e : ℕ) → d ≤ e → Keeps v d → Keeps v e
-  keeps-more (str bs) d e h k = tt
-  keeps-more (int z) d e h k = k
-  keeps-more (list vs) d zero h k = absurd (omega (arith, k .1))
-  keeps-more (list vs) d (suc e) h k = (e, refl, keeps-more-items vs (k .0) e (omega (arith, k .1)) (k .2))
-  keeps-more (dict es) d zero h k = absurd (omega (arith, k .1))
-  keeps-more (dict es) d (suc e) h k = (e, refl, keeps-more-entries es (k .0) e start (omega (arith, k .1)) (k .2))
-
-  keeps-more-items : (vs : Items) (d e : ℕ) → d ≤ e → KeepsItems vs d → KeepsItems vs e
-  keeps-more-items none d e h k = tt
-  keeps-more-items (item v vs) d e h k = (keeps-more v d e h (k .0), keeps-more-items vs d e h (k .1))
-
-  keeps-more-entries : (es : Entries) (d e : ℕ) (before : Prev) → d ≤ e → KeepsEntries es d before → KeepsEntries es e before
-  keeps-more-entries empty d e before h k = tt
-  keeps-more-entries (entry j v es) d e before h k = (k .0, keeps-more v d e h (k .1), keeps-more-entries es d e (last j) h (k .2))
 
 -- ---- one file
 

@@ -35,7 +35,7 @@ room s p w r h e = omega (arith, length-drop p s, ap length e, length-append w r
 mutual
   unfolding Keeps
 
-  keeps-more : (v : Value) (d e : ℕ) → d ≤ e → Keeps v d → Keeps v e
+  pub keeps-more : (v : Value) (d e : ℕ) → d ≤ e → Keeps v d → Keeps v e
   keeps-more (str bs) d e h k = tt
   keeps-more (int z) d e h k = k
   keeps-more (list vs) d zero h k = absurd (omega (arith, k .1))
