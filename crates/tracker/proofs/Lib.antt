@@ -5,3 +5,5 @@ pub mod Walking
 pub mod Determined
 pub mod Holding
 pub mod Exact
+pub mod Written
+pub mod Rewriting

@@ -4,3 +4,5 @@ pub mod Reply
 pub mod Reading
 pub mod Walks
 pub mod Exact
+pub mod Writing
+pub mod Faults

@@ -23,6 +23,16 @@ paper (Compact p) = taken (compact (p .interval) (p .first) (p .count))
 paper (Listing p) = taken (listing (p .interval) (p .first) (p .count))
 paper (Refused r) = refusal r
 
+-- how many entries a reply has: none beside a failure reason or a refusal
+abbrev pub entriesIn : Answer ℕ → ℕ
+entriesIn (failure p) = 0
+entriesIn (compact n p k) = k
+entriesIn (listing n p k) = k
+
+abbrev pub entriesOf : Outcome (Answer ℕ) → ℕ
+entriesOf (taken x) = entriesIn x
+entriesOf (refused n p) = 0
+
 abbrev pub peerPaper : Found → Outcome Entry
 peerPaper (Packed x) = taken (packed x)
 peerPaper (Listed x) = taken (listed x)

@@ -4,7 +4,7 @@ ghost use Rattle.refusal.specs.Numbers.{beyond};
 ghost use Rattle.refusal.specs.Paper.{then, map};
 ghost use Rattle.fields.specs.Looks.{dictionaryOf};
 ghost use Rattle.tracker.specs.Reply.{counted, replyOf, nthOf, compact, listing};
-ghost use Rattle.tracker.specs.Reading.{paper, peerPaper, wholeOf, topOf, failureOf, answeredOf, peersOf, compactOf, listingOf, entryAt};
+ghost use Rattle.tracker.specs.Reading.{paper, entriesOf, peerPaper, wholeOf, topOf, failureOf, answeredOf, peersOf, compactOf, listingOf, entryAt};
 use bencode::Checked;
 use compact::Packed;
 use compact::Packing;
@@ -23,6 +23,7 @@ use walk::Sought;
 
 pub mod compact;
 pub mod listed;
+pub mod writing;
 
 // What a reply that is no failure says: the seconds to wait, how many entries there are, and where the first stands.
 pub struct Peers {
@@ -66,6 +67,18 @@ pub fn peer(text: &[u8], n: usize) -> Found
         Reply::Compact(p) => packed_peer(text, p, n),
         Reply::List(p) => listed_peer(text, p, n),
         Reply::Refused(r) => Found::Refused(r),
+    }
+}
+
+// How many entries a reply has: 0 beside a failure reason.
+pub fn entries(reply: Reply) -> usize
+    ensures { λ r. ⌜ r ≡ entriesOf (paper reply) ⌝ }
+{
+    match reply {
+        Reply::Failure(_) => 0,
+        Reply::Compact(p) => p.count,
+        Reply::List(p) => p.count,
+        Reply::Refused(_) => 0,
     }
 }
 

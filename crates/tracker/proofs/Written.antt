@@ -1,0 +1,118 @@
+-- A compact reply, put part by part. Assumes nothing.
+use mathlib.Core.Path.{_≡_, refl, sym, ap, _∙_, subst}
+use mathlib.Core.Bool.{Bool, true, false, cond}
+use mathlib.Core.List.{List, [], _∷_, _++_, append-assoc}
+use Prim.Native.Nat.{ℕ, suc, _+_, _%_, _^_, _<_, _≤_}
+use native.Mathlib.Omega.{arith}
+use lib.Dec.{ltb}
+use lib.IntN.{pos}
+use lib.ListN.{length, length-append}
+use lib.Seq.{sets, length-sets}
+use borrow.Author.Tests.{lt-ltb, le-ltb}
+use Rattle.refusal.specs.Paper.{Outcome, taken, refused}
+use Rattle.refusal.proofs.Places.{sets-append}
+use Rattle.scalar.specs.Written.{decimal, decimalIn, written, writtenInt}
+use Rattle.bencode.specs.Value.{encode}
+use Rattle.writer.specs.Put.{Left, paper, left, putOf}
+use Rattle.writer.specs.declared.Put.{Put}
+use Rattle.writer.specs.declared.Put.the-variants.{To, Refused}
+use Rattle.writer.proofs.Laws.{put-whole, put-none}
+use Rattle.writer.proofs.Decimals.{length-most}
+use Rattle.tracker.specs.Keys.{interval, peers}
+use Rattle.tracker.specs.Writing.{compactReply, textOf, writeOf, endOf}
+
+-- what stands before the number of seconds, and between that and the entries
+abbrev pub opening : List ℕ
+opening = 100 ∷ 56 ∷ 58 ∷ 105 ∷ 110 ∷ 116 ∷ 101 ∷ 114 ∷ 118 ∷ 97 ∷ 108 ∷ 105 ∷ []
+
+abbrev pub between : List ℕ
+between = 101 ∷ 53 ∷ 58 ∷ 112 ∷ 101 ∷ 101 ∷ 114 ∷ 115 ∷ []
+
+pub parts : (n : ℕ) (bs : List ℕ) → textOf n bs ≡ opening ++ (decimal n ++ (between ++ (written bs ++ (101 ∷ []))))
+unfolding encode decimalIn
+parts n bs = ap (λ (l : List ℕ). opening ++ l) (append-assoc (decimal n) (101 ∷ []) (53 ∷ 58 ∷ 112 ∷ 101 ∷ 101 ∷ 114 ∷ 115 ∷ (written bs ++ (101 ∷ []))))
+
+pub size : (n : ℕ) (bs : List ℕ) → length (textOf n bs) ≡ length (decimal n) + length (decimal (length bs)) + length bs + 22
+size n bs =
+    ap length (parts n bs)
+    ∙ omega (arith, length-append (decimal n) (between ++ (written bs ++ (101 ∷ []))), length-append (written bs) (101 ∷ []), length-append (decimal (length bs)) (58 ∷ bs))
+
+-- w is put from the start of o on
+pub record Done (o w : List ℕ) (at : ℕ) (out : List ℕ) : Type 0 where
+  pub place : at ≡ length w
+  pub holds : out ≡ sets o 0 w
+
+module _ (o : List ℕ) where
+  pub nothing-done : Done o [] 0 o
+  nothing-done = record { place = refl; holds = refl }
+
+  pub more-done : (w v : List ℕ) {at : ℕ} {out after : List ℕ} {a : Outcome ℕ} {next : ℕ} → Done o w at out → left a after ≡ putOf v at out → next ≡ endOf a → length (w ++ v) ≤ length o → Done o (w ++ v) next after
+  more-done w v {at} {out} d e f h =
+      let k : length out ≡ length o = ap length (d .holds) ∙ length-sets o 0 w in
+      let g = e ∙ put-whole v at out (omega (arith, d .place, length-append w v)) in
+      record {
+        place = f ∙ ap (λ (x : Left). endOf (x .answer)) g ∙ omega (arith, d .place, length-append w v);
+        holds = ap (λ (x : Left). x .out) g ∙ rw (d .holds, d .place) (let z : 0 + length w ≡ length w = omega arith in ap (λ (i : ℕ). sets (sets o 0 w) i v) (sym z) ∙ sym (sets-append o 0 w v));
+      }
+
+  pub all-done : (n : ℕ) (bs : List ℕ) {at : ℕ} {out : List ℕ} → Done o ((((opening ++ decimal n) ++ between) ++ written bs) ++ (101 ∷ [])) at out → (at ≡ length (textOf n bs)) × (out ≡ sets o 0 (textOf n bs))
+  all-done n bs {at} {out} d =
+      let e : (((opening ++ decimal n) ++ between) ++ written bs) ++ (101 ∷ []) ≡ textOf n bs =
+      append-assoc ((opening ++ decimal n) ++ between) (written bs) (101 ∷ []) ∙ append-assoc (opening ++ decimal n) between (written bs ++ (101 ∷ [])) ∙ append-assoc opening (decimal n) (between ++ (written bs ++ (101 ∷ []))) ∙ sym (parts n bs) in
+      (d .place ∙ ap length e, d .holds ∙ ap (sets o 0) e)
+
+-- each part fits where the whole does
+module _ (o : List ℕ) (n : ℕ) (bs : List ℕ) (h : length (textOf n bs) ≤ length o) where
+  whole-size : length ((((opening ++ decimal n) ++ between) ++ written bs) ++ (101 ∷ [])) ≤ length o
+  whole-size = omega (arith, size n bs, length-append (((opening ++ decimal n) ++ between) ++ written bs) (101 ∷ []), length-append ((opening ++ decimal n) ++ between) (written bs), length-append (opening ++ decimal n) between, length-append opening (decimal n), length-append (decimal (length bs)) (58 ∷ bs))
+
+  pub put-parts : {a b c d e : ℕ} {o₁ o₂ o₃ o₄ o₅ : List ℕ} {r₁ r₂ r₃ r₄ r₅ : Outcome ℕ}
+      → left r₁ o₁ ≡ putOf opening 0 o → a ≡ endOf r₁ → left r₂ o₂ ≡ putOf (decimal n) a o₁ → b ≡ endOf r₂ → left r₃ o₃ ≡ putOf between b o₂ → c ≡ endOf r₃
+      → left r₄ o₄ ≡ putOf (written bs) c o₃ → d ≡ endOf r₄ → left r₅ o₅ ≡ putOf (101 ∷ []) d o₄ → e ≡ endOf r₅ → (e ≡ length (textOf n bs)) × (o₅ ≡ sets o 0 (textOf n bs))
+  put-parts e₁ f₁ e₂ f₂ e₃ f₃ e₄ f₄ e₅ f₅ =
+      let l = whole-size in
+      let l₄ = length-append (((opening ++ decimal n) ++ between) ++ written bs) (101 ∷ []) in
+      let l₃ = length-append ((opening ++ decimal n) ++ between) (written bs) in
+      let l₂ = length-append (opening ++ decimal n) between in
+      let l₁ = length-append opening (decimal n) in
+      let d₁ = more-done o [] opening (nothing-done o) e₁ f₁ (omega arith) in
+      let d₂ = more-done o opening (decimal n) d₁ e₂ f₂ (omega arith) in
+      let d₃ = more-done o (opening ++ decimal n) between d₂ e₃ f₃ (omega arith) in
+      let d₄ = more-done o ((opening ++ decimal n) ++ between) (written bs) d₃ e₄ f₄ (omega arith) in
+      let d₅ = more-done o (((opening ++ decimal n) ++ between) ++ written bs) (101 ∷ []) d₄ e₅ f₅ l in
+      all-done o n bs d₅
+
+-- the digits of a number, from the room that they take
+pub counted-digits : (n : ℕ) (room : List ℕ) {r : Outcome ℕ} {out : List ℕ} {at : ℕ} → n < 2 ^ 64 → length room ≡ 20 → left r out ≡ putOf (decimal n) 0 room → at ≡ endOf r → (at ≡ length (decimal n)) × (at ≤ 20)
+counted-digits n room {at = at} h l e f =
+    let m : length (decimal n) ≤ 20 = length-most 19 n (omega arith) in
+    let g = e ∙ put-whole (decimal n) 0 room (omega arith) in
+    let k : at ≡ length (decimal n) = f ∙ ap (λ (x : Left). endOf (x .answer)) g ∙ omega arith in
+    (k, omega arith)
+
+-- what the code answers, test by test
+module _ (n : ℕ) (bs o : List ℕ) where
+  pub write-range : {r : Put} → 2147483647 < n → r ≡ Refused (record { number = 11; place = 0 }) → left (paper r) o ≡ writeOf n bs o
+  unfolding writeOf
+  write-range h e = rw (e, lt-ltb 2147483647 n h)
+
+  module _ (small : n ≤ 2147483647) where
+    pub write-peer : {r : Put} → 0 < length bs % 6 → r ≡ Refused (record { number = 15; place = 0 }) → left (paper r) o ≡ writeOf n bs o
+    unfolding writeOf
+    write-peer h e = rw (e, le-ltb 2147483647 n small, lt-ltb 0 (length bs % 6) h)
+
+    module _ (whole : length bs % 6 ≤ 0) where
+      pub write-long : {r : Put} → 1048576 < length (textOf n bs) → r ≡ Refused (record { number = 8; place = 0 }) → left (paper r) o ≡ writeOf n bs o
+      unfolding writeOf
+      write-long h e = rw (e, le-ltb 2147483647 n small, le-ltb 0 (length bs % 6) whole, lt-ltb 1048576 (length (textOf n bs)) h)
+
+      module _ (short : length (textOf n bs) ≤ 1048576) where
+        pub write-puts : writeOf n bs o ≡ putOf (textOf n bs) 0 o
+        unfolding writeOf
+        write-puts = rw (le-ltb 2147483647 n small, le-ltb 0 (length bs % 6) whole, le-ltb 1048576 (length (textOf n bs)) short)
+
+        pub write-none : {r : Put} → length o < length (textOf n bs) → r ≡ Refused (record { number = 37; place = 0 }) → left (paper r) o ≡ writeOf n bs o
+        write-none h e = ap (λ (x : Put). left (paper x) o) e ∙ sym (write-puts ∙ put-none (textOf n bs) 0 o (omega arith))
+
+        pub write-whole : {at : ℕ} {out : List ℕ} → length (textOf n bs) ≤ length o → at ≡ length (textOf n bs) → out ≡ sets o 0 (textOf n bs) → left (taken at) out ≡ writeOf n bs o
+        write-whole h e f = rw (e, f) (let z : 0 + length (textOf n bs) ≡ length (textOf n bs) = omega arith in ap (λ (i : ℕ). left (taken i) (sets o 0 (textOf n bs))) (sym z) ∙ sym (write-puts ∙ put-whole (textOf n bs) 0 o (omega arith)))

@@ -1,0 +1,70 @@
+// Compact replies, written.
+ghost use mathlib.Core.Path.{_≡_};
+ghost use Prim.Native.Nat.{_+_, _≤_};
+ghost use lib.ListN.{length};
+ghost use lib.Seq.{sets};
+ghost use Rattle.scalar.specs.Written.{decimal};
+ghost use Rattle.writer.specs.Put.{paper, left};
+ghost use Rattle.tracker.specs.Writing.{textOf, writeOf, endOf};
+use refusal::Refusal;
+use refusal::limit;
+use refusal::number;
+use writer::Put;
+
+// The reply with these seconds to wait and these entries, and the place past it.
+pub fn write(out: &mut [u8], interval: u64, peers: &[u8]) -> Put
+    ensures { λ r. ⌜ left (paper r) (now (out .exit)) ≡ writeOf interval (now (peers .entry)) (now (out .entry)) ⌝ }
+{
+    if (limit::INTERVAL as u64) < interval {
+        return refused(number::RANGE);
+    }
+    if 0 < peers.len() % 6 {
+        return refused(number::PEER);
+    }
+    // A test of its own, since the sum of all lengths may not fit.
+    if limit::TEXT < peers.len() {
+        return refused(number::LONG);
+    }
+    let size = digits(interval) + digits(peers.len() as u64) + peers.len() + 22;
+    if limit::TEXT < size {
+        return refused(number::LONG);
+    }
+    if out.len() < size {
+        return refused(number::ROOM);
+    }
+    Put::To(put_all(out, interval, peers))
+}
+
+fn put_all(out: &mut [u8], interval: u64, peers: &[u8]) -> usize
+    requires { ⌜ length (textOf interval (now peers)) ≤ length (now out) ⌝ }
+    ensures { λ r. ⌜ (r ≡ length (textOf interval (now (peers .entry)))) × (now (out .exit) ≡ sets (now (out .entry)) 0 (textOf interval (now (peers .entry)))) ⌝ }
+{
+    let a = end(writer::literal(out, 0, b"d8:intervali"));
+    let b = end(writer::decimal(out, a, interval));
+    let c = end(writer::literal(out, b, b"e5:peers"));
+    let d = end(writer::string(out, c, peers));
+    end(writer::literal(out, d, b"e"))
+}
+
+fn digits(n: u64) -> usize
+    ensures { λ r. ⌜ (r ≡ length (decimal n)) × (r ≤ 20) ⌝ }
+{
+    let mut room = [0u8; 20];
+    end(writer::decimal(&mut room, 0, n))
+}
+
+// The place past what was put.
+fn end(put: Put) -> usize
+    ensures { λ r. ⌜ r ≡ endOf (paper put) ⌝ }
+{
+    match put {
+        Put::To(at) => at,
+        Put::Refused(_) => 0,
+    }
+}
+
+fn refused(number: u8) -> Put
+    ensures { λ r. ⌜ r ≡ Put.Refused (record { number = number; place = 0 }) ⌝ }
+{
+    Put::Refused(Refusal { number, place: 0 })
+}
