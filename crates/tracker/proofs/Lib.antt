@@ -6,4 +6,6 @@ pub mod Determined
 pub mod Holding
 pub mod Exact
 pub mod Written
+pub mod Numbering
+pub mod Causes
 pub mod Rewriting

@@ -2,7 +2,7 @@
 use mathlib.Core.Path.{_≡_, refl, sym, ap, _∙_, subst}
 use mathlib.Core.Bool.{Bool, true, false, cond}
 use mathlib.Core.List.{List, [], _∷_}
-use Prim.Native.Nat.{ℕ, zero, suc, _+_, _-_, _*_, _/_, _<_, _≤_}
+use Prim.Native.Nat.{ℕ, zero, suc, _+_, _-_, _*_, _/_, _%_, _<_, _≤_}
 use native.Mathlib.Omega.{arith}
 use lib.Dec.{ltb, leb, eqb}
 use lib.ListN.{length, getD, drop, drop-of-length-le}
@@ -28,8 +28,8 @@ use Rattle.fields.specs.declared.Natural.{Natural}
 use Rattle.fields.specs.declared.Natural.the-variants.{Is as Number, Not as NoNumber}
 use Rattle.tracker.specs.Keys.{interval, peers, ip, peerId, port}
 use Rattle.tracker.specs.Entries.{Entry, packed, listed, Step, idLength, idOf, sixAt, packedAt, pastPeer, peerFrom, peerBy, listedPaper, listedAt, countFrom, nthAt}
-use Rattle.tracker.specs.Reply.{Answer}
-use Rattle.tracker.specs.Reading.{peersOf, answeredOf}
+use Rattle.tracker.specs.Reply.{Answer, compact}
+use Rattle.tracker.specs.Reading.{compactOf, peersOf, answeredOf}
 use Rattle.tracker.specs.declared.listed.Listing.{Listing}
 use Rattle.tracker.specs.declared.listed.Listing.the-variants.{Is, Not}
 use Rattle.tracker.specs.declared.listed.Listed.{Listed}
@@ -215,6 +215,14 @@ module _ (s : List ℕ) (p first : ℕ) (ips ids ports : Sought) (a : seekPaper 
 
       pub a-peer : {n : ℕ} → r₃ ≡ Number n → pastPeer s p (record { id = x; ip = y; port = n }) ≡ peerBy s p first
       a-peer g = ap (λ (z : Natural). then (naturalPaper z) (afterPort s p x y)) (sym g) ∙ by-port
+
+-- a string of m bytes at a, of whole entries or not
+module _ (n p a m : ℕ) where
+  pub sixes-whole : m % 6 ≡ 0 → taken (compact n a (m / 6)) ≡ compactOf n p a m
+  sixes-whole h = rw (eq-eqb (m % 6) 0 h)
+
+  pub sixes-cut : 0 < m % 6 → refused 15 p ≡ compactOf n p a m
+  sixes-cut h = rw (ne-eqb (m % 6) 0 (λ e. omega arith))
 
 -- an entry's number against how many there are
 module _ (x : Outcome Entry) (count n : ℕ) where

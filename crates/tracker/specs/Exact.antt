@@ -1,7 +1,7 @@
 -- What a reply is: a predicate on decoded values, without places and without an order of checks. Assumes nothing: these are definitions.
 use mathlib.Core.Path.{_≡_}
 use mathlib.Core.List.{List, [], _∷_}
-use Prim.Native.Nat.{ℕ, _%_, _≤_}
+use Prim.Native.Nat.{ℕ, _/_, _%_, _≤_}
 use lib.IntN.{pos}
 use lib.ListN.{length, take, drop}
 use Rattle.refusal.specs.Limits.{longestInterval, largestPort}
@@ -42,6 +42,12 @@ pub data Said : Type 0 where
   failed : List ℕ → Said
   packs : ℕ → List ℕ → Said
   lists : ℕ → List Peer → Said
+
+-- how many entries that are
+abbrev pub saidEntries : Said → ℕ
+saidEntries (failed bs) = 0
+saidEntries (packs n bs) = length bs / 6
+saidEntries (lists n l) = length l
 
 -- a reply that is no failure, with n seconds to wait
 pub record Waits (es : Entries) (n : ℕ) : Type 0 where

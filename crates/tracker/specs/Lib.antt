@@ -6,3 +6,4 @@ pub mod Walks
 pub mod Exact
 pub mod Writing
 pub mod Faults
+pub mod Causes

@@ -1,91 +1,68 @@
+-- `fields::dictionary_at` meets its contract. Assumes nothing.
 use borrow.Author.Needs.{needs}
 use Rattle.fields.specs.Looks.{stringPaper, naturalPaper, insidePaper, stringIn, naturalIn, listIn, dictionaryIn, stringOf, naturalOf, listOf, dictionaryOf}
 use Rattle.fields.proofs.Looking.{as-seen, as-found}
 use mathlib.Core.Path.{_≡_, refl, sym, ap, _∙_}
 use Rattle.fields.proofs.dictionary_at.Statement.{statement}
 use Rattle.fields.proofs.dictionary_at.Tie as tie
-use Rattle.fields.proofs.dictionary_at.Reads as reads
-use Rattle.fields.proofs.dictionary_at.Lts as lts
-use Rattle.fields.proofs.nothing_inside.Reads as nothing-inside-reads
-use Rattle.walk.proofs.look.Reads as look-reads
 
--- src/lib.rt:76:11
 look-requires : tie.Need-look-requires
 look-requires c κs = search needs
 
--- src/lib.rt:77:26
 enum-known-first : tie.Need-enum-known-first
 enum-known-first c = search needs
 
--- src/lib.rt:78:23
 enum-known-r : tie.Need-enum-known-r
 enum-known-r c = search needs
 
--- src/lib.rt:79:31
 enum-told : tie.Need-enum-told
 enum-told c = search needs
 
--- src/lib.rt:79:31
 nothing-inside-requires : tie.Need-nothing-inside-requires
 nothing-inside-requires c κs = search needs
 
--- src/lib.rt:80:32
 enum-told-2 : tie.Need-enum-told-2
 enum-told-2 c = search needs
 
--- src/lib.rt:80:32
 nothing-inside-requires-2 : tie.Need-nothing-inside-requires-2
 nothing-inside-requires-2 c κs = search needs
 
--- src/lib.rt:81:29
 enum-told-3 : tie.Need-enum-told-3
 enum-told-3 c = search needs
 
--- src/lib.rt:81:29
 nothing-inside-requires-3 : tie.Need-nothing-inside-requires-3
 nothing-inside-requires-3 c κs = search needs
 
--- src/lib.rt:82:26
 enum-told-4 : tie.Need-enum-told-4
 enum-told-4 c = search needs
 
--- src/lib.rt:82:26
 nothing-inside-requires-4 : tie.Need-nothing-inside-requires-4
 nothing-inside-requires-4 c κs = search needs
 
--- src/lib.rt:83:25
 enum-told-5 : tie.Need-enum-told-5
 enum-told-5 c = search needs
 
--- src/lib.rt:83:25
 nothing-inside-requires-5 : tie.Need-nothing-inside-requires-5
 nothing-inside-requires-5 c κs = search needs
 
--- src/lib.rt:73:1
 returns : tie.Need-returns
 returns c = as-seen (dictionaryIn (c .before .before .before .before .before .args .at)) _ _ _ (c .before .before .before .look .ensures) (c .before .first .given .1)
 
--- src/lib.rt:73:1
 returns-2 : tie.Need-returns-2
 returns-2 c = as-seen (dictionaryIn (c .before .before .before .before .before .args .at)) _ _ _ (c .before .before .before .look .ensures) (c .before .r .given .1)
 
--- src/lib.rt:73:1
 returns-3 : tie.Need-returns-3
 returns-3 c = ap insidePaper (c .nothing-inside .ensures) ∙ as-seen (dictionaryIn (c .before .before .before .before .before .args .at)) _ _ _ (c .before .before .before .look .ensures) (c .before .enum-told .given .1)
 
--- src/lib.rt:73:1
 returns-4 : tie.Need-returns-4
 returns-4 c = ap insidePaper (c .nothing-inside2 .ensures) ∙ as-seen (dictionaryIn (c .before .before .before .before .before .args .at)) _ _ _ (c .before .before .before .look .ensures) (c .before .enum-told2 .given .1)
 
--- src/lib.rt:73:1
 returns-5 : tie.Need-returns-5
 returns-5 c = ap insidePaper (c .nothing-inside3 .ensures) ∙ as-seen (dictionaryIn (c .before .before .before .before .before .args .at)) _ _ _ (c .before .before .before .look .ensures) (c .before .enum-told3 .given .1)
 
--- src/lib.rt:73:1
 returns-6 : tie.Need-returns-6
 returns-6 c = ap insidePaper (c .nothing-inside4 .ensures) ∙ as-seen (dictionaryIn (c .before .before .before .before .before .args .at)) _ _ _ (c .before .before .before .look .ensures) (c .before .enum-told4 .given .1)
 
--- src/lib.rt:73:1
 returns-7 : tie.Need-returns-7
 returns-7 c = ap insidePaper (c .nothing-inside5 .ensures) ∙ as-seen (dictionaryIn (c .before .before .before .before .before .args .at)) _ _ _ (c .before .before .before .look .ensures) (c .before .enum-told5 .given .1)
 

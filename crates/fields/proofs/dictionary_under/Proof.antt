@@ -1,43 +1,32 @@
+-- `fields::dictionary_under` meets its contract. Assumes nothing.
 use borrow.Author.Needs.{needs}
 use Rattle.fields.specs.Looks.{stringPaper, naturalPaper, insidePaper, stringIn, naturalIn, listIn, dictionaryIn, stringOf, naturalOf, listOf, dictionaryOf}
 use Rattle.fields.proofs.Looking.{as-seen, as-found}
 use mathlib.Core.Path.{_≡_, refl, sym, ap, _∙_}
 use Rattle.fields.proofs.dictionary_under.Statement.{statement}
 use Rattle.fields.proofs.dictionary_under.Tie as tie
-use Rattle.fields.proofs.dictionary_under.Reads as reads
-use Rattle.fields.proofs.dictionary_under.Lts as lts
-use Rattle.fields.proofs.dictionary_at.Reads as dictionary-at-reads
-use Rattle.fields.proofs.nothing_inside.Reads as nothing-inside-reads
 
--- src/lib.rt:122:26
 enum-known-sought : tie.Need-enum-known-sought
 enum-known-sought c = search needs
 
--- src/lib.rt:122:36
 dictionary-at-requires : tie.Need-dictionary-at-requires
 dictionary-at-requires c κs = search needs
 
--- src/lib.rt:123:31
 enum-told : tie.Need-enum-told
 enum-told c = search needs
 
--- src/lib.rt:123:31
 nothing-inside-requires : tie.Need-nothing-inside-requires
 nothing-inside-requires c κs = search needs
 
--- src/lib.rt:124:24
 enum-known-sought-2 : tie.Need-enum-known-sought-2
 enum-known-sought-2 c = search needs
 
--- src/lib.rt:118:1
 returns : tie.Need-returns
 returns c = (c .dictionary-at .ensures) ∙ as-found (c .before .before .before .before .before .args .dictionary) (dictionaryOf (c .before .before .before .before .before .args .text .now)) _ _ (c .before .before .sought .given .1)
 
--- src/lib.rt:118:1
 returns-2 : tie.Need-returns-2
 returns-2 c = ap insidePaper (c .nothing-inside .ensures) ∙ as-found (c .before .before .before .before .args .dictionary) (dictionaryOf (c .before .before .before .before .args .text .now)) _ _ (c .before .enum-told .given .1)
 
--- src/lib.rt:118:1
 returns-3 : tie.Need-returns-3
 returns-3 c = as-found (c .before .before .before .before .args .dictionary) (dictionaryOf (c .before .before .before .before .args .text .now)) _ _ (c .before .sought2 .given .1)
 

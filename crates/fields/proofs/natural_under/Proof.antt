@@ -1,43 +1,32 @@
+-- `fields::natural_under` meets its contract. Assumes nothing.
 use borrow.Author.Needs.{needs}
 use Rattle.fields.specs.Looks.{stringPaper, naturalPaper, insidePaper, stringIn, naturalIn, listIn, dictionaryIn, stringOf, naturalOf, listOf, dictionaryOf}
 use Rattle.fields.proofs.Looking.{as-seen, as-found}
 use mathlib.Core.Path.{_≡_, refl, sym, ap, _∙_}
 use Rattle.fields.proofs.natural_under.Statement.{statement}
 use Rattle.fields.proofs.natural_under.Tie as tie
-use Rattle.fields.proofs.natural_under.Reads as reads
-use Rattle.fields.proofs.natural_under.Lts as lts
-use Rattle.fields.proofs.natural_at.Reads as natural-at-reads
-use Rattle.fields.proofs.no_number.Reads as no-number-reads
 
--- src/lib.rt:102:26
 enum-known-sought : tie.Need-enum-known-sought
 enum-known-sought c = search needs
 
--- src/lib.rt:102:36
 natural-at-requires : tie.Need-natural-at-requires
 natural-at-requires c κs = search needs
 
--- src/lib.rt:103:31
 enum-told : tie.Need-enum-told
 enum-told c = search needs
 
--- src/lib.rt:103:31
 no-number-requires : tie.Need-no-number-requires
 no-number-requires c κs = search needs
 
--- src/lib.rt:104:24
 enum-known-sought-2 : tie.Need-enum-known-sought-2
 enum-known-sought-2 c = search needs
 
--- src/lib.rt:98:1
 returns : tie.Need-returns
 returns c = (c .natural-at .ensures) ∙ as-found (c .before .before .before .before .before .args .dictionary) (naturalOf (c .before .before .before .before .before .args .most) (c .before .before .before .before .before .args .text .now)) _ _ (c .before .before .sought .given .1)
 
--- src/lib.rt:98:1
 returns-2 : tie.Need-returns-2
 returns-2 c = ap naturalPaper (c .no-number .ensures) ∙ as-found (c .before .before .before .before .args .dictionary) (naturalOf (c .before .before .before .before .args .most) (c .before .before .before .before .args .text .now)) _ _ (c .before .enum-told .given .1)
 
--- src/lib.rt:98:1
 returns-3 : tie.Need-returns-3
 returns-3 c = as-found (c .before .before .before .before .args .dictionary) (naturalOf (c .before .before .before .before .args .most) (c .before .before .before .before .args .text .now)) _ _ (c .before .sought2 .given .1)
 

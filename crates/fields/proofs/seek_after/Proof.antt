@@ -1,42 +1,32 @@
+-- `fields::seek_after` meets its contract. Assumes nothing.
 use borrow.Author.Needs.{needs}
 use Rattle.fields.specs.Looks.{soughtFrom, stopped}
 use Rattle.fields.proofs.Looking.{as-stopped}
 use mathlib.Core.Path.{_≡_, refl, sym, ap, _∙_}
 use Rattle.fields.proofs.seek_after.Statement.{statement}
 use Rattle.fields.proofs.seek_after.Tie as tie
-use Rattle.fields.proofs.seek_after.Reads as reads
-use Rattle.fields.proofs.seek_after.Lts as lts
-use Rattle.walk.proofs.seek.Reads as seek-reads
 
--- src/lib.rt:133:23
 enum-known-sought : tie.Need-enum-known-sought
 enum-known-sought c = search needs
 
--- src/lib.rt:133:33
 seek-requires : tie.Need-seek-requires
 seek-requires c κs = search needs
 
--- src/lib.rt:134:25
 enum-known-sought-2 : tie.Need-enum-known-sought-2
 enum-known-sought-2 c = search needs
 
--- src/lib.rt:134:32
 seek-requires-2 : tie.Need-seek-requires-2
 seek-requires-2 c κs = search needs
 
--- src/lib.rt:135:24
 enum-known-sought-3 : tie.Need-enum-known-sought-3
 enum-known-sought-3 c = search needs
 
--- src/lib.rt:129:1
 returns : tie.Need-returns
 returns c = (c .seek .ensures) ∙ as-stopped (λ h. soughtFrom (c .before .before .before .before .before .before .args .text .now) (stopped h) (c .before .before .before .before .before .before .args .key .now)) _ _ (c .before .before .sought .given .1)
 
--- src/lib.rt:129:1
 returns-2 : tie.Need-returns-2
 returns-2 c = (c .seek2 .ensures) ∙ as-stopped (λ h. soughtFrom (c .before .before .before .before .before .before .args .text .now) (stopped h) (c .before .before .before .before .before .before .args .key .now)) _ _ (c .before .before .sought2 .given .1)
 
--- src/lib.rt:129:1
 returns-3 : tie.Need-returns-3
 returns-3 c = as-stopped (λ h. soughtFrom (c .before .before .before .before .before .args .text .now) (stopped h) (c .before .before .before .before .before .args .key .now)) _ _ (c .before .sought3 .given .1)
 

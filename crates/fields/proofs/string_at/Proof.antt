@@ -1,91 +1,68 @@
+-- `fields::string_at` meets its contract. Assumes nothing.
 use borrow.Author.Needs.{needs}
 use Rattle.fields.specs.Looks.{stringPaper, naturalPaper, insidePaper, stringIn, naturalIn, listIn, dictionaryIn, stringOf, naturalOf, listOf, dictionaryOf}
 use Rattle.fields.proofs.Looking.{as-seen, as-found}
 use mathlib.Core.Path.{_≡_, refl, sym, ap, _∙_}
 use Rattle.fields.proofs.string_at.Statement.{statement}
 use Rattle.fields.proofs.string_at.Tie as tie
-use Rattle.fields.proofs.string_at.Reads as reads
-use Rattle.fields.proofs.string_at.Lts as lts
-use Rattle.fields.proofs.no_string.Reads as no-string-reads
-use Rattle.walk.proofs.look.Reads as look-reads
 
--- src/lib.rt:33:11
 look-requires : tie.Need-look-requires
 look-requires c κs = search needs
 
--- src/lib.rt:34:22
 enum-known-bytes : tie.Need-enum-known-bytes
 enum-known-bytes c = search needs
 
--- src/lib.rt:35:23
 enum-known-r : tie.Need-enum-known-r
 enum-known-r c = search needs
 
--- src/lib.rt:36:32
 enum-told : tie.Need-enum-told
 enum-told c = search needs
 
--- src/lib.rt:36:32
 no-string-requires : tie.Need-no-string-requires
 no-string-requires c κs = search needs
 
--- src/lib.rt:37:29
 enum-told-2 : tie.Need-enum-told-2
 enum-told-2 c = search needs
 
--- src/lib.rt:37:29
 no-string-requires-2 : tie.Need-no-string-requires-2
 no-string-requires-2 c κs = search needs
 
--- src/lib.rt:38:26
 enum-told-3 : tie.Need-enum-told-3
 enum-told-3 c = search needs
 
--- src/lib.rt:38:26
 no-string-requires-3 : tie.Need-no-string-requires-3
 no-string-requires-3 c κs = search needs
 
--- src/lib.rt:39:32
 enum-told-4 : tie.Need-enum-told-4
 enum-told-4 c = search needs
 
--- src/lib.rt:39:32
 no-string-requires-4 : tie.Need-no-string-requires-4
 no-string-requires-4 c κs = search needs
 
--- src/lib.rt:40:25
 enum-told-5 : tie.Need-enum-told-5
 enum-told-5 c = search needs
 
--- src/lib.rt:40:25
 no-string-requires-5 : tie.Need-no-string-requires-5
 no-string-requires-5 c κs = search needs
 
--- src/lib.rt:30:1
 returns : tie.Need-returns
 returns c = as-seen (stringIn (c .before .before .before .before .before .args .at)) _ _ _ (c .before .before .before .look .ensures) (c .before .bytes .given .1)
 
--- src/lib.rt:30:1
 returns-2 : tie.Need-returns-2
 returns-2 c = as-seen (stringIn (c .before .before .before .before .before .args .at)) _ _ _ (c .before .before .before .look .ensures) (c .before .r .given .1)
 
--- src/lib.rt:30:1
 returns-3 : tie.Need-returns-3
 returns-3 c = ap stringPaper (c .no-string .ensures) ∙ as-seen (stringIn (c .before .before .before .before .before .args .at)) _ _ _ (c .before .before .before .look .ensures) (c .before .enum-told .given .1)
 
--- src/lib.rt:30:1
 returns-4 : tie.Need-returns-4
 returns-4 c = ap stringPaper (c .no-string2 .ensures) ∙ as-seen (stringIn (c .before .before .before .before .before .args .at)) _ _ _ (c .before .before .before .look .ensures) (c .before .enum-told2 .given .1)
 
--- src/lib.rt:30:1
 returns-5 : tie.Need-returns-5
 returns-5 c = ap stringPaper (c .no-string3 .ensures) ∙ as-seen (stringIn (c .before .before .before .before .before .args .at)) _ _ _ (c .before .before .before .look .ensures) (c .before .enum-told3 .given .1)
 
--- src/lib.rt:30:1
 returns-6 : tie.Need-returns-6
 returns-6 c = ap stringPaper (c .no-string4 .ensures) ∙ as-seen (stringIn (c .before .before .before .before .before .args .at)) _ _ _ (c .before .before .before .look .ensures) (c .before .enum-told4 .given .1)
 
--- src/lib.rt:30:1
 returns-7 : tie.Need-returns-7
 returns-7 c = ap stringPaper (c .no-string5 .ensures) ∙ as-seen (stringIn (c .before .before .before .before .before .args .at)) _ _ _ (c .before .before .before .look .ensures) (c .before .enum-told5 .given .1)
 

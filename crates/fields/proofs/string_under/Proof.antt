@@ -1,43 +1,32 @@
+-- `fields::string_under` meets its contract. Assumes nothing.
 use borrow.Author.Needs.{needs}
 use Rattle.fields.specs.Looks.{stringPaper, naturalPaper, insidePaper, stringIn, naturalIn, listIn, dictionaryIn, stringOf, naturalOf, listOf, dictionaryOf}
 use Rattle.fields.proofs.Looking.{as-seen, as-found}
 use mathlib.Core.Path.{_≡_, refl, sym, ap, _∙_}
 use Rattle.fields.proofs.string_under.Statement.{statement}
 use Rattle.fields.proofs.string_under.Tie as tie
-use Rattle.fields.proofs.string_under.Reads as reads
-use Rattle.fields.proofs.string_under.Lts as lts
-use Rattle.fields.proofs.no_string.Reads as no-string-reads
-use Rattle.fields.proofs.string_at.Reads as string-at-reads
 
--- src/lib.rt:92:26
 enum-known-sought : tie.Need-enum-known-sought
 enum-known-sought c = search needs
 
--- src/lib.rt:92:36
 string-at-requires : tie.Need-string-at-requires
 string-at-requires c κs = search needs
 
--- src/lib.rt:93:31
 enum-told : tie.Need-enum-told
 enum-told c = search needs
 
--- src/lib.rt:93:31
 no-string-requires : tie.Need-no-string-requires
 no-string-requires c κs = search needs
 
--- src/lib.rt:94:24
 enum-known-sought-2 : tie.Need-enum-known-sought-2
 enum-known-sought-2 c = search needs
 
--- src/lib.rt:88:1
 returns : tie.Need-returns
 returns c = (c .string-at .ensures) ∙ as-found (c .before .before .before .before .before .args .dictionary) (stringOf (c .before .before .before .before .before .args .text .now)) _ _ (c .before .before .sought .given .1)
 
--- src/lib.rt:88:1
 returns-2 : tie.Need-returns-2
 returns-2 c = ap stringPaper (c .no-string .ensures) ∙ as-found (c .before .before .before .before .args .dictionary) (stringOf (c .before .before .before .before .args .text .now)) _ _ (c .before .enum-told .given .1)
 
--- src/lib.rt:88:1
 returns-3 : tie.Need-returns-3
 returns-3 c = as-found (c .before .before .before .before .args .dictionary) (stringOf (c .before .before .before .before .args .text .now)) _ _ (c .before .sought2 .given .1)
 

@@ -1,3 +1,4 @@
+-- `fields::within` meets its contract. Assumes nothing.
 use borrow.Author.Needs.{needs}
 use mathlib.Core.Path.{_≡_, refl, sym, ap, _∙_}
 use mathlib.Core.Bool.{Bool, true, false, not}
@@ -12,9 +13,6 @@ use Rattle.fields.specs.Looks.{naturalPaper}
 use Rattle.fields.proofs.Fitting.{below-zero, too-large, in-range}
 use Rattle.fields.proofs.within.Statement.{statement}
 use Rattle.fields.proofs.within.Tie as tie
-use Rattle.fields.proofs.within.Reads as reads
-use Rattle.fields.proofs.within.Lts as lts
-use Rattle.fields.proofs.no_number.Reads as no-number-reads
 
 no-number-requires : tie.Need-no-number-requires
 no-number-requires c κs = search needs

@@ -1,3 +1,4 @@
+-- `tracker::listed_peer` meets its contract. Assumes nothing.
 use borrow.Author.Needs.{needs}
 use Prim.Native.Nat.{_+_, _*_}
 use Rattle.tracker.specs.Entries.{Entry, Step, packedAt, nthAt, listedPaper}
@@ -9,36 +10,25 @@ use native.Mathlib.Omega.{arith}
 use mathlib.Core.Path.{_≡_, refl, sym, ap, _∙_}
 use Rattle.tracker.proofs.listed_peer.Statement.{statement}
 use Rattle.tracker.proofs.listed_peer.Tie as tie
-use Rattle.tracker.proofs.listed_peer.Reads as reads
-use Rattle.tracker.proofs.listed_peer.Lts as lts
-use Rattle.tracker.proofs.listed.nth.Reads as nth-reads
-use Rattle.tracker.proofs.no_peer.Reads as no-peer-reads
 
--- src/lib.rt:173:9
 no-peer-requires : tie.Need-no-peer-requires
 no-peer-requires c κs = search needs
 
--- src/lib.rt:173:9
 returns : tie.Need-returns
 returns c = ap peerPaper (c .no-peer .ensures) ∙ no-count (map (λ x. x .entry) (nthAt (c .before .before .before .before .args .n) (c .before .before .before .before .args .text .now) (c .before .before .before .before .args .p .first))) (c .before .before .before .before .args .p .count) (c .before .before .before .before .args .n) (c .before .if1 .taken)
 
--- src/lib.rt:175:11
 nth-requires : tie.Need-nth-requires
 nth-requires c κs = search needs
 
--- src/lib.rt:176:21
 enum-known-x : tie.Need-enum-known-x
 enum-known-x c = search needs
 
--- src/lib.rt:177:22
 enum-known-r : tie.Need-enum-known-r
 enum-known-r c = search needs
 
--- src/lib.rt:169:1
 returns-2 : tie.Need-returns-2
 returns-2 c = via listedPaper (map (λ x. x .entry)) (c .before .before .before .nth .ensures) (c .before .x .given .1) ∙ in-count (map (λ x. x .entry) (nthAt (c .before .before .before .before .before .before .before .args .n) (c .before .before .before .before .before .before .before .args .text .now) (c .before .before .before .before .before .before .before .args .p .first))) (c .before .before .before .before .before .before .before .args .p .count) (c .before .before .before .before .before .before .before .args .n) (c .before .before .before .before .if1 .left)
 
--- src/lib.rt:169:1
 returns-3 : tie.Need-returns-3
 returns-3 c = via listedPaper (map (λ x. x .entry)) (c .before .before .before .nth .ensures) (c .before .r .given .1) ∙ in-count (map (λ x. x .entry) (nthAt (c .before .before .before .before .before .before .before .args .n) (c .before .before .before .before .before .before .before .args .text .now) (c .before .before .before .before .before .before .before .args .p .first))) (c .before .before .before .before .before .before .before .args .p .count) (c .before .before .before .before .before .before .before .args .n) (c .before .before .before .before .if1 .left)
 

@@ -1,3 +1,4 @@
+-- `tracker::listed_peers` meets its contract. Assumes nothing.
 use borrow.Author.Needs.{needs}
 use Rattle.tracker.specs.Reply.{Answer, listing}
 use Rattle.tracker.specs.Entries.{countPaper}
@@ -7,27 +8,19 @@ use native.Mathlib.Omega.{arith}
 use mathlib.Core.Path.{_≡_, refl, sym, ap, _∙_}
 use Rattle.tracker.proofs.listed_peers.Statement.{statement}
 use Rattle.tracker.proofs.listed_peers.Tie as tie
-use Rattle.tracker.proofs.listed_peers.Reads as reads
-use Rattle.tracker.proofs.listed_peers.Lts as lts
-use Rattle.tracker.proofs.listed.count.Reads as count-reads
 
--- src/lib.rt:147:11
 count-requires : tie.Need-count-requires
 count-requires c κs = search needs
 
--- src/lib.rt:148:21
 enum-known-count : tie.Need-enum-known-count
 enum-known-count c = search needs
 
--- src/lib.rt:153:22
 enum-known-r : tie.Need-enum-known-r
 enum-known-r c = search needs
 
--- src/lib.rt:144:1
 returns : tie.Need-returns
 returns c = via countPaper (map (listing (c .before .before .before .before .before .args .interval) (c .before .before .before .before .before .args .first))) (c .before .before .before .count .ensures) (c .before .count2 .given .1)
 
--- src/lib.rt:144:1
 returns-2 : tie.Need-returns-2
 returns-2 c = via countPaper (map (listing (c .before .before .before .before .before .args .interval) (c .before .before .before .before .before .args .first))) (c .before .before .before .count .ensures) (c .before .r .given .1)
 

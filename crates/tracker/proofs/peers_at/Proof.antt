@@ -1,3 +1,4 @@
+-- `tracker::peers_at` meets its contract. Assumes nothing.
 use borrow.Author.Needs.{needs}
 use Rattle.tracker.specs.Reading.{paper, peersIn}
 use Rattle.fields.proofs.Looking.{as-seen}
@@ -6,94 +7,67 @@ use native.Mathlib.Omega.{arith}
 use mathlib.Core.Path.{_≡_, refl, sym, ap, _∙_}
 use Rattle.tracker.proofs.peers_at.Statement.{statement}
 use Rattle.tracker.proofs.peers_at.Tie as tie
-use Rattle.tracker.proofs.peers_at.Reads as reads
-use Rattle.tracker.proofs.peers_at.Lts as lts
-use Rattle.tracker.proofs.listed_peers.Reads as listed-peers-reads
-use Rattle.tracker.proofs.packed_peers.Reads as packed-peers-reads
-use Rattle.tracker.proofs.refused.Reads as refused-reads
-use Rattle.walk.proofs.look.Reads as look-reads
 
--- src/lib.rt:119:11
 look-requires : tie.Need-look-requires
 look-requires c κs = search needs
 
--- src/lib.rt:120:22
 enum-known-p : tie.Need-enum-known-p
 enum-known-p c = search needs
 
--- src/lib.rt:120:31
 packed-peers-requires : tie.Need-packed-peers-requires
 packed-peers-requires c κs = search needs
 
--- src/lib.rt:121:20
 enum-known-first : tie.Need-enum-known-first
 enum-known-first c = search needs
 
--- src/lib.rt:121:30
 listed-peers-requires : tie.Need-listed-peers-requires
 listed-peers-requires c κs = search needs
 
--- src/lib.rt:122:23
 enum-known-r : tie.Need-enum-known-r
 enum-known-r c = search needs
 
--- src/lib.rt:123:32
 enum-told : tie.Need-enum-told
 enum-told c = search needs
 
--- src/lib.rt:123:32
 refused-requires : tie.Need-refused-requires
 refused-requires c κs = search needs
 
--- src/lib.rt:124:29
 enum-told-2 : tie.Need-enum-told-2
 enum-told-2 c = search needs
 
--- src/lib.rt:124:29
 refused-requires-2 : tie.Need-refused-requires-2
 refused-requires-2 c κs = search needs
 
--- src/lib.rt:125:32
 enum-told-3 : tie.Need-enum-told-3
 enum-told-3 c = search needs
 
--- src/lib.rt:125:32
 refused-requires-3 : tie.Need-refused-requires-3
 refused-requires-3 c κs = search needs
 
--- src/lib.rt:126:25
 enum-told-4 : tie.Need-enum-told-4
 enum-told-4 c = search needs
 
--- src/lib.rt:126:25
 refused-requires-4 : tie.Need-refused-requires-4
 refused-requires-4 c κs = search needs
 
--- src/lib.rt:116:1
 returns : tie.Need-returns
 returns c = (c .packed-peers .ensures) ∙ as-seen (peersIn (c .before .before .before .before .before .before .args .text .now) (c .before .before .before .before .before .before .args .interval) (c .before .before .before .before .before .before .args .at)) _ _ _ (c .before .before .before .before .look .ensures) (c .before .before .p .given .1)
 
--- src/lib.rt:116:1
 returns-2 : tie.Need-returns-2
 returns-2 c = (c .listed-peers .ensures) ∙ as-seen (peersIn (c .before .before .before .before .before .before .args .text .now) (c .before .before .before .before .before .before .args .interval) (c .before .before .before .before .before .before .args .at)) _ _ _ (c .before .before .before .before .look .ensures) (c .before .before .first .given .1)
 
--- src/lib.rt:116:1
 returns-3 : tie.Need-returns-3
 returns-3 c = as-seen (peersIn (c .before .before .before .before .before .args .text .now) (c .before .before .before .before .before .args .interval) (c .before .before .before .before .before .args .at)) _ _ _ (c .before .before .before .look .ensures) (c .before .r .given .1)
 
--- src/lib.rt:116:1
 returns-4 : tie.Need-returns-4
 returns-4 c = ap paper (c .refused .ensures) ∙ as-seen (peersIn (c .before .before .before .before .before .args .text .now) (c .before .before .before .before .before .args .interval) (c .before .before .before .before .before .args .at)) _ _ _ (c .before .before .before .look .ensures) (c .before .enum-told .given .1)
 
--- src/lib.rt:116:1
 returns-5 : tie.Need-returns-5
 returns-5 c = ap paper (c .refused2 .ensures) ∙ as-seen (peersIn (c .before .before .before .before .before .args .text .now) (c .before .before .before .before .before .args .interval) (c .before .before .before .before .before .args .at)) _ _ _ (c .before .before .before .look .ensures) (c .before .enum-told2 .given .1)
 
--- src/lib.rt:116:1
 returns-6 : tie.Need-returns-6
 returns-6 c = ap paper (c .refused3 .ensures) ∙ as-seen (peersIn (c .before .before .before .before .before .args .text .now) (c .before .before .before .before .before .args .interval) (c .before .before .before .before .before .args .at)) _ _ _ (c .before .before .before .look .ensures) (c .before .enum-told3 .given .1)
 
--- src/lib.rt:116:1
 returns-7 : tie.Need-returns-7
 returns-7 c = ap paper (c .refused4 .ensures) ∙ as-seen (peersIn (c .before .before .before .before .before .args .text .now) (c .before .before .before .before .before .args .interval) (c .before .before .before .before .before .args .at)) _ _ _ (c .before .before .before .look .ensures) (c .before .enum-told4 .given .1)
 

@@ -1,3 +1,4 @@
+-- `tracker::read` meets its contract. Assumes nothing.
 use borrow.Author.Needs.{needs}
 use Rattle.bencode.specs.Answers.{paper}
 use Rattle.tracker.proofs.Agreeing.{read-whole, read-refused}
@@ -6,32 +7,22 @@ use native.Mathlib.Omega.{arith}
 use mathlib.Core.Path.{_≡_, refl, sym, ap, _∙_}
 use Rattle.tracker.proofs.read.Statement.{statement}
 use Rattle.tracker.proofs.read.Tie as tie
-use Rattle.tracker.proofs.read.Reads as reads
-use Rattle.tracker.proofs.read.Lts as lts
-use Rattle.bencode.proofs.check.Reads as check-reads
-use Rattle.tracker.proofs.whole.Reads as whole-reads
 
--- src/lib.rt:54:11
 check-requires : tie.Need-check-requires
 check-requires c κs = search needs
 
--- src/lib.rt:55:30
 enum-told : tie.Need-enum-told
 enum-told c = search needs
 
--- src/lib.rt:55:30
 whole-requires : tie.Need-whole-requires
 whole-requires c κs = search needs
 
--- src/lib.rt:56:26
 enum-known-r : tie.Need-enum-known-r
 enum-known-r c = search needs
 
--- src/lib.rt:51:1
 returns : tie.Need-returns
 returns c = (c .whole .ensures) ∙ read-whole (c .before .before .before .before .before .args .text .now) _ (ap paper (sym (c .before .enum-told .given .1)) ∙ (c .before .before .before .check .ensures .0))
 
--- src/lib.rt:51:1
 returns-2 : tie.Need-returns-2
 returns-2 c = read-refused (c .before .before .before .before .before .args .text .now) _ (ap paper (sym (c .before .r .given .1)) ∙ (c .before .before .before .check .ensures .0))
 

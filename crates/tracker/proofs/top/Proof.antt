@@ -1,3 +1,4 @@
+-- `tracker::top` meets its contract. Assumes nothing.
 use borrow.Author.Needs.{needs}
 use Rattle.walk.specs.Walk.{seekPaper}
 use Rattle.tracker.specs.Reading.{topBy}
@@ -7,49 +8,34 @@ use native.Mathlib.Omega.{arith}
 use mathlib.Core.Path.{_≡_, refl, sym, ap, _∙_}
 use Rattle.tracker.proofs.top.Statement.{statement}
 use Rattle.tracker.proofs.top.Tie as tie
-use Rattle.tracker.proofs.top.Reads as reads
-use Rattle.tracker.proofs.top.Lts as lts
-use Rattle.tracker.proofs.answered.Reads as answered-reads
-use Rattle.tracker.proofs.failure.Reads as failure-reads
-use Rattle.walk.proofs.seek.Reads as seek-reads
 
--- src/lib.rt:85:35
 slice-aggregate-seek : tie.Need-slice-aggregate-seek
 slice-aggregate-seek c = search needs
 
--- src/lib.rt:85:11
 seek-requires : tie.Need-seek-requires
 seek-requires c κs = search needs
 
--- src/lib.rt:86:26
 enum-known-value : tie.Need-enum-known-value
 enum-known-value c = search needs
 
--- src/lib.rt:86:36
 failure-requires : tie.Need-failure-requires
 failure-requires c κs = search needs
 
--- src/lib.rt:87:25
 enum-known-at : tie.Need-enum-known-at
 enum-known-at c = search needs
 
--- src/lib.rt:87:32
 answered-requires : tie.Need-answered-requires
 answered-requires c κs = search needs
 
--- src/lib.rt:88:24
 enum-known-r : tie.Need-enum-known-r
 enum-known-r c = search needs
 
--- src/lib.rt:82:1
 returns : tie.Need-returns
 returns c = (c .failure .ensures) ∙ via seekPaper (λ o. then o (topBy (c .before .before .before .before .before .before .before .args .text .now))) (c .before .before .before .before .seek .ensures) (c .before .before .value .given .1)
 
--- src/lib.rt:82:1
 returns-2 : tie.Need-returns-2
 returns-2 c = (c .answered .ensures) ∙ via seekPaper (λ o. then o (topBy (c .before .before .before .before .before .before .before .args .text .now))) (c .before .before .before .before .seek .ensures) (c .before .before .at .given .1)
 
--- src/lib.rt:82:1
 returns-3 : tie.Need-returns-3
 returns-3 c = via seekPaper (λ o. then o (topBy (c .before .before .before .before .before .before .args .text .now))) (c .before .before .before .seek .ensures) (c .before .r .given .1)
 

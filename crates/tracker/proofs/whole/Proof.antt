@@ -1,3 +1,4 @@
+-- `tracker::whole` meets its contract. Assumes nothing.
 use borrow.Author.Needs.{needs}
 use Rattle.fields.specs.Looks.{insidePaper}
 use Rattle.tracker.specs.Reading.{topOf}
@@ -7,32 +8,22 @@ use native.Mathlib.Omega.{arith}
 use mathlib.Core.Path.{_≡_, refl, sym, ap, _∙_}
 use Rattle.tracker.proofs.whole.Statement.{statement}
 use Rattle.tracker.proofs.whole.Tie as tie
-use Rattle.tracker.proofs.whole.Reads as reads
-use Rattle.tracker.proofs.whole.Lts as lts
-use Rattle.fields.proofs.dictionary_at.Reads as dictionary-at-reads
-use Rattle.tracker.proofs.top.Reads as top-reads
 
--- src/lib.rt:75:11
 dictionary-at-requires : tie.Need-dictionary-at-requires
 dictionary-at-requires c κs = search needs
 
--- src/lib.rt:76:20
 enum-known-first : tie.Need-enum-known-first
 enum-known-first c = search needs
 
--- src/lib.rt:76:30
 top-requires : tie.Need-top-requires
 top-requires c κs = search needs
 
--- src/lib.rt:77:22
 enum-known-r : tie.Need-enum-known-r
 enum-known-r c = search needs
 
--- src/lib.rt:72:1
 returns : tie.Need-returns
 returns c = (c .top .ensures) ∙ via insidePaper (λ o. then o (topOf (c .before .before .before .before .before .before .args .text .now))) (c .before .before .before .before .dictionary-at .ensures) (c .before .before .first .given .1)
 
--- src/lib.rt:72:1
 returns-2 : tie.Need-returns-2
 returns-2 c = via insidePaper (λ o. then o (topOf (c .before .before .before .before .before .args .text .now))) (c .before .before .before .dictionary-at .ensures) (c .before .r .given .1)
 

@@ -1,3 +1,4 @@
+-- `tracker::compact::nth` meets its contract. Assumes nothing.
 use borrow.Author.Needs.{needs}
 use Prim.Native.Nat.{_+_, _*_}
 use Rattle.tracker.specs.Entries.{packedPaper}
@@ -7,44 +8,31 @@ use native.Mathlib.Omega.{arith}
 use mathlib.Core.Path.{_≡_, refl, sym, ap, _∙_}
 use Rattle.tracker.proofs.compact.nth.Statement.{statement}
 use Rattle.tracker.proofs.compact.nth.Tie as tie
-use Rattle.tracker.proofs.compact.nth.Reads as reads
-use Rattle.tracker.proofs.compact.nth.Lts as lts
-use Rattle.tracker.proofs.compact.cut.Reads as cut-reads
-use Rattle.tracker.proofs.compact.packed_at.Reads as packed-at-reads
 
--- src/compact.rt:40:9
 cut-requires : tie.Need-cut-requires
 cut-requires c κs = search needs
 
--- src/compact.rt:40:9
 returns : tie.Need-returns
 returns c = ap packedPaper (c .cut .ensures) ∙ packed-cut (c .before .before .before .args .text .now) ((c .before .before .before .args .first) + (c .before .before .before .args .n) * 6) (omega arith)
 
--- src/compact.rt:42:19
 mul-skipped : tie.Need-mul-skipped
 mul-skipped c = search needs
 
--- src/compact.rt:43:8
 sub-if2 : tie.Need-sub-if2
 sub-if2 c = search needs
 
--- src/compact.rt:44:9
 cut-requires-2 : tie.Need-cut-requires-2
 cut-requires-2 c κs = search needs
 
--- src/compact.rt:44:9
 returns-2 : tie.Need-returns-2
 returns-2 c = ap packedPaper (c .cut2 .ensures) ∙ packed-cut (c .before .before .before .before .args .text .now) ((c .before .before .before .before .args .first) + (c .before .before .before .before .args .n) * 6) (omega arith)
 
--- src/compact.rt:46:21
 add-packed-at : tie.Need-add-packed-at
 add-packed-at c = search needs
 
--- src/compact.rt:46:5
 packed-at-requires : tie.Need-packed-at-requires
 packed-at-requires c κs = search needs
 
--- src/compact.rt:36:1
 returns-3 : tie.Need-returns-3
 returns-3 c = search needs
 

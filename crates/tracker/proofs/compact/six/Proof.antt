@@ -1,62 +1,47 @@
+-- `tracker::compact::six` meets its contract. Assumes nothing.
 use borrow.Author.Needs.{needs}
 use Rattle.refusal.specs.Paper.{Outcome, taken, refused, map, then}
 use native.Mathlib.Omega.{arith}
 use mathlib.Core.Path.{_≡_, refl, sym, ap, _∙_}
 use Rattle.tracker.proofs.compact.six.Statement.{statement}
 use Rattle.tracker.proofs.compact.six.Tie as tie
-use Rattle.tracker.proofs.compact.six.Reads as reads
-use Rattle.tracker.proofs.compact.six.Lts as lts
-use Rattle.tracker.proofs.compact.port.Reads as port-reads
 
--- src/compact.rt:54:26
 shared-slice-read-t4 : tie.Need-shared-slice-read-t4
 shared-slice-read-t4 c = search needs
 
--- src/compact.rt:54:41
 add-t5 : tie.Need-add-t5
 add-t5 c = search needs
 
--- src/compact.rt:54:36
 shared-slice-read-t7 : tie.Need-shared-slice-read-t7
 shared-slice-read-t7 c = search needs
 
--- src/compact.rt:54:55
 add-t8 : tie.Need-add-t8
 add-t8 c = search needs
 
--- src/compact.rt:54:50
 shared-slice-read-t10 : tie.Need-shared-slice-read-t10
 shared-slice-read-t10 c = search needs
 
--- src/compact.rt:54:69
 add-t11 : tie.Need-add-t11
 add-t11 c = search needs
 
--- src/compact.rt:54:64
 shared-slice-read-t13 : tie.Need-shared-slice-read-t13
 shared-slice-read-t13 c = search needs
 
--- src/compact.rt:55:25
 add-port : tie.Need-add-port
 add-port c = search needs
 
--- src/compact.rt:55:20
 shared-slice-read-port : tie.Need-shared-slice-read-port
 shared-slice-read-port c = search needs
 
--- src/compact.rt:55:39
 add-port-2 : tie.Need-add-port-2
 add-port-2 c = search needs
 
--- src/compact.rt:55:34
 shared-slice-read-port-2 : tie.Need-shared-slice-read-port-2
 shared-slice-read-port-2 c = search needs
 
--- src/compact.rt:55:15
 port-requires : tie.Need-port-requires
 port-requires c κs = search needs
 
--- src/compact.rt:49:1
 returns : tie.Need-returns
 returns c = rw ((c .port .ensures))
 

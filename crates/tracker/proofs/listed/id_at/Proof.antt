@@ -1,3 +1,4 @@
+-- `tracker::listed::id_at` meets its contract. Assumes nothing.
 use borrow.Author.Needs.{needs}
 use Rattle.tracker.specs.Entries.{idLength}
 use Rattle.fields.specs.Looks.{stringPaper}
@@ -7,36 +8,25 @@ use native.Mathlib.Omega.{arith}
 use mathlib.Core.Path.{_≡_, refl, sym, ap, _∙_}
 use Rattle.tracker.proofs.listed.id_at.Statement.{statement}
 use Rattle.tracker.proofs.listed.id_at.Tie as tie
-use Rattle.tracker.proofs.listed.id_at.Reads as reads
-use Rattle.tracker.proofs.listed.id_at.Lts as lts
-use Rattle.fields.proofs.string_at.Reads as string-at-reads
-use Rattle.tracker.proofs.listed.unread.Reads as unread-reads
 
--- src/listed.rt:127:11
 string-at-requires : tie.Need-string-at-requires
 string-at-requires c κs = search needs
 
--- src/listed.rt:128:20
 enum-known-id : tie.Need-enum-known-id
 enum-known-id c = search needs
 
--- src/listed.rt:130:17
 returns : tie.Need-returns
 returns c = id-good _ _ (c .if1 .taken) ∙ via stringPaper (λ o. then o (idLength (c .before .before .before .before .before .before .before .args .at))) (c .before .before .before .before .before .string-at .ensures) (c .before .before .before .id .given .1)
 
--- src/listed.rt:132:13
 unread-requires : tie.Need-unread-requires
 unread-requires c κs = search needs
 
--- src/listed.rt:134:23
 enum-known-r : tie.Need-enum-known-r
 enum-known-r c = search needs
 
--- src/listed.rt:124:1
 returns-2 : tie.Need-returns-2
 returns-2 c = ap stringPaper (c .unread .ensures) ∙ id-bad _ _ (c .before .if1 .left) ∙ via stringPaper (λ o. then o (idLength (c .before .before .before .before .before .before .before .before .args .at))) (c .before .before .before .before .before .before .string-at .ensures) (c .before .before .before .before .id .given .1)
 
--- src/listed.rt:124:1
 returns-3 : tie.Need-returns-3
 returns-3 c = via stringPaper (λ o. then o (idLength (c .before .before .before .before .before .args .at))) (c .before .before .before .string-at .ensures) (c .before .r .given .1)
 

@@ -1,3 +1,4 @@
+-- `tracker::listed::id_under` meets its contract. Assumes nothing.
 use borrow.Author.Needs.{needs}
 use Rattle.tracker.specs.Entries.{idOf}
 use Rattle.fields.specs.Looks.{stringPaper}
@@ -7,40 +8,28 @@ use native.Mathlib.Omega.{arith}
 use mathlib.Core.Path.{_≡_, refl, sym, ap, _∙_}
 use Rattle.tracker.proofs.listed.id_under.Statement.{statement}
 use Rattle.tracker.proofs.listed.id_under.Tie as tie
-use Rattle.tracker.proofs.listed.id_under.Reads as reads
-use Rattle.tracker.proofs.listed.id_under.Lts as lts
-use Rattle.tracker.proofs.listed.id_at.Reads as id-at-reads
-use Rattle.tracker.proofs.listed.unread.Reads as unread-reads
 
--- src/listed.rt:118:26
 enum-known-sought : tie.Need-enum-known-sought
 enum-known-sought c = search needs
 
--- src/listed.rt:118:36
 id-at-requires : tie.Need-id-at-requires
 id-at-requires c κs = search needs
 
--- src/listed.rt:119:31
 enum-told : tie.Need-enum-told
 enum-told c = search needs
 
--- src/listed.rt:119:31
 unread-requires : tie.Need-unread-requires
 unread-requires c κs = search needs
 
--- src/listed.rt:120:24
 enum-known-sought-2 : tie.Need-enum-known-sought-2
 enum-known-sought-2 c = search needs
 
--- src/listed.rt:114:1
 returns : tie.Need-returns
 returns c = (c .id-at .ensures) ∙ as-found (c .before .before .before .before .before .args .dictionary) (idOf (c .before .before .before .before .before .args .text .now)) _ _ (c .before .before .sought .given .1)
 
--- src/listed.rt:114:1
 returns-2 : tie.Need-returns-2
 returns-2 c = ap stringPaper (c .unread .ensures) ∙ as-found (c .before .before .before .before .args .dictionary) (idOf (c .before .before .before .before .args .text .now)) _ _ (c .before .enum-told .given .1)
 
--- src/listed.rt:114:1
 returns-3 : tie.Need-returns-3
 returns-3 c = as-found (c .before .before .before .before .args .dictionary) (idOf (c .before .before .before .before .args .text .now)) _ _ (c .before .sought2 .given .1)
 

@@ -1,3 +1,4 @@
+-- `tracker::listed::listed_at` meets its contract. Assumes nothing.
 use borrow.Author.Needs.{needs}
 use Rattle.tracker.specs.Entries.{peerBy}
 use Rattle.fields.specs.Looks.{insidePaper}
@@ -7,32 +8,22 @@ use native.Mathlib.Omega.{arith}
 use mathlib.Core.Path.{_≡_, refl, sym, ap, _∙_}
 use Rattle.tracker.proofs.listed.listed_at.Statement.{statement}
 use Rattle.tracker.proofs.listed.listed_at.Tie as tie
-use Rattle.tracker.proofs.listed.listed_at.Reads as reads
-use Rattle.tracker.proofs.listed.listed_at.Lts as lts
-use Rattle.fields.proofs.dictionary_at.Reads as dictionary-at-reads
-use Rattle.tracker.proofs.listed.peer_in.Reads as peer-in-reads
 
--- src/listed.rt:41:11
 dictionary-at-requires : tie.Need-dictionary-at-requires
 dictionary-at-requires c κs = search needs
 
--- src/listed.rt:42:20
 enum-known-first : tie.Need-enum-known-first
 enum-known-first c = search needs
 
--- src/listed.rt:42:30
 peer-in-requires : tie.Need-peer-in-requires
 peer-in-requires c κs = search needs
 
--- src/listed.rt:43:22
 enum-known-r : tie.Need-enum-known-r
 enum-known-r c = search needs
 
--- src/listed.rt:38:1
 returns : tie.Need-returns
 returns c = (c .peer-in .ensures) ∙ via insidePaper (λ o. then o (peerBy (c .before .before .before .before .before .before .args .text .now) (c .before .before .before .before .before .before .args .at))) (c .before .before .before .before .dictionary-at .ensures) (c .before .before .first .given .1) ∙ listed-by (c .before .before .before .before .before .before .args .text .now) (c .before .before .before .before .before .before .args .at)
 
--- src/listed.rt:38:1
 returns-2 : tie.Need-returns-2
 returns-2 c = via insidePaper (λ o. then o (peerBy (c .before .before .before .before .before .args .text .now) (c .before .before .before .before .before .args .at))) (c .before .before .before .dictionary-at .ensures) (c .before .r .given .1) ∙ listed-by (c .before .before .before .before .before .args .text .now) (c .before .before .before .before .before .args .at)
 

@@ -1,3 +1,4 @@
+-- `tracker::listed::past` meets its contract. Assumes nothing.
 use borrow.Author.Needs.{needs}
 use Prim.Native.Nat.{ℕ}
 use Rattle.tracker.specs.Entries.{Entry, listed, Step}
@@ -8,27 +9,19 @@ use native.Mathlib.Omega.{arith}
 use mathlib.Core.Path.{_≡_, refl, sym, ap, _∙_}
 use Rattle.tracker.proofs.listed.past.Statement.{statement}
 use Rattle.tracker.proofs.listed.past.Tie as tie
-use Rattle.tracker.proofs.listed.past.Reads as reads
-use Rattle.tracker.proofs.listed.past.Lts as lts
-use Rattle.walk.proofs.skip.Reads as skip-reads
 
--- src/listed.rt:108:11
 skip-requires : tie.Need-skip-requires
 skip-requires c κs = search needs
 
--- src/listed.rt:109:18
 enum-known-next : tie.Need-enum-known-next
 enum-known-next c = search needs
 
--- src/listed.rt:110:19
 enum-known-r : tie.Need-enum-known-r
 enum-known-r c = search needs
 
--- src/listed.rt:105:1
 returns : tie.Need-returns
 returns c = via pastPaper (map (λ q. record { entry = listed (c .before .before .before .before .before .args .peer); next = q })) (c .before .before .before .skip .ensures) (c .before .next .given .1)
 
--- src/listed.rt:105:1
 returns-2 : tie.Need-returns-2
 returns-2 c = via pastPaper (map (λ q. record { entry = listed (c .before .before .before .before .before .args .peer); next = q })) (c .before .before .before .skip .ensures) (c .before .r .given .1)
 

@@ -1,3 +1,4 @@
+-- `tracker::listed::peer_in` meets its contract. Assumes nothing.
 use borrow.Author.Needs.{needs}
 use Rattle.tracker.proofs.Steps.{no-id, no-ip, no-port, a-peer}
 use Rattle.walk.specs.Walk.{seekPaper}
@@ -8,92 +9,64 @@ use native.Mathlib.Omega.{arith}
 use mathlib.Core.Path.{_≡_, refl, sym, ap, _∙_}
 use Rattle.tracker.proofs.listed.peer_in.Statement.{statement}
 use Rattle.tracker.proofs.listed.peer_in.Tie as tie
-use Rattle.tracker.proofs.listed.peer_in.Reads as reads
-use Rattle.tracker.proofs.listed.peer_in.Lts as lts
-use Rattle.fields.proofs.natural_under.Reads as natural-under-reads
-use Rattle.fields.proofs.seek_after.Reads as seek-after-reads
-use Rattle.fields.proofs.string_under.Reads as string-under-reads
-use Rattle.tracker.proofs.listed.id_under.Reads as id-under-reads
-use Rattle.tracker.proofs.listed.past.Reads as past-reads
-use Rattle.walk.proofs.seek.Reads as seek-reads
 
--- src/listed.rt:90:39
 slice-aggregate-seek : tie.Need-slice-aggregate-seek
 slice-aggregate-seek c = search needs
 
--- src/listed.rt:90:9
 seek-requires : tie.Need-seek-requires
 seek-requires c κs = search needs
 
--- src/listed.rt:91:45
 slice-aggregate-seek-after : tie.Need-slice-aggregate-seek-after
 slice-aggregate-seek-after c = search needs
 
--- src/listed.rt:91:9
 seek-after-requires : tie.Need-seek-after-requires
 seek-after-requires c κs = search needs
 
--- src/listed.rt:92:47
 slice-aggregate-seek-after-2 : tie.Need-slice-aggregate-seek-after-2
 slice-aggregate-seek-after-2 c = search needs
 
--- src/listed.rt:92:9
 seek-after-requires-2 : tie.Need-seek-after-requires-2
 seek-after-requires-2 c κs = search needs
 
--- src/listed.rt:93:11
 id-under-requires : tie.Need-id-under-requires
 id-under-requires c κs = search needs
 
--- src/listed.rt:94:20
 enum-known-id : tie.Need-enum-known-id
 enum-known-id c = search needs
 
--- src/listed.rt:94:33
 string-under-requires : tie.Need-string-under-requires
 string-under-requires c κs = search needs
 
--- src/listed.rt:95:24
 enum-known-ip : tie.Need-enum-known-ip
 enum-known-ip c = search needs
 
--- src/listed.rt:95:37
 natural-under-requires : tie.Need-natural-under-requires
 natural-under-requires c κs = search needs
 
--- src/listed.rt:96:29
 enum-known-port : tie.Need-enum-known-port
 enum-known-port c = search needs
 
--- src/listed.rt:96:38
 past-requires : tie.Need-past-requires
 past-requires c κs = search needs
 
--- src/listed.rt:97:30
 enum-known-r : tie.Need-enum-known-r
 enum-known-r c = search needs
 
--- src/listed.rt:99:27
 enum-known-r-2 : tie.Need-enum-known-r-2
 enum-known-r-2 c = search needs
 
--- src/listed.rt:101:23
 enum-known-r-3 : tie.Need-enum-known-r-3
 enum-known-r-3 c = search needs
 
--- src/listed.rt:87:1
 returns : tie.Need-returns
 returns c = (c .past .ensures) ∙ a-peer (c .before .before .before .before .before .before .before .before .before .before .before .before .before .before .before .before .before .before .before .before .args .text .now) (c .before .before .before .before .before .before .before .before .before .before .before .before .before .before .before .before .before .before .before .before .args .at) (c .before .before .before .before .before .before .before .before .before .before .before .before .before .before .before .before .before .before .before .before .args .first) (c .before .before .before .before .before .before .before .before .before .before .before .before .before .before .before .before .before .seek .result) (c .before .before .before .before .before .before .before .before .before .before .before .before .before .before .before .seek-after .result) (c .before .before .before .before .before .before .before .before .before .before .before .before .before .seek-after2 .result) (c .before .before .before .before .before .before .before .before .before .before .before .before .before .before .before .before .before .seek .ensures) (c .before .before .before .before .before .before .before .before .before .before .before .before .before .before .before .seek-after .ensures) (c .before .before .before .before .before .before .before .before .before .before .before .before .before .seek-after2 .ensures) (c .before .before .before .before .before .before .before .before .before .before .before .before .id-under .result) (c .before .before .before .before .before .before .before .before .before .before .before .before .id-under .ensures) (c .before .before .before .before .before .before .before .before .before .before .id .given .1) (c .before .before .before .before .before .before .before .before .string-under .result) (c .before .before .before .before .before .before .before .before .string-under .ensures) (c .before .before .before .before .before .before .ip .given .1) (c .before .before .before .before .natural-under .result) (c .before .before .before .before .natural-under .ensures) (c .before .before .port .given .1)
 
--- src/listed.rt:87:1
 returns-2 : tie.Need-returns-2
 returns-2 c = no-port (c .before .before .before .before .before .before .before .before .before .before .before .before .before .before .before .before .before .before .before .args .text .now) (c .before .before .before .before .before .before .before .before .before .before .before .before .before .before .before .before .before .before .before .args .at) (c .before .before .before .before .before .before .before .before .before .before .before .before .before .before .before .before .before .before .before .args .first) (c .before .before .before .before .before .before .before .before .before .before .before .before .before .before .before .before .seek .result) (c .before .before .before .before .before .before .before .before .before .before .before .before .before .before .seek-after .result) (c .before .before .before .before .before .before .before .before .before .before .before .before .seek-after2 .result) (c .before .before .before .before .before .before .before .before .before .before .before .before .before .before .before .before .seek .ensures) (c .before .before .before .before .before .before .before .before .before .before .before .before .before .before .seek-after .ensures) (c .before .before .before .before .before .before .before .before .before .before .before .before .seek-after2 .ensures) (c .before .before .before .before .before .before .before .before .before .before .before .id-under .result) (c .before .before .before .before .before .before .before .before .before .before .before .id-under .ensures) (c .before .before .before .before .before .before .before .before .before .id .given .1) (c .before .before .before .before .before .before .before .string-under .result) (c .before .before .before .before .before .before .before .string-under .ensures) (c .before .before .before .before .before .ip .given .1) (c .before .before .before .natural-under .result) (c .before .before .before .natural-under .ensures) (c .before .r .given .1)
 
--- src/listed.rt:87:1
 returns-3 : tie.Need-returns-3
 returns-3 c = no-ip (c .before .before .before .before .before .before .before .before .before .before .before .before .before .before .before .args .text .now) (c .before .before .before .before .before .before .before .before .before .before .before .before .before .before .before .args .at) (c .before .before .before .before .before .before .before .before .before .before .before .before .before .before .before .args .first) (c .before .before .before .before .before .before .before .before .before .before .before .before .seek .result) (c .before .before .before .before .before .before .before .before .before .before .seek-after .result) (c .before .before .before .before .before .before .before .before .seek-after2 .result) (c .before .before .before .before .before .before .before .before .before .before .before .before .seek .ensures) (c .before .before .before .before .before .before .before .before .before .before .seek-after .ensures) (c .before .before .before .before .before .before .before .before .seek-after2 .ensures) (c .before .before .before .before .before .before .before .id-under .result) (c .before .before .before .before .before .before .before .id-under .ensures) (c .before .before .before .before .before .id .given .1) (c .before .before .before .string-under .result) (c .before .before .before .string-under .ensures) (c .before .r2 .given .1)
 
--- src/listed.rt:87:1
 returns-4 : tie.Need-returns-4
 returns-4 c = no-id (c .before .before .before .before .before .before .before .before .before .before .before .args .text .now) (c .before .before .before .before .before .before .before .before .before .before .before .args .at) (c .before .before .before .before .before .before .before .before .before .before .before .args .first) (c .before .before .before .before .before .before .before .before .seek .result) (c .before .before .before .before .before .before .seek-after .result) (c .before .before .before .before .seek-after2 .result) (c .before .before .before .before .before .before .before .before .seek .ensures) (c .before .before .before .before .before .before .seek-after .ensures) (c .before .before .before .before .seek-after2 .ensures) (c .before .before .before .id-under .result) (c .before .before .before .id-under .ensures) (c .before .r3 .given .1)
 

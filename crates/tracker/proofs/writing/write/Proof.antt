@@ -1,84 +1,62 @@
+-- `tracker::writing::write` meets its contract. Assumes nothing.
 use borrow.Author.Needs.{needs}
 use Rattle.tracker.proofs.Written.{size, write-range, write-peer, write-long, write-none, write-whole}
 use native.Mathlib.Omega.{arith}
 use mathlib.Core.Path.{_≡_, refl, sym, ap, _∙_}
 use Rattle.tracker.proofs.writing.write.Statement.{statement}
 use Rattle.tracker.proofs.writing.write.Tie as tie
-use Rattle.tracker.proofs.writing.write.Reads as reads
-use Rattle.tracker.proofs.writing.write.Lts as lts
-use Rattle.tracker.proofs.writing.digits.Reads as digits-reads
-use Rattle.tracker.proofs.writing.put_all.Reads as put-all-reads
-use Rattle.tracker.proofs.writing.refused.Reads as refused-reads
 
--- src/writing.rt:19:9
 refused-requires : tie.Need-refused-requires
 refused-requires c κs = search needs
 
--- src/writing.rt:19:9
 returns : tie.Need-returns
 returns c = write-range (c .before .before .before .before .args .interval) (c .before .before .before .before .args .peers .now) (c .before .before .before .before .args .out .now) (c .before .if1 .taken) (c .refused .ensures)
 
--- src/writing.rt:22:9
 refused-requires-2 : tie.Need-refused-requires-2
 refused-requires-2 c κs = search needs
 
--- src/writing.rt:22:9
 returns-2 : tie.Need-returns-2
 returns-2 c = write-peer (c .before .before .before .before .before .args .interval) (c .before .before .before .before .before .args .peers .now) (c .before .before .before .before .before .args .out .now) (omega arith) (c .before .if2 .taken) (c .refused2 .ensures)
 
--- src/writing.rt:26:9
 refused-requires-3 : tie.Need-refused-requires-3
 refused-requires-3 c κs = search needs
 
--- src/writing.rt:26:9
 returns-3 : tie.Need-returns-3
 returns-3 c = write-long (c .before .before .before .before .before .before .args .interval) (c .before .before .before .before .before .before .args .peers .now) (c .before .before .before .before .before .before .args .out .now) (omega arith) (omega arith) (omega (arith, size (c .before .before .before .before .before .before .args .interval) (c .before .before .before .before .before .before .args .peers .now))) (c .refused3 .ensures)
 
--- src/writing.rt:28:16
 digits-requires : tie.Need-digits-requires
 digits-requires c κs = search needs
 
--- src/writing.rt:28:35
 digits-requires-2 : tie.Need-digits-requires-2
 digits-requires-2 c κs = search needs
 
--- src/writing.rt:28:16
 add-size : tie.Need-add-size
 add-size c = search needs
 
--- src/writing.rt:28:16
 add-size-2 : tie.Need-add-size-2
 add-size-2 c = search needs
 
--- src/writing.rt:28:16
 add-size-3 : tie.Need-add-size-3
 add-size-3 c = search needs
 
--- src/writing.rt:30:9
 refused-requires-4 : tie.Need-refused-requires-4
 refused-requires-4 c κs = search needs
 
--- src/writing.rt:30:9
 returns-4 : tie.Need-returns-4
 returns-4 c = write-long (c .before .before .before .before .before .before .before .before .before .args .interval) (c .before .before .before .before .before .before .before .before .before .args .peers .now) (c .before .before .before .before .before .before .before .before .before .args .out .now) (omega arith) (omega arith) (omega (arith, size (c .before .before .before .before .before .before .before .before .before .args .interval) (c .before .before .before .before .before .before .before .before .before .args .peers .now), (c .before .before .before .digits .ensures .0), (c .before .before .digits2 .ensures .0))) (c .refused4 .ensures)
 
--- src/writing.rt:33:9
 refused-requires-5 : tie.Need-refused-requires-5
 refused-requires-5 c κs = search needs
 
--- src/writing.rt:33:9
 returns-5 : tie.Need-returns-5
 returns-5 c = write-none (c .before .before .before .before .before .before .before .before .before .before .args .interval) (c .before .before .before .before .before .before .before .before .before .before .args .peers .now) (c .before .before .before .before .before .before .before .before .before .before .args .out .now) (omega arith) (omega arith) (omega (arith, size (c .before .before .before .before .before .before .before .before .before .before .args .interval) (c .before .before .before .before .before .before .before .before .before .before .args .peers .now), (c .before .before .before .before .digits .ensures .0), (c .before .before .before .digits2 .ensures .0))) (omega (arith, size (c .before .before .before .before .before .before .before .before .before .before .args .interval) (c .before .before .before .before .before .before .before .before .before .before .args .peers .now), (c .before .before .before .before .digits .ensures .0), (c .before .before .before .digits2 .ensures .0))) (c .refused5 .ensures)
 
--- src/writing.rt:35:13
 put-all-requires : tie.Need-put-all-requires
 put-all-requires c κs = omega (arith, size (c .before .before .before .before .before .before .before .before .before .before .args .interval) (c .before .before .before .before .before .before .before .before .before .before .args .peers .now), (c .before .before .before .before .digits .ensures .0), (c .before .before .before .digits2 .ensures .0))
 
--- src/writing.rt:15:1
 same-length : tie.Need-same-length
 same-length c = search needs
 
--- src/writing.rt:15:1
 returns-6 : tie.Need-returns-6
 returns-6 c = write-whole (c .before .before .before .before .before .before .before .before .before .before .before .before .before .args .interval) (c .before .before .before .before .before .before .before .before .before .before .before .before .before .args .peers .now) (c .before .before .before .before .before .before .before .before .before .before .before .before .before .args .out .now) (omega arith) (omega arith) (omega (arith, size (c .before .before .before .before .before .before .before .before .before .before .before .before .before .args .interval) (c .before .before .before .before .before .before .before .before .before .before .before .before .before .args .peers .now), (c .before .before .before .before .before .before .before .digits .ensures .0), (c .before .before .before .before .before .before .digits2 .ensures .0))) (omega (arith, size (c .before .before .before .before .before .before .before .before .before .before .before .before .before .args .interval) (c .before .before .before .before .before .before .before .before .before .before .before .before .before .args .peers .now), (c .before .before .before .before .before .before .before .digits .ensures .0), (c .before .before .before .before .before .before .digits2 .ensures .0))) (c .before .before .put-all .ensures .0) (c .before .before .put-all .ensures .1)
 
