@@ -38,7 +38,7 @@ pub fn whole(first: Hash, m: &[u8]) -> Hash
     h
 }
 
-// The hash value after one more block.
+// The hash value after one more block. The module is private: only `stream` calls it, with blocks of 64 bytes.
 pub fn block(h: Hash, b: &[u8]) -> Hash
     requires { ⌜ length (now b) ≡ 64 ⌝ }
     ensures { λ r. ⌜ r ≡ compress h (now (b .entry)) ⌝ }
