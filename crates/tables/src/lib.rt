@@ -3,6 +3,9 @@ ghost use mathlib.Core.Path.{_≡_};
 ghost use Rattle.tables.specs.Seats.{cleared, arrived};
 use refusal::Refusal;
 
+pub mod bits;
+pub mod sizes;
+
 // The yard's head record: its sizes, and how many of its seats are taken and how many hold every piece.
 #[repr(C)]
 pub struct Head {

@@ -1,0 +1,5 @@
+-- What the proofs of several functions and crates use.
+pub mod Cases
+pub mod Sweeps
+pub mod Digits
+pub mod Sizing
