@@ -1,0 +1,4 @@
+pub mod History
+pub mod Says
+pub mod Expected
+pub mod Run
