@@ -52,12 +52,12 @@ module _ (s k : List ℕ) (d : ℕ) (levels : d ≤ 32) where
   pub seek-stands : (p : ℕ) (before : Prev) (es : Entries) → StandEntries s d p before es → seekOf (suc (length s)) s p k ≡ taken (soughtOf p es k)
   seek-stands p before es t = seek-by (suc (length s)) p before es t (omega arith)
 
-same-refl : (j : List ℕ) → sameKey j j ≡ true
+pub same-refl : (j : List ℕ) → sameKey j j ≡ true
 unfolding sameKey
 same-refl [] = refl
 same-refl (x ∷ xs) = rw (eq-eqb x x refl, same-refl xs)
 
-same-true : (j k : List ℕ) → sameKey j k ≡ true → j ≡ k
+pub same-true : (j k : List ℕ) → sameKey j k ≡ true → j ≡ k
 unfolding sameKey
 same-true [] [] e = refl
 same-true [] (y ∷ ys) e = no-way (cc)

@@ -4,3 +4,4 @@ pub mod Standing
 pub mod Seeking
 pub mod Finding
 pub mod Determined
+pub mod Having

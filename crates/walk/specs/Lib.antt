@@ -1,3 +1,4 @@
 pub mod Walk
 pub mod Stands
 pub mod Lookup
+pub mod Has

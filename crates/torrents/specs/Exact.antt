@@ -1,0 +1,51 @@
+-- What it is for the reader to be exact: it takes the torrents, and hands back what they say. Assumes nothing: these are definitions.
+use mathlib.Core.Path.{_≡_}
+use mathlib.Core.Bool.{Bool, true, false}
+use mathlib.Core.List.{List}
+use Prim.Native.Nat.{ℕ}
+use lib.ListN.{length, take, drop}
+use Rattle.refusal.specs.Paper.{Outcome, taken}
+use Rattle.bencode.specs.Value.{Value, Entries, dict, encode}
+use Rattle.bencode.specs.Exact.{Fine}
+use Rattle.walk.specs.Has.{Has}
+use Rattle.blocks.specs.Rules.{sum}
+use Rattle.metainfo.specs.Keys.{filesKey, lengthKey}
+use Rattle.metainfo.specs.Reading.{bytesOf, readOf}
+use Rattle.metainfo.specs.declared.Content.{Content}
+use Rattle.metainfo.specs.declared.Torrent.{Torrent}
+use Rattle.torrents.specs.Torrent.{Files, single, many, Said, lengthsIn, IsTorrent}
+
+abbrev pub isSingle : Files → Bool
+isSingle (single n) = true
+isSingle (many fs) = false
+
+-- the key that info has: length or files
+abbrev pub filesUnder : Files → List ℕ
+filesUnder (single n) = lengthKey
+filesUnder (many fs) = filesKey
+
+-- a value stands at p of the text s
+abbrev pub StandsAt : List ℕ → ℕ → Value → Type 0
+StandsAt s p v = take (length (encode v)) (drop p s) ≡ encode v
+
+-- the content that is handed back is those files, and its place is where the value under length or files stands
+pub record ShowsFiles (s : List ℕ) (info : Entries) (c : Content) (fs : Files) : Type 0 where
+  pub one : c .single ≡ isSingle fs
+  pub files : c .files ≡ length (lengthsIn fs)
+  pub total : c .total ≡ sum (lengthsIn fs)
+  pub place : (v : Value) × Has info (filesUnder fs) v × StandsAt s (c .place) v
+
+-- an answer's fields are what is said: parts of the text by their bytes, and info's as its dictionary is written
+pub record Shows (s : List ℕ) (x : Torrent) (t : Said) : Type 0 where
+  pub announce : bytesOf s (x .announce) ≡ t .announce
+  pub info : bytesOf s (x .info) ≡ encode (dict (t .info))
+  pub name : bytesOf s (x .name) ≡ t .name
+  pub pieces : bytesOf s (x .pieces) ≡ t .pieces
+  pub piece-length : x .«piece_length» ≡ t .piece-length
+  pub count : x .«piece_count» ≡ t .count
+  pub files : ShowsFiles s (t .info) (x .content) (t .files)
+
+-- taken exactly when the text is the encoding of a value that is a torrent and keeps the limits, with that value's fields
+pub record TorrentExact (s : List ℕ) : Type 0 where
+  pub only : (x : Torrent) → readOf s ≡ taken x → (v : Value) × (t : Said) × Fine s v × IsTorrent v t × Shows s x t
+  pub every : (v : Value) (t : Said) → Fine s v → IsTorrent v t → (x : Torrent) × (readOf s ≡ taken x) × Shows s x t

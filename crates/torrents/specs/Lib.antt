@@ -1,0 +1,3 @@
+pub mod Torrent
+pub mod Exact
+pub mod Causes
