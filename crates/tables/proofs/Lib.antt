@@ -3,3 +3,5 @@ pub mod Cases
 pub mod Sweeps
 pub mod Digits
 pub mod Sizing
+pub mod Counts
+pub mod Rows
