@@ -1,4 +1,5 @@
 pub mod Sha1
+pub mod Rounds
 pub mod Digest
 pub mod Parts
 pub mod Example

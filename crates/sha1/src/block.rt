@@ -1,10 +1,13 @@
 // SHA-1 of one block: 6.1.2 of FIPS 180-4.
 ghost use mathlib.Core.Path.{_≡_};
-ghost use Prim.Native.Nat.{_/_};
+ghost use Prim.Native.Nat.{ℕ, _/_, _<_, _≤_};
+ghost use mathlib.Core.List.{List};
 ghost use lib.ListN.{length};
 ghost use Rattle.digest.specs.Words.{rotl};
 ghost use Rattle.digest.specs.Message.{hashed};
-ghost use Rattle.sha1.specs.Sha1.{step, plus, schedule, rounds, compress, output};
+ghost use Rattle.sha1.specs.declared.block.Hash.{Hash};
+ghost use Rattle.sha1.specs.Sha1.{step, plus, mixed, compress, output};
+ghost use Rattle.sha1.specs.Rounds.{Done};
 use digest::word::add;
 use digest::word::byte0;
 use digest::word::byte1;
@@ -43,8 +46,13 @@ pub fn block(h: Hash, b: &[u8]) -> Hash
     requires { ⌜ length (now b) ≡ 64 ⌝ }
     ensures { λ r. ⌜ r ≡ compress h (now (b .entry)) ⌝ }
 {
-    let w = expand(b);
-    turn(h, &w)
+    let mut w = [0u32; 80];
+    let loaded = rounds_to_16(h, b, &mut w);
+    let first = rounds_to_20(loaded, &mut w);
+    let second = rounds_to_40(first, &mut w);
+    let third = rounds_to_60(second, &mut w);
+    let last = rounds_to_80(third, &mut w);
+    sum(last, h)
 }
 
 // The digest's bytes.
@@ -75,47 +83,83 @@ pub fn spread(h: Hash) -> [u8; 20]
     ]
 }
 
-// Step 1: the message schedule.
-fn expand(b: &[u8]) -> [u32; 80]
-    requires { ⌜ length (now b) ≡ 64 ⌝ }
-    ensures { λ r. ⌜ r ≡ schedule (now (b .entry)) 80 ⌝ }
-{
-    let mut w = [0u32; 80];
-    let mut t = 0;
-    while t < 16 {
-        w[t] = joined(b[4 * t], b[4 * t + 1], b[4 * t + 2], b[4 * t + 3]);
-        t += 1;
-    }
-    while t < 80 {
-        w[t] = rotl1(w[t - 3] ^ w[t - 8] ^ w[t - 14] ^ w[t - 16]);
-        t += 1;
-    }
-    w
-}
-
-// Steps 2 to 4: the eighty rounds, and the sum with the hash value that they began with.
-fn turn(h: Hash, w: &[u32; 80]) -> Hash
-    ensures { λ r. ⌜ r ≡ plus (rounds h (now (w .entry)) 80) h ⌝ }
+// Steps 1 and 3 at once, since both then run beside each other: each word of the schedule is made in the round that uses it.
+fn rounds_to_16(h: Hash, b: &[u8], w: &mut [u32]) -> Hash
+    requires { ⌜ (length (now b) ≡ 64) × (length (now w) ≡ 80) ⌝ }
+    ensures { λ r. ⌜ Done h (now (b .entry)) 16 r (now (w .exit)) ⌝ }
 {
     let mut g = h;
     let mut t = 0;
-    while t < 20 {
+    while t < 16 {
+        w[t] = joined(b[4 * t], b[4 * t + 1], b[4 * t + 2], b[4 * t + 3]);
         g = round(g, choose(g.b, g.c, g.d), 0x5a827999, w[t]);
         t += 1;
     }
+    g
+}
+
+fn rounds_to_20(before: Hash, w: &mut [u32]) -> Hash
+    requires { ⌜ length (now w) ≡ 80 ⌝ }
+    ensures { λ r. ⌜ ((h : Hash) (b : List ℕ) → Done h b 16 before (now (w .entry)) → Done h b 20 r (now (w .exit))) ⌝ }
+{
+    let mut g = before;
+    let mut t = 16;
+    while t < 20 {
+        w[t] = mixed(w, t);
+        g = round(g, choose(g.b, g.c, g.d), 0x5a827999, w[t]);
+        t += 1;
+    }
+    g
+}
+
+fn rounds_to_40(before: Hash, w: &mut [u32]) -> Hash
+    requires { ⌜ length (now w) ≡ 80 ⌝ }
+    ensures { λ r. ⌜ ((h : Hash) (b : List ℕ) → Done h b 20 before (now (w .entry)) → Done h b 40 r (now (w .exit))) ⌝ }
+{
+    let mut g = before;
+    let mut t = 20;
     while t < 40 {
+        w[t] = mixed(w, t);
         g = round(g, odd(g.b, g.c, g.d), 0x6ed9eba1, w[t]);
         t += 1;
     }
+    g
+}
+
+fn rounds_to_60(before: Hash, w: &mut [u32]) -> Hash
+    requires { ⌜ length (now w) ≡ 80 ⌝ }
+    ensures { λ r. ⌜ ((h : Hash) (b : List ℕ) → Done h b 40 before (now (w .entry)) → Done h b 60 r (now (w .exit))) ⌝ }
+{
+    let mut g = before;
+    let mut t = 40;
     while t < 60 {
+        w[t] = mixed(w, t);
         g = round(g, most(g.b, g.c, g.d), 0x8f1bbcdc, w[t]);
         t += 1;
     }
+    g
+}
+
+fn rounds_to_80(before: Hash, w: &mut [u32]) -> Hash
+    requires { ⌜ length (now w) ≡ 80 ⌝ }
+    ensures { λ r. ⌜ ((h : Hash) (b : List ℕ) → Done h b 60 before (now (w .entry)) → Done h b 80 r (now (w .exit))) ⌝ }
+{
+    let mut g = before;
+    let mut t = 60;
     while t < 80 {
+        w[t] = mixed(w, t);
         g = round(g, odd(g.b, g.c, g.d), 0xca62c1d6, w[t]);
         t += 1;
     }
-    sum(g, h)
+    g
+}
+
+// Step 1: word t of the message schedule from 16 on.
+fn mixed(w: &[u32], t: usize) -> u32
+    requires { ⌜ (16 ≤ t) × (t < 80) × (length (now w) ≡ 80) ⌝ }
+    ensures { λ r. ⌜ r ≡ mixed (now (w .entry)) t ⌝ }
+{
+    rotl1(w[t - 3] ^ w[t - 8] ^ w[t - 14] ^ w[t - 16])
 }
 
 fn round(h: Hash, f: u32, k: u32, w: u32) -> Hash
