@@ -1,4 +1,4 @@
--- Each refusal of the reader has its cause. Assumes nothing.
+-- A refusal of the reader is given exactly where its cause holds. Assumes nothing.
 use mathlib.Core.Path.{_≡_, refl, sym, ap, _∙_, subst}
 use mathlib.Core.Bool.{Bool, true, false, cond}
 use mathlib.Core.List.{List, [], _∷_}
@@ -7,7 +7,7 @@ use native.Mathlib.Omega.{arith}
 use lib.Dec.{eqb, leb}
 use lib.IntN.{ℤ, pos, negsuc}
 use lib.ListN.{length}
-use borrow.Author.Tests.{eq-eqb, le-leb, leb-false}
+use borrow.Author.Tests.{eq-eqb, eqb-true, le-leb, leb-true, leb-false}
 use Rattle.refusal.specs.Paper.{Outcome, taken, refused, map, then}
 use Rattle.bencode.specs.Value.{Value, Items, Entries, str, int, list, dict, none, item, encode}
 use Rattle.bencode.specs.Decode.{decode}
@@ -16,129 +16,281 @@ use Rattle.walk.specs.declared.Part.{Part}
 use Rattle.fields.specs.Values.{partOf, stringAt, naturalAt, dictionaryAt, must}
 use Rattle.tracker.specs.Keys.{failureReason, interval, peers, ip, peerId, port}
 use Rattle.tracker.specs.Entries.{Entry, listed, idLength}
+use Rattle.tracker.specs.declared.listed.Listed.{Listed}
 use Rattle.tracker.specs.Reply.{Answer, failure, compact, listing, sixes, idAt, peerIn, peerAt, peersFrom, peersAt, replyBy, replyIn, replyOf}
-use Rattle.tracker.specs.Causes.{NoString, no-key, other, NoId, no-string, other-length, NoNumber, no-number-key, no-integer, out-of-range, NoPeer, no-dictionary, bad-id, bad-ip, bad-port, SomeNoPeer, this, later, NoPeers, other-kind, not-whole, bad-peer, NoReply, no-top, bad-reason, bad-interval, no-peers-key, bad-peers, WhyRefused, no-bencode, no-reply}
+use Rattle.tracker.specs.Causes.{AString, AnId, ANumber, APeer, NoString, no-key, other, NoId, no-string, other-length, NoNumber, no-number-key, no-integer, out-of-range, NoPeer, no-dictionary, bad-id, bad-ip, bad-port, SomeNoPeer, this, later, NoPeers, other-kind, not-whole, bad-peer, NoReply, no-top, bad-reason, bad-interval, no-peers-key, bad-peers, WhyRefused, no-bencode, no-reply}
 
 no-way : {A : Type 0} → _≡_ {A = ℕ} 0 1 → A
 no-way e = absurd (omega arith)
 
--- what a check refused has its cause
-abbrev Blamed : {A : Type 0} → (ℕ → ℕ → Type 0) → Outcome A → Type 0
-Blamed P (taken x) = Unit
-Blamed P (refused n p) = P n p
+-- ---- a refusal has its cause
 
-blamed-then : {A B : Type 0} (P : ℕ → ℕ → Type 0) (o : Outcome A) (g : A → Outcome B) → Blamed P o → ((x : A) → Blamed P (g x)) → Blamed P (then o g)
-blamed-then P (taken x) g h k = k x
-blamed-then P (refused n p) g h k = h
+-- what a check refused has its cause P, and where it took something, Q holds
+abbrev Told : {A : Type 0} → (ℕ → ℕ → Type 0) → Type 0 → Outcome A → Type 0
+Told P Q (taken x) = Q
+Told P Q (refused n p) = P n p
 
-blamed-map : {A B : Type 0} (P : ℕ → ℕ → Type 0) (o : Outcome A) (f : A → B) → Blamed P o → Blamed P (map f o)
-blamed-map P (taken x) f h = tt
-blamed-map P (refused n p) f h = h
+told-then : {A B : Type 0} (P : ℕ → ℕ → Type 0) (Q R : Type 0) (o : Outcome A) (g : A → Outcome B) → Told P Q o → ((x : A) → Q → Told P R (g x)) → Told P R (then o g)
+told-then P Q R (taken x) g h k = k x h
+told-then P Q R (refused n p) g h k = h
 
-blamed-as : {A : Type 0} (P Q : ℕ → ℕ → Type 0) (o : Outcome A) → Blamed P o → ((n p : ℕ) → P n p → Q n p) → Blamed Q o
-blamed-as P Q (taken x) h k = tt
-blamed-as P Q (refused n p) h k = k n p h
+told-map : {A B : Type 0} (P : ℕ → ℕ → Type 0) (Q : Type 0) (o : Outcome A) (f : A → B) → Told P Q o → Told P Q (map f o)
+told-map P Q (taken x) f h = h
+told-map P Q (refused n p) f h = h
+
+told-as : {A : Type 0} (P P' : ℕ → ℕ → Type 0) (Q Q' : Type 0) (o : Outcome A) → Told P Q o → ((n p : ℕ) → P n p → P' n p) → (Q → Q') → Told P' Q' o
+told-as P P' Q Q' (taken x) h k l = l h
+told-as P P' Q Q' (refused n p) h k l = k n p h
 
 module _ (d : ℕ) (u : Under) where
-  string-at : (p : ℕ) (v : Value) → u ≡ under p v → Blamed (NoString d u) (stringAt p v)
-  string-at p (str bs) e = tt
+  told-must : {A : Type 0} (P : ℕ → ℕ → Type 0) (Q : Type 0) (g : ℕ → Value → Outcome A) → (u ≡ nothing → P 10 d) → ((p : ℕ) (v : Value) → u ≡ under p v → Told P Q (g p v)) → Told P Q (must d u g)
+  told-must P Q g h k = go u refl
+    where
+      go : (w : Under) → u ≡ w → Told P Q (must d w g)
+      go nothing e = h e
+      go (under p v) e = k p v e
+
+  string-at : (p : ℕ) (v : Value) → u ≡ under p v → Told (NoString d u) (AString u) (stringAt p v)
+  string-at p (str bs) e = (p, bs, e)
   string-at p (int z) e = other p (int z) e (λ bs f. let x : _≡_ {A = ℕ} 0 1 = cc in omega arith)
   string-at p (list vs) e = other p (list vs) e (λ bs f. let x : _≡_ {A = ℕ} 0 1 = cc in omega arith)
   string-at p (dict es) e = other p (dict es) e (λ bs f. let x : _≡_ {A = ℕ} 0 1 = cc in omega arith)
 
-  id-at : (p : ℕ) (v : Value) → u ≡ under p v → Blamed (NoId d u) (idAt p v)
+  id-at : (p : ℕ) (v : Value) → u ≡ under p v → Told (NoId d u) (AnId u) (idAt p v)
   id-at p (str bs) e = go (eqb (length bs) 20) refl
     where
-      go : (b : Bool) → eqb (length bs) 20 ≡ b → Blamed (NoId d u) (cond b (taken (partOf p bs)) (refused 15 p))
-      go true f = tt
+      go : (b : Bool) → eqb (length bs) 20 ≡ b → Told (NoId d u) (AnId u) (cond b (taken (partOf p bs)) (refused 15 p))
+      go true f = (p, bs, e, eqb-true (length bs) 20 f)
       go false f = other-length p bs e (λ l. let g = eq-eqb (length bs) 20 l in let x : _≡_ {A = ℕ} 0 1 = cc in omega arith)
   id-at p (int z) e = no-string 10 p (string-at p (int z) e)
   id-at p (list vs) e = no-string 10 p (string-at p (list vs) e)
   id-at p (dict es) e = no-string 10 p (string-at p (dict es) e)
 
-  number-at : (most p : ℕ) (v : Value) → u ≡ under p v → Blamed (NoNumber most d u) (naturalAt most p v)
-  number-at most p (str bs) e = no-integer p (str bs) e (λ z f. let x : _≡_ {A = ℕ} 0 1 = cc in omega arith)
+  number-at : (most p : ℕ) (v : Value) → u ≡ under p v → Told (NoNumber most d u) (ANumber most u) (naturalAt most p v)
+  number-at most p (str bs) e = no-integer p (str bs) e (λ bs f. let x : _≡_ {A = ℕ} 0 1 = cc in omega arith)
   number-at most p (int (pos n)) e = go (leb n most) refl
     where
-      go : (b : Bool) → leb n most ≡ b → Blamed (NoNumber most d u) (cond b (taken n) (refused 11 p))
-      go true f = tt
+      go : (b : Bool) → leb n most ≡ b → Told (NoNumber most d u) (ANumber most u) (cond b (taken n) (refused 11 p))
+      go true f = (p, n, e, leb-true n most f)
       go false f = out-of-range p (pos n) e (λ m g l. let h = leb-false n most f in let i : n ≡ m = cc in omega arith)
   number-at most p (int (negsuc n)) e = out-of-range p (negsuc n) e (λ m g l. let x : _≡_ {A = ℕ} 0 1 = cc in omega arith)
-  number-at most p (list vs) e = no-integer p (list vs) e (λ z f. let x : _≡_ {A = ℕ} 0 1 = cc in omega arith)
-  number-at most p (dict es) e = no-integer p (dict es) e (λ z f. let x : _≡_ {A = ℕ} 0 1 = cc in omega arith)
+  number-at most p (list vs) e = no-integer p (list vs) e (λ bs f. let x : _≡_ {A = ℕ} 0 1 = cc in omega arith)
+  number-at most p (dict es) e = no-integer p (dict es) e (λ bs f. let x : _≡_ {A = ℕ} 0 1 = cc in omega arith)
 
-  blamed-must : {A : Type 0} (P : ℕ → ℕ → Type 0) (g : ℕ → Value → Outcome A) → (u ≡ nothing → P 10 d) → ((p : ℕ) (v : Value) → u ≡ under p v → Blamed P (g p v)) → Blamed P (must d u g)
-  blamed-must P g h k = go u refl
-    where
-      go : (w : Under) → u ≡ w → Blamed P (must d w g)
-      go nothing e = h e
-      go (under p v) e = k p v e
+  string-told : Told (NoString d u) (AString u) (must d u stringAt)
+  string-told = told-must (NoString d u) (AString u) stringAt no-key string-at
 
-peer-in : (p : ℕ) (es : Entries) → Blamed (NoPeer p (dict es)) (peerIn p es)
+  id-told : Told (NoId d u) (AnId u) (must d u idAt)
+  id-told = told-must (NoId d u) (AnId u) idAt (λ e. no-string 10 d (no-key e)) id-at
+
+  number-told : (most : ℕ) → Told (NoNumber most d u) (ANumber most u) (must d u (naturalAt most))
+  number-told most = told-must (NoNumber most d u) (ANumber most u) (naturalAt most) no-number-key (number-at most)
+
+peer-in : (p : ℕ) (es : Entries) → Told (NoPeer p (dict es)) (APeer p (dict es)) (peerIn p es)
 peer-in p es =
-    blamed-then (NoPeer p (dict es)) (must p (lookup (p + 1) es peerId) idAt) _
-    (blamed-as (NoId p (lookup (p + 1) es peerId)) (NoPeer p (dict es)) (must p (lookup (p + 1) es peerId) idAt) (blamed-must p (lookup (p + 1) es peerId) (NoId p (lookup (p + 1) es peerId)) idAt (λ e. no-string 10 p (no-key e)) (id-at p (lookup (p + 1) es peerId))) (λ n q h. bad-id es n q h))
-    (λ i. blamed-then (NoPeer p (dict es)) (must p (lookup (p + 1) es ip) stringAt) _
-    (blamed-as (NoString p (lookup (p + 1) es ip)) (NoPeer p (dict es)) (must p (lookup (p + 1) es ip) stringAt) (blamed-must p (lookup (p + 1) es ip) (NoString p (lookup (p + 1) es ip)) stringAt (λ e. no-key e) (string-at p (lookup (p + 1) es ip))) (λ n q h. bad-ip es n q h))
-    (λ a. blamed-then (NoPeer p (dict es)) (must p (lookup (p + 1) es port) (naturalAt 65535)) _
-    (blamed-as (NoNumber 65535 p (lookup (p + 1) es port)) (NoPeer p (dict es)) (must p (lookup (p + 1) es port) (naturalAt 65535)) (blamed-must p (lookup (p + 1) es port) (NoNumber 65535 p (lookup (p + 1) es port)) (naturalAt 65535) (λ e. no-number-key e) (number-at p (lookup (p + 1) es port) 65535)) (λ n q h. bad-port es n q h))
-    (λ n. tt)))
+    let ids = lookup (p + 1) es peerId in
+    let ips = lookup (p + 1) es ip in
+    let ports = lookup (p + 1) es port in
+    told-then (NoPeer p (dict es)) (AnId ids) (APeer p (dict es)) (must p ids idAt) _
+    (told-as (NoId p ids) (NoPeer p (dict es)) (AnId ids) (AnId ids) (must p ids idAt) (id-told p ids) (bad-id es) (λ y. y))
+    (λ i hi. told-then (NoPeer p (dict es)) (AString ips) (APeer p (dict es)) (must p ips stringAt) _
+    (told-as (NoString p ips) (NoPeer p (dict es)) (AString ips) (AString ips) (must p ips stringAt) (string-told p ips) (λ n q. bad-ip es n q hi) (λ y. y))
+    (λ a ha. told-then (NoPeer p (dict es)) (ANumber 65535 ports) (APeer p (dict es)) (must p ports (naturalAt 65535)) _
+    (told-as (NoNumber 65535 p ports) (NoPeer p (dict es)) (ANumber 65535 ports) (ANumber 65535 ports) (must p ports (naturalAt 65535)) (number-told p ports 65535) (λ n q. bad-port es n q hi ha) (λ y. y))
+    (λ n hn. (es, refl, hi, ha, hn))))
 
-peer-at : (p : ℕ) (v : Value) → Blamed (NoPeer p v) (peerAt p v)
-peer-at p (str bs) = no-dictionary (str bs) (λ es f. let x : _≡_ {A = ℕ} 0 1 = cc in omega arith)
-peer-at p (int z) = no-dictionary (int z) (λ es f. let x : _≡_ {A = ℕ} 0 1 = cc in omega arith)
-peer-at p (list vs) = no-dictionary (list vs) (λ es f. let x : _≡_ {A = ℕ} 0 1 = cc in omega arith)
+peer-at : (p : ℕ) (v : Value) → Told (NoPeer p v) (APeer p v) (peerAt p v)
+peer-at p (str bs) = no-dictionary (str bs) (λ bs f. let x : _≡_ {A = ℕ} 0 1 = cc in omega arith)
+peer-at p (int z) = no-dictionary (int z) (λ bs f. let x : _≡_ {A = ℕ} 0 1 = cc in omega arith)
+peer-at p (list vs) = no-dictionary (list vs) (λ bs f. let x : _≡_ {A = ℕ} 0 1 = cc in omega arith)
 peer-at p (dict es) = peer-in p es
 
-peers-from : (p : ℕ) (vs : Items) → Blamed (SomeNoPeer p vs) (peersFrom p vs)
+peers-from : (p : ℕ) (vs : Items) → Told (SomeNoPeer p vs) Unit (peersFrom p vs)
 unfolding peersFrom
 peers-from p none = tt
 peers-from p (item v vs) =
-    blamed-then (SomeNoPeer p (item v vs)) (peerAt p v) _ (blamed-as (NoPeer p v) (SomeNoPeer p (item v vs)) (peerAt p v) (peer-at p v) (λ n q h. this p v vs n q h))
-    (λ x. blamed-map (SomeNoPeer p (item v vs)) (peersFrom (p + length (encode v)) vs) (λ l. listed x ∷ l)
-    (blamed-as (SomeNoPeer (p + length (encode v)) vs) (SomeNoPeer p (item v vs)) (peersFrom (p + length (encode v)) vs) (peers-from (p + length (encode v)) vs) (λ n q h. later p v vs n q h)))
+    let q = p + length (encode v) in
+    told-then (SomeNoPeer p (item v vs)) (APeer p v) Unit (peerAt p v) _
+    (told-as (NoPeer p v) (SomeNoPeer p (item v vs)) (APeer p v) (APeer p v) (peerAt p v) (peer-at p v) (this p v vs) (λ y. y))
+    (λ x hx. told-map (SomeNoPeer p (item v vs)) Unit (peersFrom q vs) (λ l. listed x ∷ l)
+    (told-as (SomeNoPeer q vs) (SomeNoPeer p (item v vs)) Unit Unit (peersFrom q vs) (peers-from q vs) (λ n r. later p v vs n r hx) (λ y. y)))
 
-peers-at : (n p : ℕ) (v : Value) → Blamed (NoPeers p v) (peersAt n p v)
+positive : (m : ℕ) → eqb m 0 ≡ false → 0 < m
+positive zero g = let h = eq-eqb 0 0 refl in no-way cc
+positive (suc m) g = omega arith
+
+peers-at : (n p : ℕ) (v : Value) → Told (NoPeers p v) Unit (peersAt n p v)
 peers-at n p (str bs) = go (eqb (length bs % 6) 0) refl
   where
-    go : (b : Bool) → eqb (length bs % 6) 0 ≡ b → Blamed (NoPeers p (str bs)) (cond {A = Outcome (Answer (List Entry))} b (taken (compact n (partOf p bs .from) (sixes bs))) (refused 15 p))
+    go : (b : Bool) → eqb (length bs % 6) 0 ≡ b → Told (NoPeers p (str bs)) Unit (cond {A = Outcome (Answer (List Entry))} b (taken (compact n (partOf p bs .from) (sixes bs))) (refused 15 p))
     go true f = tt
     go false f = not-whole bs (positive (length bs % 6) f)
-      where
-        positive : (m : ℕ) → eqb m 0 ≡ false → 0 < m
-        positive zero g = no-way (let h = eq-eqb 0 0 refl in cc)
-        positive (suc m) g = omega arith
-peers-at n p (int z) = other-kind (int z) (λ bs f. let x : _≡_ {A = ℕ} 0 1 = cc in omega arith) (λ vs f. let x : _≡_ {A = ℕ} 0 1 = cc in omega arith)
-peers-at n p (list vs) = blamed-map (NoPeers p (list vs)) (peersFrom (p + 1) vs) (listing n (p + 1)) (blamed-as (SomeNoPeer (p + 1) vs) (NoPeers p (list vs)) (peersFrom (p + 1) vs) (peers-from (p + 1) vs) (λ m q h. bad-peer vs m q h))
-peers-at n p (dict es) = other-kind (dict es) (λ bs f. let x : _≡_ {A = ℕ} 0 1 = cc in omega arith) (λ vs f. let x : _≡_ {A = ℕ} 0 1 = cc in omega arith)
+peers-at n p (int z) = other-kind (int z) (λ bs f. let x : _≡_ {A = ℕ} 0 1 = cc in omega arith) (λ bs f. let x : _≡_ {A = ℕ} 0 1 = cc in omega arith)
+peers-at n p (list vs) = told-map (NoPeers p (list vs)) Unit (peersFrom (p + 1) vs) (listing n (p + 1)) (told-as (SomeNoPeer (p + 1) vs) (NoPeers p (list vs)) Unit Unit (peersFrom (p + 1) vs) (peers-from (p + 1) vs) (bad-peer vs) (λ y. y))
+peers-at n p (dict es) = other-kind (dict es) (λ bs f. let x : _≡_ {A = ℕ} 0 1 = cc in omega arith) (λ bs f. let x : _≡_ {A = ℕ} 0 1 = cc in omega arith)
 
-reply-in : (es : Entries) (u : Under) → lookup 1 es failureReason ≡ u → Blamed (NoReply (dict es)) (replyBy es u)
+reply-in : (es : Entries) (u : Under) → lookup 1 es failureReason ≡ u → Told (NoReply (dict es)) Unit (replyBy es u)
 reply-in es nothing e =
-    blamed-then (NoReply (dict es)) (must 0 (lookup 1 es interval) (naturalAt 2147483647)) (λ n. must 0 (lookup 1 es peers) (peersAt n))
-    (blamed-as (NoNumber 2147483647 0 (lookup 1 es interval)) (NoReply (dict es)) (must 0 (lookup 1 es interval) (naturalAt 2147483647)) (blamed-must 0 (lookup 1 es interval) (NoNumber 2147483647 0 (lookup 1 es interval)) (naturalAt 2147483647) (λ f. no-number-key f) (number-at 0 (lookup 1 es interval) 2147483647)) (λ n q h. bad-interval es n q e h))
-    (λ n. blamed-must 0 (lookup 1 es peers) (NoReply (dict es)) (peersAt n) (λ f. no-peers-key es e f) (λ p v f. blamed-as (NoPeers p v) (NoReply (dict es)) (peersAt n p v) (peers-at n p v) (λ m q h. bad-peers es p v m q e f h)))
-reply-in es (under p v) e = blamed-map (NoReply (dict es)) (stringAt p v) failure (reason-at v e)
+    let intervals = lookup 1 es interval in
+    told-then (NoReply (dict es)) (ANumber 2147483647 intervals) Unit (must 0 intervals (naturalAt 2147483647)) (λ n. must 0 (lookup 1 es peers) (peersAt n))
+    (told-as (NoNumber 2147483647 0 intervals) (NoReply (dict es)) (ANumber 2147483647 intervals) (ANumber 2147483647 intervals) (must 0 intervals (naturalAt 2147483647)) (number-told 0 intervals 2147483647) (λ n q. bad-interval es n q e) (λ y. y))
+    (λ n hn. told-must 0 (lookup 1 es peers) (NoReply (dict es)) Unit (peersAt n) (no-peers-key es e hn) (λ p v f. told-as (NoPeers p v) (NoReply (dict es)) Unit Unit (peersAt n p v) (peers-at n p v) (λ m q. bad-peers es p v m q e hn f) (λ y. y)))
+reply-in es (under p v) e = told-map (NoReply (dict es)) Unit (stringAt p v) failure (reason-at v e)
   where
-    reason-at : (v : Value) → lookup 1 es failureReason ≡ under p v → Blamed (NoReply (dict es)) (stringAt p v)
+    reason-at : (v : Value) → lookup 1 es failureReason ≡ under p v → Told (NoReply (dict es)) Unit (stringAt p v)
     reason-at (str bs) e = tt
     reason-at (int z) e = bad-reason es p (int z) e (λ bs f. let x : _≡_ {A = ℕ} 0 1 = cc in omega arith)
     reason-at (list vs) e = bad-reason es p (list vs) e (λ bs f. let x : _≡_ {A = ℕ} 0 1 = cc in omega arith)
     reason-at (dict ds) e = bad-reason es p (dict ds) e (λ bs f. let x : _≡_ {A = ℕ} 0 1 = cc in omega arith)
 
-value-in : (v : Value) → Blamed (NoReply v) (then (dictionaryAt 0 v) replyIn)
-value-in (str bs) = no-top (str bs) (λ es f. let x : _≡_ {A = ℕ} 0 1 = cc in omega arith)
-value-in (int z) = no-top (int z) (λ es f. let x : _≡_ {A = ℕ} 0 1 = cc in omega arith)
-value-in (list vs) = no-top (list vs) (λ es f. let x : _≡_ {A = ℕ} 0 1 = cc in omega arith)
+value-in : (v : Value) → Told (NoReply v) Unit (then (dictionaryAt 0 v) replyIn)
+value-in (str bs) = no-top (str bs) (λ bs f. let x : _≡_ {A = ℕ} 0 1 = cc in omega arith)
+value-in (int z) = no-top (int z) (λ bs f. let x : _≡_ {A = ℕ} 0 1 = cc in omega arith)
+value-in (list vs) = no-top (list vs) (λ bs f. let x : _≡_ {A = ℕ} 0 1 = cc in omega arith)
 value-in (dict es) = reply-in es (lookup 1 es failureReason) refl
 
-text-in : (s : List ℕ) (o : Outcome Value) → decode s ≡ o → Blamed (WhyRefused s) (then o (λ v. then (dictionaryAt 0 v) replyIn))
-text-in s (taken v) e = blamed-as (NoReply v) (WhyRefused s) (then (dictionaryAt 0 v) replyIn) (value-in v) (λ n p h. no-reply v n p e h)
+text-in : (s : List ℕ) (o : Outcome Value) → decode s ≡ o → Told (WhyRefused s) Unit (then o (λ v. then (dictionaryAt 0 v) replyIn))
+text-in s (taken v) e = told-as (NoReply v) (WhyRefused s) Unit Unit (then (dictionaryAt 0 v) replyIn) (value-in v) (λ n p. no-reply v n p e) (λ y. y)
 text-in s (refused n p) e = no-bencode n p e
 
-reply-blamed : (s : List ℕ) → Blamed (WhyRefused s) (replyOf s)
+reply-told : (s : List ℕ) → Told (WhyRefused s) Unit (replyOf s)
 unfolding replyOf
-reply-blamed s = text-in s (decode s) refl
+reply-told s = text-in s (decode s) refl
 
 -- a refusal of the reader: the text is no bencode, or its value is no reply, with the number and place of what is wrong
 pub reply-causes : (s : List ℕ) (n p : ℕ) → replyOf s ≡ refused n p → WhyRefused s n p
-reply-causes s n p e = subst (Blamed (WhyRefused s)) e (reply-blamed s)
+reply-causes s n p e = subst (Told (WhyRefused s) Unit) e (reply-told s)
+
+-- ---- a cause has its refusal
+
+no-string-value : (p : ℕ) (v : Value) → ((bs : List ℕ) → v ≡ str bs → ⊥) → stringAt p v ≡ refused 10 p
+no-string-value p (str bs) h = absurd (h bs refl)
+no-string-value p (int z) h = refl
+no-string-value p (list vs) h = refl
+no-string-value p (dict es) h = refl
+
+no-integer-value : (most p : ℕ) (v : Value) → ((z : ℤ) → v ≡ int z → ⊥) → naturalAt most p v ≡ refused 10 p
+no-integer-value most p (str bs) h = refl
+no-integer-value most p (int z) h = absurd (h z refl)
+no-integer-value most p (list vs) h = refl
+no-integer-value most p (dict es) h = refl
+
+no-dictionary-value : (p : ℕ) (v : Value) → ((es : Entries) → v ≡ dict es → ⊥) → dictionaryAt p v ≡ refused 10 p
+no-dictionary-value p (str bs) h = refl
+no-dictionary-value p (int z) h = refl
+no-dictionary-value p (list vs) h = refl
+no-dictionary-value p (dict es) h = absurd (h es refl)
+
+other-length-value : (p : ℕ) (bs : List ℕ) → (length bs ≡ 20 → ⊥) → idAt p (str bs) ≡ refused 15 p
+other-length-value p bs h = go (eqb (length bs) 20) refl
+  where
+    go : (b : Bool) → eqb (length bs) 20 ≡ b → cond b (taken (partOf p bs)) (refused 15 p) ≡ refused 15 p
+    go true f = absurd (h (eqb-true (length bs) 20 f))
+    go false f = refl
+
+out-of-range-value : (most p : ℕ) (z : ℤ) → ((n : ℕ) → z ≡ pos n → n ≤ most → ⊥) → naturalAt most p (int z) ≡ refused 11 p
+out-of-range-value most p (pos n) h = go (leb n most) refl
+  where
+    go : (b : Bool) → leb n most ≡ b → cond b (taken n) (refused 11 p) ≡ refused 11 p
+    go true f = absurd (h n refl (leb-true n most f))
+    go false f = refl
+out-of-range-value most p (negsuc n) h = refl
+
+module _ (d : ℕ) (u : Under) where
+  must-none : {A : Type 0} (g : ℕ → Value → Outcome A) → u ≡ nothing → must d u g ≡ refused 10 d
+  must-none g e = ap (λ (w : Under). must d w g) e
+
+  must-under : {A : Type 0} (g : ℕ → Value → Outcome A) (p : ℕ) (v : Value) → u ≡ under p v → must d u g ≡ g p v
+  must-under g p v e = ap (λ (w : Under). must d w g) e
+
+  string-fault : (n p : ℕ) → NoString d u n p → must d u stringAt ≡ refused n p
+  string-fault n p (no-key e) = must-none stringAt e
+  string-fault n p (other q v e h) = must-under stringAt q v e ∙ no-string-value q v h
+
+  id-of-string : (n p : ℕ) → NoString d u n p → must d u idAt ≡ refused n p
+  id-of-string n p (no-key e) = must-none idAt e
+  id-of-string n p (other q v e h) = must-under idAt q v e ∙ ap (λ (o : Outcome Part). then o (idLength q)) (no-string-value q v h)
+
+  id-fault : (n p : ℕ) → NoId d u n p → must d u idAt ≡ refused n p
+  id-fault n p (no-string m q h) = id-of-string m q h
+  id-fault n p (other-length q bs e h) = must-under idAt q (str bs) e ∙ other-length-value q bs h
+
+  number-fault : (most n p : ℕ) → NoNumber most d u n p → must d u (naturalAt most) ≡ refused n p
+  number-fault most n p (no-number-key e) = must-none (naturalAt most) e
+  number-fault most n p (no-integer q v e h) = must-under (naturalAt most) q v e ∙ no-integer-value most q v h
+  number-fault most n p (out-of-range q z e h) = must-under (naturalAt most) q (int z) e ∙ out-of-range-value most q z h
+
+  string-fine : AString u → (x : Part) × (must d u stringAt ≡ taken x)
+  string-fine (p, bs, e) = (partOf p bs, must-under stringAt p (str bs) e)
+
+  id-fine : AnId u → (x : Part) × (must d u idAt ≡ taken x)
+  id-fine (p, bs, e, l) = (partOf p bs, must-under idAt p (str bs) e ∙ ap (λ (b : Bool). cond b (taken (partOf p bs)) (refused 15 p)) (eq-eqb (length bs) 20 l))
+
+  number-fine : (most : ℕ) → ANumber most u → (x : ℕ) × (must d u (naturalAt most) ≡ taken x)
+  number-fine most (p, n, e, l) = (n, must-under (naturalAt most) p (int (pos n)) e ∙ ap (λ (b : Bool). cond b (taken n) (refused 11 p)) (le-leb n most l))
+
+-- a refused check refuses; after a kept one the next decides
+first-refused : {A B : Type 0} {n p : ℕ} (o : Outcome A) (g : A → Outcome B) → o ≡ refused n p → then o g ≡ refused n p
+first-refused o g e = ap (λ y. then y g) e
+
+after : {A B : Type 0} {y : Outcome B} (o : Outcome A) (g : A → Outcome B) (x : (a : A) × (o ≡ taken a)) → ((a : A) → g a ≡ y) → then o g ≡ y
+after o g (a, e) k = ap (λ z. then z g) e ∙ k a
+
+peer-fault : (p : ℕ) (v : Value) (n q : ℕ) → NoPeer p v n q → peerAt p v ≡ refused n q
+peer-fault p v n q (no-dictionary w h) = first-refused (dictionaryAt p w) (peerIn p) (no-dictionary-value p w h)
+peer-fault p v n q (bad-id es m r h) = first-refused (must p (lookup (p + 1) es peerId) idAt) _ (id-fault p (lookup (p + 1) es peerId) m r h)
+peer-fault p v n q (bad-ip es m r i h) =
+    after (must p (lookup (p + 1) es peerId) idAt) _ (id-fine p (lookup (p + 1) es peerId) i) (λ x.
+    first-refused (must p (lookup (p + 1) es ip) stringAt) _ (string-fault p (lookup (p + 1) es ip) m r h))
+peer-fault p v n q (bad-port es m r i a h) =
+    after (must p (lookup (p + 1) es peerId) idAt) _ (id-fine p (lookup (p + 1) es peerId) i) (λ x.
+    after (must p (lookup (p + 1) es ip) stringAt) _ (string-fine p (lookup (p + 1) es ip) a) (λ y.
+    first-refused (must p (lookup (p + 1) es port) (naturalAt 65535)) _ (number-fault p (lookup (p + 1) es port) 65535 m r h)))
+
+peer-fine : (p : ℕ) (v : Value) → APeer p v → (x : Listed) × (peerAt p v ≡ taken x)
+peer-fine p v (es, e, i, a, n) =
+    let x = id-fine p (lookup (p + 1) es peerId) i in
+    let y = string-fine p (lookup (p + 1) es ip) a in
+    let z = number-fine p (lookup (p + 1) es port) 65535 n in (
+      record { id = x .0; ip = y .0; port = z .0 },
+      ap (peerAt p) e
+          ∙ ap (λ o. then o (λ b. then (must p (lookup (p + 1) es ip) stringAt) (λ c. then (must p (lookup (p + 1) es port) (naturalAt 65535)) (λ m. taken (record { id = b; ip = c; port = m }))))) (x .1)
+          ∙ ap (λ o. then o (λ c. then (must p (lookup (p + 1) es port) (naturalAt 65535)) (λ m. taken (record { id = x .0; ip = c; port = m })))) (y .1)
+          ∙ ap (λ o. then o (λ m. taken (record { id = x .0; ip = y .0; port = m }))) (z .1),
+    )
+
+some-fault : (p : ℕ) (vs : Items) (n q : ℕ) → SomeNoPeer p vs n q → peersFrom p vs ≡ refused n q
+unfolding peersFrom
+some-fault p vs n q (this r v ws m t h) = first-refused (peerAt r v) _ (peer-fault r v m t h)
+some-fault p vs n q (later r v ws m t a h) =
+    after (peerAt r v) _ (peer-fine r v a) (λ x. ap (map (λ l. listed x ∷ l)) (some-fault (r + length (encode v)) ws m t h))
+
+peers-fault : (i p : ℕ) (v : Value) (n q : ℕ) → NoPeers p v n q → peersAt i p v ≡ refused n q
+peers-fault i p v n q (other-kind w h k) = no-peers-value w h k
+  where
+    no-peers-value : (w : Value) → ((bs : List ℕ) → w ≡ str bs → ⊥) → ((vs : Items) → w ≡ list vs → ⊥) → peersAt i p w ≡ refused 10 p
+    no-peers-value (str bs) h k = absurd (h bs refl)
+    no-peers-value (int z) h k = refl
+    no-peers-value (list vs) h k = absurd (k vs refl)
+    no-peers-value (dict es) h k = refl
+peers-fault i p v n q (not-whole bs h) = go (eqb (length bs % 6) 0) refl
+  where
+    go : (b : Bool) → eqb (length bs % 6) 0 ≡ b → cond {A = Outcome (Answer (List Entry))} b (taken (compact i (partOf p bs .from) (sixes bs))) (refused 15 p) ≡ refused 15 p
+    go true f = let e = eqb-true (length bs % 6) 0 f in absurd (omega arith)
+    go false f = refl
+peers-fault i p v n q (bad-peer vs m r h) = ap (map (listing i (p + 1))) (some-fault (p + 1) vs m r h)
+
+reply-fault : (v : Value) (n p : ℕ) → NoReply v n p → then (dictionaryAt 0 v) replyIn ≡ refused n p
+reply-fault v n p (no-top w h) = first-refused (dictionaryAt 0 w) replyIn (no-dictionary-value 0 w h)
+reply-fault v n p (bad-reason es q w e h) = ap (replyBy es) e ∙ ap (map failure) (no-string-value q w h)
+reply-fault v n p (bad-interval es m q e h) = ap (replyBy es) e ∙ first-refused (must 0 (lookup 1 es interval) (naturalAt 2147483647)) _ (number-fault 0 (lookup 1 es interval) 2147483647 m q h)
+reply-fault v n p (no-peers-key es e i f) =
+    ap (replyBy es) e ∙ after (must 0 (lookup 1 es interval) (naturalAt 2147483647)) _ (number-fine 0 (lookup 1 es interval) 2147483647 i) (λ x. must-none 0 (lookup 1 es peers) (peersAt x) f)
+reply-fault v n p (bad-peers es q w m r e i f h) =
+    ap (replyBy es) e ∙ after (must 0 (lookup 1 es interval) (naturalAt 2147483647)) _ (number-fine 0 (lookup 1 es interval) 2147483647 i) (λ x. must-under 0 (lookup 1 es peers) (peersAt x) q w f ∙ peers-fault x q w m r h)
+
+-- and where a cause holds, that refusal is given
+pub reply-refused : (s : List ℕ) (n p : ℕ) → WhyRefused s n p → replyOf s ≡ refused n p
+unfolding replyOf
+reply-refused s n p (no-bencode m q e) = first-refused (decode s) (λ v. then (dictionaryAt 0 v) replyIn) e
+reply-refused s n p (no-reply v m q e h) = ap (λ o. then o (λ w. then (dictionaryAt 0 w) replyIn)) e ∙ reply-fault v m q h

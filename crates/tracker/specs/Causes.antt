@@ -1,4 +1,4 @@
--- Why a text is no reply: each refusal's number and place, by the check that failed. Assumes nothing: these are definitions.
+-- Why a text is no reply: each refusal's number and place, by the check that failed, those before it being kept. Assumes nothing: these are definitions.
 use mathlib.Core.Path.{_≡_}
 use mathlib.Core.List.{List}
 use Prim.Native.Nat.{ℕ, _+_, _%_, _<_, _≤_}
@@ -11,6 +11,20 @@ use Rattle.bencode.specs.Value.{Value, Items, Entries, str, int, list, dict, no
 use Rattle.bencode.specs.Decode.{decode}
 use Rattle.walk.specs.Lookup.{Under, nothing, under, lookup}
 use Rattle.tracker.specs.Keys.{failureReason, interval, peers, ip, peerId, port}
+
+-- what is under a key is a string, a string of 20 bytes, a number from 0 to most
+abbrev pub AString : Under → Type 0
+AString u = (p : ℕ) × (bs : List ℕ) × (u ≡ under p (str bs))
+
+abbrev pub AnId : Under → Type 0
+AnId u = (p : ℕ) × (bs : List ℕ) × (u ≡ under p (str bs)) × (length bs ≡ 20)
+
+abbrev pub ANumber : ℕ → Under → Type 0
+ANumber most u = (p : ℕ) × (n : ℕ) × (u ≡ under p (int (pos n))) × (n ≤ most)
+
+-- the value at p is a peer
+abbrev pub APeer : ℕ → Value → Type 0
+APeer p v = (es : Entries) × (v ≡ dict es) × AnId (lookup (p + 1) es peerId) × AString (lookup (p + 1) es ip) × ANumber largestPort (lookup (p + 1) es port)
 
 -- what is under a key of the dictionary at d is no string
 pub data NoString (d : ℕ) (u : Under) : ℕ → ℕ → Type 0 where
@@ -32,13 +46,13 @@ pub data NoNumber (most d : ℕ) (u : Under) : ℕ → ℕ → Type 0 where
 pub data NoPeer (p : ℕ) : Value → ℕ → ℕ → Type 0 where
   no-dictionary : (v : Value) → ((es : Entries) → v ≡ dict es → ⊥) → NoPeer p v kind p
   bad-id : (es : Entries) (n q : ℕ) → NoId p (lookup (p + 1) es peerId) n q → NoPeer p (dict es) n q
-  bad-ip : (es : Entries) (n q : ℕ) → NoString p (lookup (p + 1) es ip) n q → NoPeer p (dict es) n q
-  bad-port : (es : Entries) (n q : ℕ) → NoNumber largestPort p (lookup (p + 1) es port) n q → NoPeer p (dict es) n q
+  bad-ip : (es : Entries) (n q : ℕ) → AnId (lookup (p + 1) es peerId) → NoString p (lookup (p + 1) es ip) n q → NoPeer p (dict es) n q
+  bad-port : (es : Entries) (n q : ℕ) → AnId (lookup (p + 1) es peerId) → AString (lookup (p + 1) es ip) → NoNumber largestPort p (lookup (p + 1) es port) n q → NoPeer p (dict es) n q
 
--- one of the items that stand from p on is no peer
+-- the first of the items from p on that is no peer
 pub data SomeNoPeer : ℕ → Items → ℕ → ℕ → Type 0 where
   this : (p : ℕ) (v : Value) (vs : Items) (n q : ℕ) → NoPeer p v n q → SomeNoPeer p (item v vs) n q
-  later : (p : ℕ) (v : Value) (vs : Items) (n q : ℕ) → SomeNoPeer (p + length (encode v)) vs n q → SomeNoPeer p (item v vs) n q
+  later : (p : ℕ) (v : Value) (vs : Items) (n q : ℕ) → APeer p v → SomeNoPeer (p + length (encode v)) vs n q → SomeNoPeer p (item v vs) n q
 
 -- the value at p is neither a string of 6-byte entries nor a list of peers
 pub data NoPeers (p : ℕ) : Value → ℕ → ℕ → Type 0 where
@@ -51,8 +65,8 @@ pub data NoReply : Value → ℕ → ℕ → Type 0 where
   no-top : (v : Value) → ((es : Entries) → v ≡ dict es → ⊥) → NoReply v kind 0
   bad-reason : (es : Entries) (p : ℕ) (v : Value) → lookup 1 es failureReason ≡ under p v → ((bs : List ℕ) → v ≡ str bs → ⊥) → NoReply (dict es) kind p
   bad-interval : (es : Entries) (n p : ℕ) → lookup 1 es failureReason ≡ nothing → NoNumber longestInterval 0 (lookup 1 es interval) n p → NoReply (dict es) n p
-  no-peers-key : (es : Entries) → lookup 1 es failureReason ≡ nothing → lookup 1 es peers ≡ nothing → NoReply (dict es) kind 0
-  bad-peers : (es : Entries) (p : ℕ) (v : Value) (n q : ℕ) → lookup 1 es failureReason ≡ nothing → lookup 1 es peers ≡ under p v → NoPeers p v n q → NoReply (dict es) n q
+  no-peers-key : (es : Entries) → lookup 1 es failureReason ≡ nothing → ANumber longestInterval (lookup 1 es interval) → lookup 1 es peers ≡ nothing → NoReply (dict es) kind 0
+  bad-peers : (es : Entries) (p : ℕ) (v : Value) (n q : ℕ) → lookup 1 es failureReason ≡ nothing → ANumber longestInterval (lookup 1 es interval) → lookup 1 es peers ≡ under p v → NoPeers p v n q → NoReply (dict es) n q
 
 -- the text is no bencode, or its value is no reply
 pub data WhyRefused (s : List ℕ) : ℕ → ℕ → Type 0 where
