@@ -9,3 +9,4 @@ pub mod Contents
 pub mod Informing
 pub mod Numbers
 pub mod Laws
+pub mod Example

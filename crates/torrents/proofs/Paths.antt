@@ -48,7 +48,7 @@ element-by p v vs n q (inr h) =
     (later p (h .0) vs n q (h .1 .1) (subst (λ (w : Value). NoElements (p + length (encode w)) vs n q) (h .1 .0) (h .2)))
 
 -- a good name before good ones
-more-good : (bs : List ℕ) (l : List (List ℕ)) → GoodName bs → AllGood l → AllGood (bs ∷ l)
+pub more-good : (bs : List ℕ) (l : List (List ℕ)) → GoodName bs → AllGood l → AllGood (bs ∷ l)
 more-good bs l g h cs i = ⊎-elim (λ (e : cs ≡ bs). subst GoodName (sym e) g) (h cs) (List·Memᴰ·cases-cons i)
 
 joined : (v : Value) (vs : Items) (bs : List ℕ) (l : List (List ℕ)) → v ≡ str bs → vs ≡ strings l → item v vs ≡ strings (bs ∷ l)

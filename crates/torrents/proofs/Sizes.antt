@@ -25,8 +25,8 @@ use Rattle.torrents.proofs.Checks.{Checks, checks-refused, checks-taken
 
 pub rounded : (t m : ℕ) → 0 < m → RoundedUp t m (piecesOf t m)
 rounded t m h = record {
-  enough = ⊎-elim (λ (l : piecesOf t m * m < t). absurd (let i = is-piece t m h (piecesOf t m) l in omega arith)) (λ (l : t ≤ piecesOf t m * m). l) (lt-or-le (piecesOf t m * m) t);
-  least = λ k e. ⊎-elim (λ (l : k < piecesOf t m). absurd (let i = starts-inside t m h k l in omega arith)) (λ (l : piecesOf t m ≤ k). l) (lt-or-le k (piecesOf t m));
+  enough = ⊎-elim (λ (l : piecesOf t m * m < t). absurd (let i = is-piece t m h (piecesOf t m) l in omega arith)) (λ (l : t ≤ piecesOf t m * m). omega arith) (lt-or-le (piecesOf t m * m) t);
+  least = λ k e. ⊎-elim (λ (l : k < piecesOf t m). absurd (let i = starts-inside t m h k l in omega arith)) (λ (l : piecesOf t m ≤ k). omega arith) (lt-or-le k (piecesOf t m));
 }
 
 pub rounded-one : (t m j k : ℕ) → RoundedUp t m j → RoundedUp t m k → j ≡ k

@@ -1,3 +1,4 @@
 pub mod Torrent
 pub mod Exact
 pub mod Causes
+pub mod Example
