@@ -1,7 +1,8 @@
 -- Two answers that a contract permits for one text are the same: document 01's words tell the answers apart. Assumes nothing.
 use mathlib.Core.Path.{_≡_, refl, sym, ap, _∙_}
 use mathlib.Core.List.{List}
-use Prim.Native.Nat.{ℕ}
+use Prim.Native.Nat.{ℕ, _+_, min}
+use lib.ListN.{length}
 use Rattle.refusal.specs.Paper.{Outcome, taken, refused}
 use Rattle.metainfo.specs.declared.Torrent.{Torrent}
 use Rattle.metainfo.specs.declared.File.{File}
@@ -9,7 +10,9 @@ use Rattle.metainfo.specs.declared.Reading.{Reading}
 use Rattle.metainfo.specs.declared.Reading.the-variants.{Read, Refused}
 use Rattle.metainfo.specs.declared.Filed.{Filed}
 use Rattle.metainfo.specs.declared.Filed.the-variants.{Is, Not}
-use Rattle.metainfo.specs.Reading.{paper, readOf, filePaper, fileAt}
+use Rattle.walk.specs.declared.Part.{Part}
+use Rattle.walk.proofs.Determined.{bytes-determined}
+use Rattle.metainfo.specs.Reading.{paper, readOf, filePaper, fileAt, bytesOf, announceIn, nameIn}
 
 -- the way back
 abbrev readingAs : Outcome Torrent → Reading
@@ -35,3 +38,15 @@ read-determined s r t e f = sym (reading-again r) ∙ ap readingAs (e ∙ sym f)
 -- file_at
 pub file-determined : (s : List ℕ) (p : ℕ) (r t : Filed) → filePaper r ≡ fileAt s p → filePaper t ≡ fileAt s p → r ≡ t
 file-determined s p r t e f = sym (filed-again r) ∙ ap filedAs (e ∙ sym f) ∙ filed-again t
+
+-- announce and name: the bytes handed back, and where they lie, by block and offset
+abbrev Lies : List ℕ → Part → ℕ → ℕ → ℕ → ℕ → Type 0
+Lies s p block offset b o = (b ≡ block) × (o ≡ offset + min (p .from) (length s))
+
+pub announce-determined : (s l m : List ℕ) (block offset b c o q : ℕ) → l ≡ bytesOf s (announceIn (readOf s)) → m ≡ bytesOf s (announceIn (readOf s))
+    → Lies s (announceIn (readOf s)) block offset b o → Lies s (announceIn (readOf s)) block offset c q → (l ≡ m) × (b ≡ c) × (o ≡ q)
+announce-determined s l m block offset b c o q = bytes-determined s l m (announceIn (readOf s) .from) (announceIn (readOf s) .len) block offset b c o q
+
+pub name-determined : (s l m : List ℕ) (block offset b c o q : ℕ) → l ≡ bytesOf s (nameIn (readOf s)) → m ≡ bytesOf s (nameIn (readOf s))
+    → Lies s (nameIn (readOf s)) block offset b o → Lies s (nameIn (readOf s)) block offset c q → (l ≡ m) × (b ≡ c) × (o ≡ q)
+name-determined s l m block offset b c o q = bytes-determined s l m (nameIn (readOf s) .from) (nameIn (readOf s) .len) block offset b c o q

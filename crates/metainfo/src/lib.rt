@@ -10,7 +10,7 @@ ghost use Rattle.bencode.specs.Exact.{Fine};
 ghost use Rattle.walk.specs.Stands.{StandEntries};
 ghost use Prim.Native.Nat.{ℕ, _+_, _≤_, min};
 ghost use lib.ListN.{length};
-ghost use Rattle.metainfo.specs.Rules.{torrentOf, topOf};
+ghost use Rattle.metainfo.specs.Rules.{torrentOf, topOf, goodName};
 ghost use Rattle.metainfo.specs.Reading.{paper, readOf, filePaper, fileAt, bytesOf, announceIn, nameIn};
 ghost use Rattle.sha1.specs.Digest.{left};
 ghost use Rattle.sha1.specs.Digest.{paper as hashPaper};
@@ -108,6 +108,13 @@ pub fn info_hash(text: &[u8], out: &mut [u8; 20]) -> Hashed
         Reading::Read(t) => sha1::digest(walk::bytes(text, t.info), out),
         Reading::Refused(r) => Hashed::Refused(r),
     }
+}
+
+// Whether bytes may be a name or an element of a path: not empty, "." or "..", and no "/" or zero byte among them.
+pub fn legal_name(name: &[u8]) -> bool
+    ensures { λ r. ⌜ r ≡ goodName (now (name .entry)) ⌝ }
+{
+    names::is_good(name)
 }
 
 // The file that stands at a place of any text. The first of many stands one past the place of their list, and each

@@ -81,7 +81,7 @@ fn elements(text: &[u8], first: usize) -> Inside
 }
 
 // Whether bytes may be a name: not empty, "." or "..", and no "/" or zero byte among them.
-fn is_good(name: &[u8]) -> bool
+pub fn is_good(name: &[u8]) -> bool
     ensures { λ r. ⌜ r ≡ goodName (now (name .entry)) ⌝ }
 {
     let n = name.len();
