@@ -41,28 +41,28 @@ go-then {A} f o x e = ap (λ (y : Outcome A). then y f) e
 -- ---- the checks of info, in their order
 
 module _ (a : Part) (p : ℕ) (es : Entries) where
-  abbrev named : Outcome Part
+  abbrev pub named : Outcome Part
   named = must p (lookup (p + 1) es nameKey) nameAt
 
-  abbrev pieced : Outcome ℕ
+  abbrev pub pieced : Outcome ℕ
   pieced = must p (lookup (p + 1) es pieceLengthKey) pieceLengthAt
 
-  abbrev hashed : Outcome Part
+  abbrev pub hashed : Outcome Part
   hashed = must p (lookup (p + 1) es piecesKey) stringAt
 
-  abbrev contained : Outcome Content
+  abbrev pub contained : Outcome Content
   contained = contentOf p (lookup (p + 1) es lengthKey) (lookup (p + 1) es filesKey)
 
-  abbrev afterContent : Part → ℕ → Part → Content → Outcome Torrent
+  abbrev pub afterContent : Part → ℕ → Part → Content → Outcome Torrent
   afterContent n pl s c = sizedOf a (record { from = p; len = length (encode (dict es)) }) n s (placeUnder (lookup (p + 1) es piecesKey)) pl c
 
-  abbrev afterPieces : Part → ℕ → Part → Outcome Torrent
+  abbrev pub afterPieces : Part → ℕ → Part → Outcome Torrent
   afterPieces n pl s = then contained (afterContent n pl s)
 
-  abbrev afterLength : Part → ℕ → Outcome Torrent
+  abbrev pub afterLength : Part → ℕ → Outcome Torrent
   afterLength n pl = then hashed (afterPieces n pl)
 
-  abbrev afterName : Part → Outcome Torrent
+  abbrev pub afterName : Part → Outcome Torrent
   afterName n = then pieced (afterLength n)
 
   pub info-name : (r o : ℕ) → refused r o ≡ named → refused r o ≡ infoOf a p es

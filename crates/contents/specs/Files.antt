@@ -1,0 +1,70 @@
+-- The files of a torrent by number, on the decoded value. Assumes nothing: these are definitions.
+use mathlib.Core.Bool.{true, false, cond}
+use mathlib.Core.List.{List, [], _∷_}
+use Prim.Native.Nat.{ℕ, zero, suc, _+_}
+use Rattle.refusal.specs.Paper.{Outcome, taken, refused, refusal, map, then}
+use Rattle.refusal.specs.Numbers.{beyond}
+use Rattle.bencode.specs.Value.{Value, Items, str, int, list, dict, none, item}
+use Rattle.bencode.specs.Decode.{decode}
+use Rattle.walk.specs.Lookup.{Under, nothing, under, lookup}
+use Rattle.fields.specs.Values.{listAt}
+use Rattle.metainfo.specs.Keys.{infoKey, filesKey}
+use Rattle.metainfo.specs.Rules.{fileOf, torrentOf}
+use Rattle.metainfo.specs.declared.File.{File}
+use Rattle.metainfo.specs.declared.Torrent.{Torrent}
+use Rattle.contents.specs.declared.Entry.{Entry}
+use Rattle.contents.specs.declared.Found.{Found}
+use Rattle.contents.specs.declared.Found.the-variants.{Is, Not}
+
+abbrev pub filePaper : Found → Outcome Entry
+filePaper (Is e) = taken e
+filePaper (Not r) = refusal r
+
+-- what is under a key of the value at p, where it is a dictionary
+abbrev pub inside : ℕ → Value → List ℕ → Under
+inside p (str bs) k = nothing
+inside p (int z) k = nothing
+inside p (list vs) k = nothing
+inside p (dict es) k = lookup (p + 1) es k
+
+abbrev pub into : Under → List ℕ → Under
+into nothing k = nothing
+into (under p v) k = inside p v k
+
+-- what is under a key of info, of a torrent's value
+abbrev pub inInfo : Value → List ℕ → Under
+inInfo v k = into (inside 0 v infoKey) k
+
+-- a file that starts at o of the content
+abbrev pub entry : ℕ → File → Entry
+entry o f = record { offset = record { 0 = o }; length = f .length; path = f .path; single = false }
+
+-- a single file: its path is the name
+abbrev pub single : Torrent → Entry
+single t = record { offset = record { 0 = 0 }; length = t .content .total; path = t .name .from; single = true }
+
+-- files one after the other, of which the first stands at p and starts at o of the content
+unfoldable pub entriesFrom : ℕ → ℕ → Items → Outcome (List Entry)
+entriesFrom p o none = taken []
+entriesFrom p o (item v vs) = then (fileOf p v) (λ f. map (λ es. entry o f ∷ es) (entriesFrom (f .next) (o + f .length) vs))
+
+abbrev pub entriesUnder : Under → Outcome (List Entry)
+entriesUnder nothing = taken []
+entriesUnder (under p v) = then (listAt p v) (entriesFrom (p + 1) 0)
+
+-- all files of the torrent t, which the value v is
+abbrev pub entriesOf : Value → Torrent → Outcome (List Entry)
+entriesOf v t = cond (t .content .single) (taken (single t ∷ [])) (entriesUnder (inInfo v filesKey))
+
+-- number n of them, counted from 0
+unfoldable pub number : ℕ → List Entry → Outcome Entry
+number n [] = refused beyond 0
+number zero (e ∷ es) = taken e
+number (suc n) (e ∷ es) = number n es
+
+abbrev pub entryIn : ℕ → Value → Outcome Entry
+entryIn n v = then (torrentOf v) (λ t. then (entriesOf v t) (number n))
+
+-- file number n of the torrent that a text is: the torrent's refusals, then 31
+abbrev pub entryOf : List ℕ → ℕ → Outcome Entry
+entryOf s n = then (decode s) (entryIn n)

@@ -1,0 +1,5 @@
+pub mod Files
+pub mod Paths
+pub mod Pieces
+pub mod Steps
+pub mod Walks

@@ -1,0 +1,13 @@
+-- A file by its number, as the walk over a text comes to it. Assumes nothing: these are definitions.
+use mathlib.Core.List.{List}
+use Prim.Native.Nat.{ℕ, zero, suc, _+_, min}
+use Rattle.refusal.specs.Paper.{Outcome, map, then}
+use Rattle.blocks.specs.Rules.{largest}
+use Rattle.metainfo.specs.Reading.{fileAt}
+use Rattle.contents.specs.declared.Entry.{Entry}
+use Rattle.contents.specs.Files.{entry}
+
+-- the file n files past the one at p, which starts at o of the content
+unfoldable pub walkTo : ℕ → List ℕ → ℕ → ℕ → Outcome Entry
+walkTo zero s p o = map (entry o) (fileAt s p)
+walkTo (suc n) s p o = then (fileAt s p) (λ f. walkTo n s (f .next) (min (o + f .length) largest))
