@@ -33,6 +33,11 @@ Accepted p l k y = step (start p l k) y .answer ≡ taken done
 abbrev pub after : ℕ → ℕ → ℕ → Yard → List Call → State
 after p l k y cs = run cs (next (start p l k) (record { past = []; yard = y }))
 
+-- the calls of a history before the calls cs, the first call first
+abbrev pub calls : History → List Call → List Call
+calls [] cs = cs
+calls (e ∷ h) cs = calls h (e .call ∷ cs)
+
 -- the tables of n seats are what the history says, and no count passes what it could reach
 pub record Right (n : ℕ) (h : History) (y : Yard) : Type 0 where
   pub seats-same : length (y .seats) ≡ n

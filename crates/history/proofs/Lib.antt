@@ -1,0 +1,8 @@
+-- That the tables and the answers are what the history says.
+pub mod Agreeing
+pub mod Calls
+pub mod Starting
+pub mod Lowest
+pub mod Missing
+pub mod Looks
+pub mod Theorem

@@ -1,0 +1,113 @@
+-- An accepted start leaves an empty yard, whatever was in the tables; and which further start is accepted. Assumes nothing.
+use mathlib.Core.Path.{_≡_, refl, sym, ap, ap₂, _∙_, subst}
+use mathlib.Core.Bool.{Bool, true, false, cond, _&&_, and-eq-true-iff}
+use mathlib.Core.List.{List, [], _∷_}
+use Prim.Native.Nat.{ℕ, zero, suc, _+_, _*_, _≤_, _<_}
+use native.Mathlib.Omega.{arith}
+use borrow.Author.Tests.{eq-eqb, ne-eqb, eqb-true, le-leb, leb-true}
+use lib.Dec.{eqb, leb}
+use lib.ListN.{length, getD, replicate, length-replicate, getD-replicate}
+use Rattle.refusal.specs.Paper.{Outcome, taken, refused}
+use Rattle.refusal.specs.Numbers.{sizes}
+use Rattle.refusal.specs.Limits.{mostPieces, mostSeats}
+use Rattle.blocks.specs.Rules.{pieceLength}
+use Rattle.blocks.proofs.Legal.{is-piece-length}
+use Rattle.tables.specs.Counting.{bit, count}
+use Rattle.tables.specs.Rows.{width, hasIn}
+use Rattle.tables.specs.Seats.{cleared, holding}
+use Rattle.tables.specs.Tables.{Yard, Said, done, Out, sizesFit}
+use Rattle.tables.specs.Seating.{emptied, startOf}
+use Rattle.tables.specs.Step.{Call, start}
+use Rattle.tables.specs.declared.Head.{Head}
+use Rattle.tables.proofs.Cases.{by-bool}
+use Rattle.tables.proofs.Counts.{count-none, cannot}
+use Rattle.tables.proofs.Rows.{blank}
+use Rattle.tables.proofs.Sizing.{Fitting, fitting}
+use Rattle.history.specs.History.{Entry, History, entry, event, pieces, sizesWith, seated}
+use Rattle.history.specs.Says.{hasPiece, held, loaded, recordOf, holders, headOf}
+use Rattle.history.specs.Expected.{no, startFits}
+use Rattle.history.proofs.Agreeing.{Agrees, quiet-agrees, counted-fits}
+use Rattle.history.proofs.Calls.{Kept}
+
+getD-same : {A : Type 0} (n j : ℕ) (a : A) → getD (replicate n a) j a ≡ a
+getD-same zero j a = refl
+getD-same (suc n) zero a = refl
+getD-same (suc n) (suc j) a = getD-same n j a
+
+-- the sizes of a start fit the tables y
+abbrev pub fitsFor : ℕ → ℕ → ℕ → Yard → Bool
+fitsFor p l k y = sizesFit (emptied p l k y .head) (length (y .seats)) (length (y .rows)) (length (y .holders))
+
+pub empty-agrees : (h : History) (y : Yard) (p l k : ℕ) (w : List ℕ) → fitsFor p l k y ≡ true
+    → Agrees (length (y .seats)) (entry (start p l k) (taken done) w ∷ h) (emptied p l k y)
+unfolding event sizesWith
+empty-agrees h y p l k w ok =
+    let n : ℕ = length (y .seats) in
+    let now : History = entry (start p l k) (taken done) w ∷ h in
+    let f : Fitting (emptied p l k y .head) n (length (y .rows)) (length (y .holders)) = fitting (emptied p l k y .head) n (length (y .rows)) (length (y .holders)) ok in
+    let none : (i : ℕ) → held now i ≡ 0 = λ i. count-none (hasPiece now i) p (λ q m. refl) in
+    record {
+      seats-len = length-replicate n cleared;
+      fits = ap₂ (λ (r s : ℕ). sizesFit (emptied p l k y .head) n r s) (length-replicate (length (y .rows)) 0) (length-replicate (length (y .holders)) 0) ∙ ok;
+      head-is = ap₂ (λ (t c : ℕ). record { pieces = p; «piece_length» = l; «last_length» = k; taken = t; complete = c })
+          (sym (count-none (seated now) n (λ i m. refl))) (sym (count-none (loaded now) n (λ i m. refl)));
+      seat-is = λ i. getD-same n i cleared ∙ ap (λ (m : ℕ). holding m cleared) (sym (none i));
+      row-is = λ i q m r. blank (width p) (length (y .rows)) i q;
+      holders-is = λ q m. getD-replicate (length (y .holders)) q 0 0 (omega (arith, f .counts)) ∙ sym (count-none (λ i. hasPiece now i q) n (λ i r. refl));
+    }
+
+-- ---- a further start
+
+and-true : (a b : Bool) → a ≡ true → b ≡ true → (a && b) ≡ true
+and-true a b p q = rw (p, q)
+
+iff : (a b : Bool) → (a ≡ true → b ≡ true) → (b ≡ true → a ≡ true) → a ≡ b
+iff true b f g = sym (f refl)
+iff false true f g = g refl
+iff false false f g = refl
+
+-- what holds of both answers of two tests that agree
+by-both : {A B : Type 0} (Q : A → B → Type 0) (t u : Bool) {x y : A} {e f : B} → t ≡ u → (t ≡ true → Q x e) → (t ≡ false → Q y f) → Q (cond t x y) (cond u e f)
+by-both Q true true p f g = f refl
+by-both Q true false p f g = cannot true p refl
+by-both Q false true p f g = cannot false refl p
+by-both Q false false p f g = g refl
+
+module _ (n : ℕ) (h : History) (y : Yard) (agrees : Agrees n h y) (p l k : ℕ) where
+  fits-now : Fitting (headOf n h) n (length (y .rows)) (length (y .holders))
+  fits-now = fitting (headOf n h) n (length (y .rows)) (length (y .holders)) (counted-fits n h y agrees (headOf n h .taken) (headOf n h .complete))
+
+  abbrev next : Head
+  next = emptied p l k y .head
+
+  fits-then : fitsFor p l k y ≡ true → startFits h p l k ≡ true
+  fits-then e =
+      let f : Fitting next (length (y .seats)) (length (y .rows)) (length (y .holders)) = fitting next (length (y .seats)) (length (y .rows)) (length (y .holders)) e in
+      and-true (eqb p (pieces h)) _ (eq-eqb p (pieces h) (omega (arith, f .counts, fits-now .counts)))
+      (and-true (pieceLength l) _ (is-piece-length l (f .length))
+      (and-true (leb 1 k) (leb k l) (le-leb 1 k (f .last)) (le-leb k l (f .within))))
+
+  then-fits : startFits h p l k ≡ true → fitsFor p l k y ≡ true
+  unfolding sizesFit
+  then-fits e =
+      let a = and-eq-true-iff (eqb p (pieces h)) _ .0 e in
+      let b = and-eq-true-iff (pieceLength l) _ .0 (a .1) in
+      let c = and-eq-true-iff (leb 1 k) (leb k l) .0 (b .1) in
+      let q : p ≡ pieces h = eqb-true p (pieces h) (a .0) in
+      let m : length (y .seats) ≡ n = agrees .seats-len in
+      let r : length (y .rows) ≡ length (y .seats) * width p = fits-now .row ∙ ap₂ (λ (a b : ℕ). a * width b) (sym m) (sym q) in
+      and-true _ _ (le-leb 1 p (omega (arith, fits-now .some)))
+      (and-true _ _ (le-leb p mostPieces (omega (arith, fits-now .few)))
+      (and-true _ _ (le-leb 1 (length (y .seats)) (omega (arith, fits-now .seat)))
+      (and-true _ _ (le-leb (length (y .seats)) mostSeats (omega (arith, fits-now .seats)))
+      (and-true _ _ (b .0)
+      (and-true _ _ (c .0)
+      (and-true _ _ (c .1)
+      (and-true _ _ (eq-eqb (length (y .rows)) (length (y .seats) * width p) r)
+      (and-true _ _ (eq-eqb (length (y .holders)) p (omega (arith, fits-now .counts))) refl))))))))
+
+  pub start-kept : (w : List ℕ) → Kept n h y agrees (start p l k) w (startOf p l k y) (cond (startFits h p l k) (taken done) (no sizes))
+  unfolding startOf event sizesWith
+  start-kept w = by-both (Kept n h y agrees (start p l k) w) (fitsFor p l k y) (startFits h p l k) (iff _ _ fits-then then-fits)
+      (λ e. (refl, subst (λ (m : ℕ). Agrees m (entry (start p l k) (taken done) w ∷ h) (emptied p l k y)) (agrees .seats-len) (empty-agrees h y p l k w e)))
+      (λ e. (refl, quiet-agrees n h y agrees (entry (start p l k) (refused sizes 0) w) (λ j. refl) (λ z. refl)))

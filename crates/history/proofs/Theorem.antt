@@ -1,0 +1,146 @@
+-- DEMAND 3. After an accepted start and any calls, refused ones among them, the tables are what the history of calls and answers says, and so is
+-- every answer. Assumes nothing.
+use mathlib.Core.Path.{_≡_, refl, sym, ap, ap₂, _∙_, subst}
+use mathlib.Core.Bool.{Bool, true, false, cond, _&&_}
+use mathlib.Core.List.{List, [], _∷_}
+use Prim.Native.Nat.{ℕ, zero, suc, _≤_, _<_}
+use native.Mathlib.Omega.{arith}
+use lib.ListN.{length, getD}
+use Rattle.refusal.specs.Paper.{Outcome, taken, refused}
+use Rattle.refusal.specs.Numbers.{sizes}
+use Rattle.tables.specs.Counting.{count}
+use Rattle.tables.specs.Rows.{width, hasIn}
+use Rattle.tables.specs.Seats.{cleared}
+use Rattle.tables.specs.Tables.{Yard, Said, done, Out}
+use Rattle.tables.specs.Seating.{emptied, startOf}
+use Rattle.tables.specs.Step.{Call, start, sit, leave, feed, choke, interest, missing, scarcest, look, has, step, ifTaken}
+use Rattle.tables.specs.Step.{count as countAt, writes as writesIn, written as writtenIn}
+use Rattle.tables.specs.declared.Head.{Head}
+use Rattle.tables.specs.declared.Seat.{Seat}
+use Rattle.tables.proofs.Cases.{by-bool}
+use Rattle.tables.proofs.Counts.{count-le, cannot}
+use Rattle.history.specs.History.{Entry, History, entry, event, pieces, seated, sizesWith}
+use Rattle.history.specs.Says.{hasPiece, loaded, recordOf, holders}
+use Rattle.history.specs.Expected.{answer, writes, written}
+use Rattle.history.specs.Run.{State, next, run, Accepted, after, Right, calls}
+use Rattle.history.proofs.Agreeing.{Agrees}
+use Rattle.history.proofs.Calls.{Kept, feed-kept, choke-kept, interest-kept, leave-kept}
+use Rattle.history.proofs.Starting.{fitsFor, empty-agrees, start-kept}
+use Rattle.history.proofs.Looks.{sit-kept, lines-same, missing-kept, scarcest-kept, look-kept, has-kept, count-kept}
+
+-- ---- one call
+
+module _ (n : ℕ) (h : History) (y : Yard) (agrees : Agrees n h y) where
+  step-kept : (c : Call) (w : List ℕ) → Kept n h y agrees c w (step c y) (answer n h c)
+  unfolding step
+  step-kept (start p l k) w = start-kept n h y agrees p l k w
+  step-kept sit w = sit-kept n h y agrees w
+  step-kept (leave i) w = leave-kept n h y agrees i w
+  step-kept (feed i s) w = feed-kept n h y agrees i s w
+  step-kept (choke i b space) w = choke-kept n h y agrees i b space w
+  step-kept (interest i b space) w = interest-kept n h y agrees i b space w
+  step-kept (missing first space) w = missing-kept n h y agrees first space w
+  step-kept scarcest w = scarcest-kept n h y agrees w
+  step-kept (look i) w = look-kept n h y agrees i w
+  step-kept (has i p) w = has-kept n h y agrees i p w
+  step-kept (countAt p) w = count-kept n h y agrees p w
+
+  writes-same : (c : Call) → writesIn c y ≡ writes n h c
+  writes-same (start p l k) = refl
+  writes-same sit = refl
+  writes-same (leave i) = refl
+  writes-same (feed i s) = refl
+  writes-same (choke i b space) = refl
+  writes-same (interest i b space) = refl
+  writes-same (missing first space) = lines-same n h y agrees first space
+  writes-same scarcest = refl
+  writes-same (look i) = refl
+  writes-same (has i p) = refl
+  writes-same (countAt p) = refl
+
+  written-same : (c : Call) → writtenIn c y ≡ written n h c
+  written-same c = ap₂ (λ (a : Outcome Said) (l : List ℕ). ifTaken a l) (step-kept c [] .0) (writes-same c)
+
+-- ---- many
+
+next-agrees : (n : ℕ) (c : Call) (s : State) → Agrees n (s .past) (s .yard) → Agrees n (next c s .past) (next c s .yard)
+unfolding next
+next-agrees n c s a = step-kept n (s .past) (s .yard) a c (writtenIn c (s .yard)) .1
+
+run-agrees : (n : ℕ) (cs : List Call) (s : State) → Agrees n (s .past) (s .yard) → Agrees n (run cs s .past) (run cs s .yard)
+unfolding run
+run-agrees n [] s a = a
+run-agrees n (c ∷ cs) s a = run-agrees n cs (next c s) (next-agrees n c s a)
+
+-- ---- an accepted start
+
+abbrev IsTaken : Outcome Said → Type 0
+IsTaken (taken a) = Unit
+IsTaken (refused n p) = ⊥
+
+module _ (p l k : ℕ) (y : Yard) (ok : Accepted p l k y) where
+  accepted-fits : fitsFor p l k y ≡ true
+  unfolding step startOf
+  accepted-fits = by-bool (fitsFor p l k y) (λ e. e) (λ e. absurd (subst IsTaken (sym (rw e at ok)) tt))
+
+  start-agrees : (w : List ℕ) → Agrees (length (y .seats)) (entry (start p l k) (step (start p l k) y .answer) w ∷ []) (step (start p l k) y .yard)
+  unfolding step startOf
+  start-agrees w = rw accepted-fits (empty-agrees [] y p l k w accepted-fits)
+
+  after-agrees : (cs : List Call) → Agrees (length (y .seats)) (after p l k y cs .past) (after p l k y cs .yard)
+  unfolding next
+  after-agrees cs = run-agrees (length (y .seats)) cs _ (start-agrees _)
+
+-- ---- what is right
+
+right-of : (n : ℕ) (h : History) (y : Yard) → Agrees n h y → Right n h y
+right-of n h y a =
+    let t : y .head .taken ≡ count n (seated h) = ap (λ (k : Head). k .taken) (a .head-is) in
+    let c : y .head .complete ≡ count n (loaded h) = ap (λ (k : Head). k .complete) (a .head-is) in
+    record {
+      seats-same = a .seats-len;
+      holders-right = a .holders-is;
+      taken-right = t;
+      complete-right = c;
+      seat-right = λ i l. a .seat-is i;
+      row-right = a .row-is;
+      pieces-right = ap (λ (k : Head). k .pieces) (a .head-is);
+      piece-length-right = ap (λ (k : Head). k .«piece_length») (a .head-is);
+      last-length-right = ap (λ (k : Head). k .«last_length») (a .head-is);
+      holders-top = λ p l. omega (arith, a .holders-is p l, count-le (λ i. hasPiece h i p) n);
+      held-top = λ i l.
+          let e : getD (y .seats) i cleared .held ≡ count (pieces h) (hasPiece h i) = ap (λ (s : Seat). s .held) (a .seat-is i) in
+          omega (arith, e, count-le (hasPiece h i) (pieces h));
+      taken-top = omega (arith, t, count-le (seated h) n);
+      complete-top = omega (arith, c, count-le (loaded h) n);
+    }
+
+module _ (p l k : ℕ) (y : Yard) (ok : Accepted p l k y) (cs : List Call) where
+  abbrev seats : ℕ
+  seats = length (y .seats)
+
+  abbrev past : History
+  past = after p l k y cs .past
+
+  abbrev now : Yard
+  now = after p l k y cs .yard
+
+  agrees-now : Agrees seats past now
+  agrees-now = after-agrees p l k y ok cs
+
+  -- the tables
+  pub right : Right seats past now
+  right = right-of seats past now agrees-now
+
+  -- the answer to one more call, and what it writes
+  pub answered : (c : Call) → step c now .answer ≡ answer seats past c
+  answered c = step-kept seats past now agrees-now c [] .0
+
+  pub wrote : (c : Call) → writtenIn c now ≡ written seats past c
+  wrote c = written-same seats past now agrees-now c
+
+-- the calls of a run are those that were made, in their order
+pub calls-are : (cs : List Call) (s : State) → calls (run cs s .past) [] ≡ calls (s .past) cs
+unfolding run next
+calls-are [] s = refl
+calls-are (c ∷ cs) s = calls-are cs (next c s)
