@@ -1,0 +1,124 @@
+use borrow.Author.Needs.{needs}
+use borrow.Author.Tests.{not-false}
+use Rattle.seating.proofs.Ways.{few-seats, row-room, some-piece, row-inside, row-byte-in, sit-sizes, sit-full, sit-damaged, sit-done, leave-fault, leave-head, leave-piece, leave-done, start-refused, start-done, fault-seat}
+use Rattle.seating.proofs.Ways.{some-piece, row-inside, row-byte-in, sit-sizes, sit-full, sit-damaged, sit-done, leave-fault, leave-head, leave-piece, leave-done, start-refused, start-done, fault-seat}
+use lib.Seq.{sets}
+use lib.ListN.{length, getD, set, replicate, length-set}
+use native.Mathlib.Omega.{arith}
+use Prim.Native.Nat.{ℕ, _+_, _*_, _-_, _/_, _%_, _≤_, _<_}
+use mathlib.Core.List.{List}
+use lib.Dec.{eqb}
+use mathlib.Core.Bool.{Bool, true, false, _&&_, _||_}
+use mathlib.Core.Path.{_≡_, refl, sym, ap, _∙_}
+use Rattle.seating.proofs.leave_step.Statement.{statement}
+use Rattle.seating.proofs.leave_step.Tie as tie
+use Rattle.seating.proofs.leave_step.Reads as reads
+use Rattle.seating.proofs.leave_step.Lts as lts
+use Rattle.seating.proofs.fault_at.Reads as fault-at-reads
+use Rattle.seating.proofs.gone.Reads as gone-reads
+use Rattle.seating.proofs.head_at_zero.Reads as head-at-zero-reads
+use Rattle.seating.proofs.refuse.Reads as refuse-reads
+use Rattle.seating.proofs.row.clear.Reads as clear-reads
+use Rattle.seating.proofs.row.lower.Reads as lower-reads
+use Rattle.seating.proofs.row.some_zero.Reads as some-zero-reads
+use Rattle.seating.proofs.row.width.Reads as width-reads
+
+-- src/lib.rt:95:9
+fault-at-requires : tie.Need-fault-at-requires
+fault-at-requires c κs = search needs
+
+-- src/lib.rt:97:9
+refuse-requires : tie.Need-refuse-requires
+refuse-requires c κs = search needs
+
+-- src/lib.rt:97:9
+returns : tie.Need-returns
+returns c = leave-fault (c .before .before .before .before .before .args .h) (c .before .before .before .before .before .args .s) (c .before .before .before .before .before .args .i) (c .before .before .before .before .before .args .n) (c .before .before .before .before .before .args .rows .now) (c .before .before .before .before .before .args .holders .now) _ (c .before .before .fault-at .ensures) _ (c .before .if1 .taken) (c .refuse .ensures)
+
+-- src/lib.rt:99:9
+width-requires : tie.Need-width-requires
+width-requires c κs = search needs
+
+-- src/lib.rt:100:14
+mul-at : tie.Need-mul-at
+mul-at c = let ri : c .before .before .before .before .before .args .i * c .width .result + c .width .result ≤ length (c .before .before .before .before .before .args .rows .now) = row-inside (c .before .before .before .before .before .args .h) (c .before .before .before .before .before .args .n) (length (c .before .before .before .before .before .args .rows .now)) (length (c .before .before .before .before .before .args .holders .now)) (fault-seat (c .before .before .before .before .before .args .h) (c .before .before .before .before .before .args .s) (c .before .before .before .before .before .args .i) (c .before .before .before .before .before .args .n) (c .before .before .before .before .before .args .rows .now) (c .before .before .before .before .before .args .holders .now) _ (c .before .before .fault-at .ensures) (c .before .if1 .left) .0) (c .before .before .before .before .before .args .i) _ (fault-seat (c .before .before .before .before .before .args .h) (c .before .before .before .before .before .args .s) (c .before .before .before .before .before .args .i) (c .before .before .before .before .before .args .n) (c .before .before .before .before .before .args .rows .now) (c .before .before .before .before .before .args .holders .now) _ (c .before .before .fault-at .ensures) (c .before .if1 .left) .1) (c .width .ensures) in omega arith
+
+-- src/lib.rt:101:8
+head-at-zero-requires : tie.Need-head-at-zero-requires
+head-at-zero-requires c κs = search needs
+
+-- src/lib.rt:102:9
+refuse-requires-2 : tie.Need-refuse-requires-2
+refuse-requires-2 c κs = search needs
+
+-- src/lib.rt:102:9
+returns-2 : tie.Need-returns-2
+returns-2 c = leave-head (c .before .before .before .before .before .before .before .before .args .h) (c .before .before .before .before .before .before .before .before .args .s) (c .before .before .before .before .before .before .before .before .args .i) (c .before .before .before .before .before .before .before .before .args .n) (c .before .before .before .before .before .before .before .before .args .rows .now) (c .before .before .before .before .before .before .before .before .args .holders .now) _ (c .before .before .before .before .before .fault-at .ensures) _ _ (c .before .before .before .before .if1 .left) (c .before .before .head-at-zero .ensures) (c .before .if2 .taken) (c .refuse2 .ensures)
+
+-- src/lib.rt:104:8
+some-zero-requires : tie.Need-some-zero-requires
+some-zero-requires c κs = row-room (c .before .before .before .before .before .before .before .before .before .args .h) (c .before .before .before .before .before .before .before .before .before .args .n) (length (c .before .before .before .before .before .before .before .before .before .args .rows .now)) (length (c .before .before .before .before .before .before .before .before .before .args .holders .now)) (fault-seat (c .before .before .before .before .before .before .before .before .before .args .h) (c .before .before .before .before .before .before .before .before .before .args .s) (c .before .before .before .before .before .before .before .before .before .args .i) (c .before .before .before .before .before .before .before .before .before .args .n) (c .before .before .before .before .before .before .before .before .before .args .rows .now) (c .before .before .before .before .before .before .before .before .before .args .holders .now) _ (c .before .before .before .before .before .before .fault-at .ensures) (c .before .before .before .before .before .if1 .left) .0) (c .before .before .before .before .before .before .before .before .before .args .i) _ (fault-seat (c .before .before .before .before .before .before .before .before .before .args .h) (c .before .before .before .before .before .before .before .before .before .args .s) (c .before .before .before .before .before .before .before .before .before .args .i) (c .before .before .before .before .before .before .before .before .before .args .n) (c .before .before .before .before .before .before .before .before .before .args .rows .now) (c .before .before .before .before .before .before .before .before .before .args .holders .now) _ (c .before .before .before .before .before .before .fault-at .ensures) (c .before .before .before .before .before .if1 .left) .1) (c .before .before .before .before .width .ensures)
+
+-- src/lib.rt:105:9
+refuse-requires-3 : tie.Need-refuse-requires-3
+refuse-requires-3 c κs = search needs
+
+-- src/lib.rt:105:9
+same-length : tie.Need-same-length
+same-length c = search needs
+
+-- src/lib.rt:105:9
+same-length-2 : tie.Need-same-length-2
+same-length-2 c = search needs
+
+-- src/lib.rt:105:9
+returns-3 : tie.Need-returns-3
+returns-3 c = leave-piece (c .before .before .before .before .before .before .before .before .before .before .before .before .args .h) (c .before .before .before .before .before .before .before .before .before .before .before .before .args .s) (c .before .before .before .before .before .before .before .before .before .before .before .before .args .i) (c .before .before .before .before .before .before .before .before .before .before .before .before .args .n) (c .before .before .before .before .before .before .before .before .before .before .before .before .args .rows .now) (c .before .before .before .before .before .before .before .before .before .before .before .before .args .holders .now) _ (c .before .before .before .before .before .before .before .before .before .fault-at .ensures) _ _ _ _ _ (c .before .before .before .before .before .before .before .before .if1 .left) (c .before .before .before .before .before .before .before .width .ensures) refl (c .before .before .before .before .before .before .head-at-zero .ensures) (c .before .before .before .before .before .if2 .left) (c .before .before .some-zero .ensures) (c .before .if3 .taken) (c .refuse3 .ensures)
+
+-- src/lib.rt:107:5
+lower-requires : tie.Need-lower-requires
+lower-requires c κs = row-room (c .before .before .before .before .before .before .before .before .before .before .before .before .before .args .h) (c .before .before .before .before .before .before .before .before .before .before .before .before .before .args .n) (length (c .before .before .before .before .before .before .before .before .before .before .before .before .before .args .rows .now)) (length (c .before .before .before .before .before .before .before .before .before .before .before .before .before .args .holders .now)) (fault-seat (c .before .before .before .before .before .before .before .before .before .before .before .before .before .args .h) (c .before .before .before .before .before .before .before .before .before .before .before .before .before .args .s) (c .before .before .before .before .before .before .before .before .before .before .before .before .before .args .i) (c .before .before .before .before .before .before .before .before .before .before .before .before .before .args .n) (c .before .before .before .before .before .before .before .before .before .before .before .before .before .args .rows .now) (c .before .before .before .before .before .before .before .before .before .before .before .before .before .args .holders .now) _ (c .before .before .before .before .before .before .before .before .before .before .fault-at .ensures) (c .before .before .before .before .before .before .before .before .before .if1 .left) .0) (c .before .before .before .before .before .before .before .before .before .before .before .before .before .args .i) _ (fault-seat (c .before .before .before .before .before .before .before .before .before .before .before .before .before .args .h) (c .before .before .before .before .before .before .before .before .before .before .before .before .before .args .s) (c .before .before .before .before .before .before .before .before .before .before .before .before .before .args .i) (c .before .before .before .before .before .before .before .before .before .before .before .before .before .args .n) (c .before .before .before .before .before .before .before .before .before .before .before .before .before .args .rows .now) (c .before .before .before .before .before .before .before .before .before .before .before .before .before .args .holders .now) _ (c .before .before .before .before .before .before .before .before .before .before .fault-at .ensures) (c .before .before .before .before .before .before .before .before .before .if1 .left) .1) (c .before .before .before .before .before .before .before .before .width .ensures)
+
+-- src/lib.rt:108:5
+clear-requires : tie.Need-clear-requires
+clear-requires c κs = row-inside (c .before .before .before .before .before .before .before .before .before .before .before .before .before .before .before .before .before .args .h) (c .before .before .before .before .before .before .before .before .before .before .before .before .before .before .before .before .before .args .n) (length (c .before .before .before .before .before .before .before .before .before .before .before .before .before .before .before .before .before .args .rows .now)) (length (c .before .before .before .before .before .before .before .before .before .before .before .before .before .before .before .before .before .args .holders .now)) (fault-seat (c .before .before .before .before .before .before .before .before .before .before .before .before .before .before .before .before .before .args .h) (c .before .before .before .before .before .before .before .before .before .before .before .before .before .before .before .before .before .args .s) (c .before .before .before .before .before .before .before .before .before .before .before .before .before .before .before .before .before .args .i) (c .before .before .before .before .before .before .before .before .before .before .before .before .before .before .before .before .before .args .n) (c .before .before .before .before .before .before .before .before .before .before .before .before .before .before .before .before .before .args .rows .now) (c .before .before .before .before .before .before .before .before .before .before .before .before .before .before .before .before .before .args .holders .now) _ (c .before .before .before .before .before .before .before .before .before .before .before .before .before .before .fault-at .ensures) (c .before .before .before .before .before .before .before .before .before .before .before .before .before .if1 .left) .0) (c .before .before .before .before .before .before .before .before .before .before .before .before .before .before .before .before .before .args .i) _ (fault-seat (c .before .before .before .before .before .before .before .before .before .before .before .before .before .before .before .before .before .args .h) (c .before .before .before .before .before .before .before .before .before .before .before .before .before .before .before .before .before .args .s) (c .before .before .before .before .before .before .before .before .before .before .before .before .before .before .before .before .before .args .i) (c .before .before .before .before .before .before .before .before .before .before .before .before .before .before .before .before .before .args .n) (c .before .before .before .before .before .before .before .before .before .before .before .before .before .before .before .before .before .args .rows .now) (c .before .before .before .before .before .before .before .before .before .before .before .before .before .before .before .before .before .args .holders .now) _ (c .before .before .before .before .before .before .before .before .before .before .before .before .before .before .fault-at .ensures) (c .before .before .before .before .before .before .before .before .before .before .before .before .before .if1 .left) .1) (c .before .before .before .before .before .before .before .before .before .before .before .before .width .ensures)
+
+-- src/lib.rt:109:5
+gone-requires : tie.Need-gone-requires
+gone-requires c κs = sym (c .before .before .before .before .before .before .before .before .before .before .before .before .before .before .head-at-zero .ensures) ∙ c .before .before .before .before .before .before .before .before .before .before .before .before .before .if2 .left
+
+-- src/lib.rt:83:1
+same-length-3 : tie.Need-same-length-3
+same-length-3 c = search needs
+
+-- src/lib.rt:83:1
+same-length-4 : tie.Need-same-length-4
+same-length-4 c = search needs
+
+-- src/lib.rt:83:1
+returns-4 : tie.Need-returns-4
+returns-4 c = leave-done (c .before .before .before .before .before .before .before .before .before .before .before .before .before .before .before .before .before .before .before .before .before .args .h) (c .before .before .before .before .before .before .before .before .before .before .before .before .before .before .before .before .before .before .before .before .before .args .s) (c .before .before .before .before .before .before .before .before .before .before .before .before .before .before .before .before .before .before .before .before .before .args .i) (c .before .before .before .before .before .before .before .before .before .before .before .before .before .before .before .before .before .before .before .before .before .args .n) (c .before .before .before .before .before .before .before .before .before .before .before .before .before .before .before .before .before .before .before .before .before .args .rows .now) (c .before .before .before .before .before .before .before .before .before .before .before .before .before .before .before .before .before .before .before .before .before .args .holders .now) _ (c .before .before .before .before .before .before .before .before .before .before .before .before .before .before .before .before .before .before .fault-at .ensures) _ _ _ _ _ _ _ (c .before .before .before .before .before .before .before .before .before .before .before .before .before .before .before .before .before .if1 .left) (c .before .before .before .before .before .before .before .before .before .before .before .before .before .before .before .before .width .ensures) refl (c .before .before .before .before .before .before .before .before .before .before .before .before .before .before .before .head-at-zero .ensures) (c .before .before .before .before .before .before .before .before .before .before .before .before .before .before .if2 .left) (c .before .before .before .before .before .before .before .before .before .before .before .some-zero .ensures) (c .before .before .before .before .before .before .before .before .before .before .if3 .left) (c .before .before .before .before .before .before .before .lower .ensures) (c .before .before .before .clear .ensures) (c .gone .ensures)
+
+pub leave-step-spec : {M : Type 1} → statement M
+leave-step-spec =
+    tie.close
+    (tie.spec
+    fault-at-requires
+    refuse-requires
+    returns
+    width-requires
+    mul-at
+    head-at-zero-requires
+    refuse-requires-2
+    returns-2
+    some-zero-requires
+    refuse-requires-3
+    same-length
+    same-length-2
+    returns-3
+    lower-requires
+    clear-requires
+    gone-requires
+    same-length-3
+    same-length-4
+    returns-4)

@@ -1,0 +1,54 @@
+-- What the steps' own parts come to. Assumes nothing: these are definitions.
+use mathlib.Core.Bool.{Bool, true, false, cond, _&&_, _||_}
+use mathlib.Core.List.{List}
+use Prim.Native.Nat.{ℕ, zero, suc, _+_, _/_, _%_, _-_}
+use lib.Dec.{eqb, ltb, leb}
+use lib.ListN.{length, getD, set, replicate}
+use Rattle.refusal.specs.Numbers.{seat, sizes, room}
+use Rattle.tables.specs.Counting.{bit, some}
+use Rattle.tables.specs.Rows.{digit}
+use Rattle.tables.specs.Seats.{cleared}
+use Rattle.tables.specs.Tables.{paper, Out, yardOf, sizesFit}
+use Rattle.tables.specs.declared.Head.{Head}
+use Rattle.tables.specs.declared.Seat.{Seat}
+use Rattle.tables.specs.declared.Stepped.{Stepped}
+use Rattle.tables.specs.declared.Answer.{Answer}
+use Rattle.tables.specs.declared.Answer.the-variants.{Refused, Wrote}
+use Rattle.seating.specs.declared.Begun.{Begun}
+
+-- the seats, cleared where that is wanted
+abbrev pub clearedIf : Bool → List Seat → List Seat
+clearedIf b seats = cond b (replicate (length seats) cleared) seats
+
+-- what starting leaves
+abbrev pub begun : Begun → List Seat → List ℕ → List ℕ → Out
+begun r seats rows holders = record { answer = paper (r .answer); yard = yardOf (r .head) (clearedIf (r .clear) seats) rows holders }
+
+-- the number of the refusal where the sizes do not fit or no truck sits at seat i of n, and else 0
+abbrev pub faultAt : Head → Seat → ℕ → ℕ → ℕ → ℕ → ℕ
+faultAt h s i n rows holders = cond (sizesFit h n rows holders) (cond (ltb i n && s .taken) 0 seat) sizes
+
+abbrev pub refusedStep : Head → Seat → ℕ → Stepped
+refusedStep h s number = record { head = h; seat = s; answer = Refused (record { place = 0; number = number }) }
+
+-- the seat s becomes t, unless there is a fault or less room than a frame of 5 bytes takes
+abbrev pub markedOr : Head → Seat → Seat → ℕ → ℕ → Stepped
+markedOr h s t fault space =
+    cond (eqb fault 0) (cond (ltb space 5) (refusedStep h s room) (record { head = h; seat = t; answer = Wrote 5 })) (refusedStep h s fault)
+
+-- one of the head's counts that the leaving of s lowers is 0
+abbrev pub headAtZero : Head → Seat → Bool
+headAtZero h s = eqb (h .taken) 0 || (eqb (s .held) (h .pieces) && eqb (h .complete) 0)
+
+-- bit p of the row that begins at a byte
+abbrev pub hasAt : List ℕ → ℕ → ℕ → Bool
+hasAt rows at p = digit (7 - p % 8) (getD rows (at + p / 8) 0)
+
+-- one of its first n pieces has no holder
+abbrev pub someZero : List ℕ → ℕ → List ℕ → ℕ → Bool
+someZero rows at holders n = some n (λ p. hasAt rows at p && eqb (getD holders p 0) 0)
+
+-- the counts with those of its first n pieces one down
+unfoldable pub lowered : List ℕ → ℕ → ℕ → List ℕ → List ℕ
+lowered rows at zero l = l
+lowered rows at (suc n) l = let t : List ℕ = lowered rows at n l in set t n (getD t n 0 - bit (hasAt rows at n))
