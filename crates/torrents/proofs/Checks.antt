@@ -3,7 +3,6 @@ use mathlib.Core.Path.{_≡_, refl, sym, ap, _∙_, subst}
 use mathlib.Core.Logic.{_⊎_, inl, inr, ⊎-elim}
 use mathlib.Core.List.{List}
 use Prim.Native.Nat.{ℕ}
-use native.Mathlib.Omega.{arith}
 use Rattle.refusal.specs.Paper.{Outcome, taken, refused, map, then}
 use Rattle.bencode.specs.Value.{Value, Entries, start}
 use Rattle.walk.specs.Stands.{Stands, StandEntries}

@@ -1,16 +1,15 @@
 -- The check that info has exactly one of length and files, and the check of that one. Assumes nothing.
 use mathlib.Core.Path.{_≡_, refl, sym, ap, _∙_, subst}
-use mathlib.Core.Bool.{true, false}
-use mathlib.Core.List.{List, [], _∷_}
-use Prim.Native.Nat.{ℕ, _+_}
+use mathlib.Core.List.{List}
+use Prim.Native.Nat.{ℕ, _+_, _≤_}
 use native.Mathlib.Omega.{arith}
 use lib.IntN.{pos}
-use lib.ListN.{length, take, drop}
+use lib.ListN.{length, take}
 use lib.Seq.{take-append-seam}
-use Rattle.refusal.specs.Paper.{Outcome, taken, refused, map, then}
+use Rattle.refusal.specs.Paper.{refused, map, then}
 use Rattle.refusal.specs.Limits.{longestFile}
 use Rattle.bencode.specs.Value.{Value, Items, Entries, str, int, list, dict, encode, start}
-use Rattle.walk.specs.Stands.{Stands, StandItems, StandEntries}
+use Rattle.walk.specs.Stands.{Stands, StandEntries}
 use Rattle.walk.specs.Lookup.{Under, nothing, under, lookup}
 use Rattle.walk.specs.Has.{Has}
 use Rattle.walk.proofs.Standing.{list-stands}
@@ -21,13 +20,13 @@ use Rattle.blocks.specs.Rules.{sum}
 use Rattle.metainfo.specs.Keys.{filesKey, lengthKey}
 use Rattle.metainfo.specs.Rules.{lengthsOf, oneFile, manyFiles, contentOf, placeUnder}
 use Rattle.metainfo.specs.declared.Content.{Content}
-use Rattle.torrents.specs.Torrent.{OneFile, Files, single, many, sizesOf, lengthsIn, HasLength, AreFiles, HasFiles, by-length, by-files}
-use Rattle.torrents.specs.Exact.{isSingle, filesUnder, StandsAt, ShowsFiles}
+use Rattle.torrents.specs.Torrent.{OneFile, Files, single, many, sizesOf, AreFiles, HasFiles, by-length, by-files}
+use Rattle.torrents.specs.Exact.{filesUnder, StandsAt, FilesAt, ShowsFiles}
 use Rattle.torrents.specs.Causes.{NoNumber, Length, NoFiles, NoFileList, no-file-list, bad-file, NoContent, neither, both, wrong-length, wrong-files}
 use Rattle.torrents.proofs.Names.{no-way}
-use Rattle.torrents.proofs.Checks.{Checks, checks-refused, checks-taken, checks-as, checks-map}
+use Rattle.torrents.proofs.Checks.{Checks, checks-refused, checks-as, checks-map}
 use Rattle.torrents.proofs.Values.{Number, Same, length-checks}
-use Rattle.torrents.proofs.Filing.{length-has, ShownLengths, files-checks}
+use Rattle.torrents.proofs.Filing.{length-has, ShownLengths, files-checks, files-at}
 
 -- what stands at a place is written there
 pub stands-at : (s : List ℕ) (e q : ℕ) (v : Value) → Stands s e q v → StandsAt s q v
@@ -69,7 +68,7 @@ module _ (s : List ℕ) (e q : ℕ) where
 
 -- ---- exactly one
 
-module _ (s : List ℕ) (e p : ℕ) (es : Entries) (t : StandEntries s e (p + 1) start es) where
+module _ (s : List ℕ) (e p : ℕ) (es : Entries) (t : StandEntries s e (p + 1) start es) (low : e ≤ 32) where
   -- the content that is handed back, and the place that a refusal of it names
   abbrev pub ShownContent : Content → Files → Type 0
   ShownContent c fs = ShowsFiles s es c fs × (c .place ≡ placeUnder (lookup (p + 1) es (filesUnder fs)))
@@ -89,17 +88,22 @@ module _ (s : List ℕ) (e p : ℕ) (es : Entries) (t : StandEntries s e (p + 1)
       files = refl;
       total = omega arith;
       place = (int (pos n), found-has (p + 1) es lengthKey q (int (pos n)) f, stands-at s e q (int (pos n)) (found-stands s e (p + 1) start es lengthKey t q (int (pos n)) f));
+      each = tt;
     },
     ap placeUnder (sym f),
   )
 
-  shown-many : (q : ℕ) (v : Value) (fs : List OneFile) → lookup (p + 1) es filesKey ≡ under q v → ShownContent (manyFiles q (sizesOf fs)) (many fs)
-  shown-many q v fs f = (
+  each-at : (q : ℕ) (vs : Items) (fs : List OneFile) → lookup (p + 1) es filesKey ≡ under q (list vs) → AreFiles vs fs → FilesAt s (q + 1) fs
+  each-at q vs fs f h = let g = list-stands s e q vs (found-stands s e (p + 1) start es filesKey t q (list vs) f) .1 in files-at s (g .0) (q + 1) vs fs (omega (arith, g .1)) (g .2) h
+
+  shown-many : (q : ℕ) (v : Value) (fs : List OneFile) → lookup (p + 1) es filesKey ≡ under q v → Listed v fs → ShownContent (manyFiles q (sizesOf fs)) (many fs)
+  shown-many q v fs f h = (
     record {
       one = refl;
       files = refl;
       total = refl;
       place = (v, found-has (p + 1) es filesKey q v f, stands-at s e q v (found-stands s e (p + 1) start es filesKey t q v f));
+      each = each-at q (h .0) fs (f ∙ ap (under q) (h .1)) (h .2);
     },
     ap placeUnder (sym f),
   )
@@ -142,13 +146,13 @@ module _ (s : List ℕ) (e p : ℕ) (es : Entries) (t : StandEntries s e (p + 1)
   both-have q v o w f g fs (by-length n h i) = i w (found-has (p + 1) es filesKey o w g)
   both-have q v o w f g fs (by-files vs l h i j) = j v (found-has (p + 1) es lengthKey q v f)
 
-  one-has : (q : ℕ) (v : Value) → lookup (p + 1) es lengthKey ≡ under q v → (fs : Files) → HasFiles es fs → (n : ℕ) × Number Length 0 v n × ((c : Content) → ShownContent c (single n) → ShownContent c fs)
+  one-has : (q : ℕ) (v : Value) → lookup (p + 1) es lengthKey ≡ under q v → (fs : Files) → HasFiles es fs → (n : ℕ) × Number Length v n × ((c : Content) → ShownContent c (single n) → ShownContent c fs)
   one-has q v f fs (by-length n h i) = (n, (same-under lengthKey q v (int (pos n)) f (h .has), h .small), λ c sh. sh)
   one-has q v f fs (by-files vs l h i j) = absurd (j v (found-has (p + 1) es lengthKey q v f))
 
   many-have : (q : ℕ) (v : Value) → lookup (p + 1) es filesKey ≡ under q v → (fs : Files) → HasFiles es fs → (l : List OneFile) × Listed v l × ((c : Content) → ShownMany q c l → ShownContent c fs)
   many-have q v g fs (by-length n h i) = absurd (i v (found-has (p + 1) es filesKey q v g))
-  many-have q v g fs (by-files vs l h i j) = (l, (vs, same-under filesKey q v (list vs) g h, i), λ c sh. subst (λ (z : Content). ShownContent z (many l)) (sym sh) (shown-many q v l g))
+  many-have q v g fs (by-files vs l h i j) = (l, (vs, same-under filesKey q v (list vs) g h, i), λ c sh. subst (λ (z : Content). ShownContent z (many l)) (sym sh) (shown-many q v l g (vs, same-under filesKey q v (list vs) g h, i)))
 
   pub content-checks : Checks (contentOf p (lookup (p + 1) es lengthKey) (lookup (p + 1) es filesKey)) (HasFiles es) ShownContent (NoContent p es)
   content-checks = go (lookup (p + 1) es lengthKey) refl (lookup (p + 1) es filesKey) refl
@@ -158,7 +162,7 @@ module _ (s : List ℕ) (e p : ℕ) (es : Entries) (t : StandEntries s e (p + 1)
       go (under q v) f (under o w) g = checks-refused 10 p (HasFiles es) ShownContent (NoContent p es) (both-have q v o w f g) (both q v o w f g) (only-both q v o w f g)
       go (under q v) f nothing g =
           checks-as (HasFiles es) ShownContent (NoContent p es)
-          (checks-map (oneFile q) (naturalAt longestFile q v) (Number Length 0 v) (Same Length 0) (λ c n. ShownContent c (single n)) (NoNumber Length q v) (length-checks longestFile q v)
+          (checks-map (oneFile q) (naturalAt longestFile q v) (Number Length v) Same (λ c n. ShownContent c (single n)) (NoNumber Length q v) (length-checks longestFile q v)
           (λ x n i sh. subst (λ (z : ℕ). ShownContent (oneFile q z) (single n)) (sym sh) (shown-one q n (f ∙ ap (under q) (i .0)))))
           (λ c n h sh. (single n, by-length n (length-has es n (v, found-has (p + 1) es lengthKey q v f, h)) (λ w z. not-under filesKey w g z), sh))
           (one-has q v f)
@@ -169,7 +173,7 @@ module _ (s : List ℕ) (e p : ℕ) (es : Entries) (t : StandEntries s e (p + 1)
           (λ c fs h sh. (
             many fs,
             by-files (h .0) fs (subst (λ (z : Value). Has es filesKey z) (h .1) (found-has (p + 1) es filesKey q v g)) (h .2) (λ w z. not-under lengthKey w f z),
-            subst (λ (z : Content). ShownContent z (many fs)) (sym sh) (shown-many q v fs g),
+            subst (λ (z : Content). ShownContent z (many fs)) (sym sh) (shown-many q v fs g h),
           ))
           (many-have q v g)
           (λ n r h. wrong-files q v n r f g h)

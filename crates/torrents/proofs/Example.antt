@@ -1,27 +1,27 @@
 -- Document 01's torrent is one by the definition, and says what it should; its text is its value as BEP 3 writes it. Assumes nothing.
 use mathlib.Core.Path.{_≡_, refl}
-use mathlib.Core.Bool.{true, false}
+use mathlib.Core.Bool.{false}
 use mathlib.Core.List.{List, [], _∷_}
-use mathlib.Core.List.{List·Memᴰ as In, List·Memᴰ·not-nil}
-use Prim.Native.Nat.{ℕ, _*_, _≤_}
+use mathlib.Core.List.{List·Memᴰ·not-nil}
+use Prim.Native.Nat.{ℕ, _≤_}
 use native.Mathlib.Omega.{arith}
 use lib.IntN.{pos}
 use lib.ListN.{length}
-use Rattle.refusal.specs.Paper.{Outcome, taken}
+use Rattle.refusal.specs.Paper.{taken}
 use Rattle.scalar.specs.Written.{keyLt}
 use Rattle.scalar.specs.Reading.{digitsVal, digitsLen, stringOf, closedOf, integerOf}
-use Rattle.bencode.specs.Value.{Value, Entries, str, int, list, dict, empty, entry}
+use Rattle.bencode.specs.Value.{Value, Entries, int, empty, entry}
 use Rattle.bencode.specs.Decode.{decode, kindOf, keyOf, itemsOf, entriesOf, valueOf}
 use Rattle.bencode.specs.Exact.{Fine}
 use Rattle.bencode.proofs.Exact.{taken-fine}
 use Rattle.walk.specs.Lookup.{sameKey}
 use Rattle.walk.specs.Has.{Has, here, there}
 use Rattle.walk.proofs.Finding.{same-refl}
-use Rattle.blocks.specs.Rules.{sum, PieceLength}
+use Rattle.blocks.specs.Rules.{sum}
 use Rattle.metainfo.specs.Keys.{announceKey, infoKey, filesKey, lengthKey, nameKey, pathKey, pieceLengthKey, piecesKey}
 use Rattle.metainfo.specs.Rules.{goodName, clean}
-use Rattle.torrents.specs.Torrent.{GoodName, OneFile, IsFile, AreFiles, no-more, one-more, HasFiles, by-files, IsInfo, IsTorrent, is-torrent, sizesOf, strings}
-use Rattle.torrents.specs.Example.{text, url, pkg, letters, fileA, fileB, fileC, fileEntries, files, info, value, says}
+use Rattle.torrents.specs.Torrent.{GoodName, OneFile, IsFile, AreFiles, no-more, one-more, by-files, IsInfo, IsTorrent, is-torrent, sizesOf, strings}
+use Rattle.torrents.specs.Example.{text, pkg, fileA, fileB, fileC, fileEntries, files, info, value, says}
 use Rattle.torrents.proofs.Names.{no-way, good-is}
 use Rattle.torrents.proofs.Paths.{AllGood, more-good}
 

@@ -1,19 +1,19 @@
 -- The checks of info, and of the whole. Assumes nothing.
-use mathlib.Core.Path.{_≡_, refl, sym, ap, _∙_, subst}
+use mathlib.Core.Path.{_≡_, refl, sym, ap, subst}
 use mathlib.Core.Logic.{_⊎_, inl, inr}
 use mathlib.Core.List.{List}
-use Prim.Native.Nat.{ℕ, _+_}
+use Prim.Native.Nat.{ℕ, _+_, _≤_}
 use native.Mathlib.Omega.{arith}
 use lib.IntN.{pos}
 use lib.ListN.{length}
-use Rattle.refusal.specs.Paper.{Outcome, taken, refused, then}
-use Rattle.bencode.specs.Value.{Value, Items, Entries, str, int, list, dict, encode, start}
+use Rattle.refusal.specs.Paper.{Outcome, refused, then}
+use Rattle.bencode.specs.Value.{Value, Entries, str, int, list, dict, encode, start}
 use Rattle.walk.specs.Stands.{Stands, StandEntries}
 use Rattle.walk.specs.Lookup.{lookup}
 use Rattle.walk.specs.Has.{Has}
 use Rattle.walk.specs.declared.Part.{Part}
 use Rattle.walk.proofs.Standing.{dictionary-stands}
-use Rattle.fields.specs.Values.{stringAt, dictionaryAt, must}
+use Rattle.fields.specs.Values.{stringAt, must}
 use Rattle.blocks.specs.Rules.{PieceLength}
 use Rattle.metainfo.specs.Keys.{announceKey, infoKey, filesKey, lengthKey, nameKey, pieceLengthKey, piecesKey}
 use Rattle.metainfo.specs.Rules.{nameAt, pieceLengthAt, contentOf, placeUnder, sizedOf, infoOf, infoAt, topOf, torrentOf}
@@ -43,17 +43,17 @@ module _ (s : List ℕ) (e p d : ℕ) (es : Entries) (t : StandEntries s e p sta
 
   name-under : Checks (must d (lookup p es nameKey) nameAt) (HasName es) (Shown s) (Lacks d (lookup p es nameKey) NoName)
   name-under =
-      checks-is (HasName es) (checks-must s e p d es t nameKey nameAt (Named s e 0) (Shown s) NoName (λ q v u. name-checks s e q v u))
+      checks-is (HasName es) (checks-must s e p d es t nameKey nameAt Named (Shown s) NoName (λ q v u. name-checks s e q v u))
       (λ bs h. record { has = subst (λ (v : Value). Has es nameKey v) (h .2 .0) (h .1); good = h .2 .1 }) (λ bs h. (str bs, h .has, (refl, h .good)))
 
-  piece-under : Checks (must d (lookup p es pieceLengthKey) pieceLengthAt) (HasPieceLength es) (Same PieceLength 0) (Lacks d (lookup p es pieceLengthKey) (NoNumber PieceLength))
+  piece-under : Checks (must d (lookup p es pieceLengthKey) pieceLengthAt) (HasPieceLength es) Same (Lacks d (lookup p es pieceLengthKey) (NoNumber PieceLength))
   piece-under =
-      checks-is (HasPieceLength es) (checks-must s e p d es t pieceLengthKey pieceLengthAt (Number PieceLength 0) (Same PieceLength 0) (NoNumber PieceLength) (λ q v u. piece-checks q v))
+      checks-is (HasPieceLength es) (checks-must s e p d es t pieceLengthKey pieceLengthAt (Number PieceLength) Same (NoNumber PieceLength) (λ q v u. piece-checks q v))
       (λ n h. record { has = subst (λ (v : Value). Has es pieceLengthKey v) (h .2 .0) (h .1); power = h .2 .1 }) (λ n h. (int (pos n), h .has, (refl, h .power)))
 
 -- ---- info, whose dictionary stands at p; the part a is announce
 
-module _ (s : List ℕ) (e p : ℕ) (es : Entries) (t : StandEntries s e (p + 1) start es) (whole : bytesOf s (record { from = p; len = length (encode (dict es)) }) ≡ encode (dict es)) (a : Part) (an : List ℕ) (first : bytesOf s a ≡ an) where
+module _ (s : List ℕ) (e p : ℕ) (es : Entries) (t : StandEntries s e (p + 1) start es) (low : e ≤ 32) (whole : bytesOf s (record { from = p; len = length (encode (dict es)) }) ≡ encode (dict es)) (a : Part) (an : List ℕ) (first : bytesOf s a ≡ an) where
   abbrev Sizes : ℕ → List ℕ → Files → ℕ → ℕ → Type 0
   Sizes m hs fs = BadSizes (lengthsIn fs) m hs (placeUnder (lookup (p + 1) es (filesUnder fs))) (placeUnder (lookup (p + 1) es piecesKey))
 
@@ -76,7 +76,7 @@ module _ (s : List ℕ) (e p : ℕ) (es : Entries) (t : StandEntries s e (p + 1)
   abbrev Fails2 : ℕ → ℕ → Type 0
   Fails2 n q = Lacks p (lookup (p + 1) es pieceLengthKey) (NoNumber PieceLength) n q ⊎ ((m : ℕ) × HasPieceLength es m × Fails3 m n q)
 
-  sizes : (n x : Part) (bs hs : List ℕ) (m : ℕ) (c : Content) (fs : Files) → Shown s n bs → Shown s x hs → PieceLength m → ShownContent s e p es t c fs
+  sizes : (n x : Part) (bs hs : List ℕ) (m : ℕ) (c : Content) (fs : Files) → Shown s n bs → Shown s x hs → PieceLength m → ShownContent s e p es t low c fs
       → Checks (sizedOf a (record { from = p; len = length (encode (dict es)) }) n x (placeUnder (lookup (p + 1) es piecesKey)) m c) (Sized (lengthsIn fs) m hs) (λ y k. Shows s y (saying an es bs m hs fs k)) (Sizes m hs fs)
   sizes n x bs hs m c fs hn hx w hc =
       checks-shows (λ y k. Shows s y (saying an es bs m hs fs k))
@@ -90,8 +90,8 @@ module _ (s : List ℕ) (e p : ℕ) (es : Entries) (t : StandEntries s e (p + 1)
       → Checks {M = Files × ℕ} (fourth n m x) (λ k. HasFiles es (k .0) × Sized (lengthsIn (k .0)) m hs (k .1)) (λ y k. Shows s y (saying an es bs m hs (k .0) (k .1))) (Fails4 m hs)
   after-pieces n x bs hs m hn hx w =
       checks-then (contentOf p (lookup (p + 1) es lengthKey) (lookup (p + 1) es filesKey)) (λ c. sizedOf a (record { from = p; len = length (encode (dict es)) }) n x (placeUnder (lookup (p + 1) es piecesKey)) m c)
-      (HasFiles es) (ShownContent s e p es t) (NoContent p es) (λ fs. Sized (lengthsIn fs) m hs) (λ fs y k. Shows s y (saying an es bs m hs fs k)) (Sizes m hs)
-      (content-checks s e p es t) (λ c fs i sh. sizes n x bs hs m c fs hn hx w sh)
+      (HasFiles es) (ShownContent s e p es t low) (NoContent p es) (λ fs. Sized (lengthsIn fs) m hs) (λ fs y k. Shows s y (saying an es bs m hs fs k)) (Sizes m hs)
+      (content-checks s e p es t low) (λ c fs i sh. sizes n x bs hs m c fs hn hx w sh)
 
   abbrev Rest3 : ℕ → List ℕ × (Files × ℕ) → Type 0
   Rest3 m k = Has es piecesKey (str (k .0)) × (HasFiles es (k .1 .0) × Sized (lengthsIn (k .1 .0)) m (k .0) (k .1 .1))
@@ -108,7 +108,7 @@ module _ (s : List ℕ) (e p : ℕ) (es : Entries) (t : StandEntries s e (p + 1)
 
   after-name : (n : Part) (bs : List ℕ) → Shown s n bs → Checks (second n) Rest2 (λ y k. Shows s y (saying an es bs (k .0) (k .1 .0) (k .1 .1 .0) (k .1 .1 .1))) Fails2
   after-name n bs hn =
-      checks-then (must p (lookup (p + 1) es pieceLengthKey) pieceLengthAt) (λ pl. third n pl) (HasPieceLength es) (Same PieceLength 0) (Lacks p (lookup (p + 1) es pieceLengthKey) (NoNumber PieceLength))
+      checks-then (must p (lookup (p + 1) es pieceLengthKey) pieceLengthAt) (λ pl. third n pl) (HasPieceLength es) Same (Lacks p (lookup (p + 1) es pieceLengthKey) (NoNumber PieceLength))
       Rest3 (λ m y k. Shows s y (saying an es bs m (k .0) (k .1 .0) (k .1 .1))) Fails3
       (piece-under s e (p + 1) p es t)
       (λ pl m i sh. subst (λ (z : ℕ). Checks (third n z) (Rest3 m) (λ y k. Shows s y (saying an es bs m (k .0) (k .1 .0) (k .1 .1))) (Fails3 m)) (sym sh) (after-piece-length n bs m hn (i .power)))
@@ -167,13 +167,13 @@ module _ (s : List ℕ) (a : Part) (an : List ℕ) (first : bytesOf s a ≡ an) 
       only-kind w i n p (no-info-dictionary u j) = (refl, refl)
       only-kind w i n p (no-info es m r j) = absurd (i es refl)
 
-  value-checks : (d q : ℕ) (v : Value) → Stands s d q v → Checks (infoAt a q v) (InfoIs an v) (Shows s) (NoInfoAt q v)
-  value-checks d q (str bs) t = not-info q (str bs) (λ es f. no-way (cc))
-  value-checks d q (int z) t = not-info q (int z) (λ es f. no-way (cc))
-  value-checks d q (list vs) t = not-info q (list vs) (λ es f. no-way (cc))
-  value-checks d q (dict es) t =
+  value-checks : (d q : ℕ) (v : Value) → d ≤ 32 → Stands s d q v → Checks (infoAt a q v) (InfoIs an v) (Shows s) (NoInfoAt q v)
+  value-checks d q (str bs) low t = not-info q (str bs) (λ es f. no-way (cc))
+  value-checks d q (int z) low t = not-info q (int z) (λ es f. no-way (cc))
+  value-checks d q (list vs) low t = not-info q (list vs) (λ es f. no-way (cc))
+  value-checks d q (dict es) low t =
       let g = dictionary-stands s d q es t .1 in
-      checks-as (InfoIs an (dict es)) (Shows s) (NoInfoAt q (dict es)) (info-checks s (g .0) q es (g .2) (stands-at s d q (dict es) t) a an first)
+      checks-as (InfoIs an (dict es)) (Shows s) (NoInfoAt q (dict es)) (info-checks s (g .0) q es (g .2) (omega (arith, g .1)) (stands-at s d q (dict es) t) a an first)
       (λ y x h sh. (x, (ap dict (sym (h .0)), h .1, subst (λ (z : Entries). IsInfo z x) (sym (h .0)) (h .2)), sh))
       (λ x h. let i = h .0 in let j : x .info ≡ es = cc in (x, (j, h .1, subst (λ (z : Entries). IsInfo z x) j (h .2)), λ y sh. sh))
       (λ n p h. no-info es n p h)
@@ -213,14 +213,14 @@ are-parts es w f x (is-torrent ds y h i j) =
     (subst (λ (z : Entries). Has z announceKey (str (y .announce))) k h, (dict (y .info), subst (λ (z : Entries). Has z infoKey (dict (y .info))) k i, (refl, refl, j)))
 
 module _ (s : List ℕ) where
-  top-checks : (e : ℕ) (es : Entries) → StandEntries s e 1 start es → Checks (topOf es) (IsTorrent (dict es)) (Shows s) (NoTorrent (dict es))
+  top-checks : (e : ℕ) (es : Entries) → e ≤ 32 → StandEntries s e 1 start es → Checks (topOf es) (IsTorrent (dict es)) (Shows s) (NoTorrent (dict es))
   unfolding topOf
-  top-checks e es t =
+  top-checks e es low t =
       checks-as (IsTorrent (dict es)) (Shows s) (NoTorrent (dict es))
       (checks-then (must 0 (lookup 1 es announceKey) stringAt) (λ a. must 0 (lookup 1 es infoKey) (infoAt a)) (λ bs. Has es announceKey (str bs)) (Shown s) (Lacks 0 (lookup 1 es announceKey) NoString)
       (λ an x. (v : Value) × Has es infoKey v × InfoIs an v x) (λ an. Shows s) (λ an. Lacks 0 (lookup 1 es infoKey) NoInfoAt)
       (string-under s e 1 0 es t announceKey)
-      (λ a an i sh. checks-must s e 1 0 es t infoKey (infoAt a) (InfoIs an) (Shows s) NoInfoAt (λ q v u. value-checks s a an (sh .0) e q v u)))
+      (λ a an i sh. checks-must s e 1 0 es t infoKey (infoAt a) (InfoIs an) (Shows s) NoInfoAt (λ q v u. value-checks s a an (sh .0) e q v low u)))
       (λ y k h sh. (k .1, parts-are es k h, sh))
       (λ x h. ((x .announce, x), are-parts es (dict es) refl x h, λ y sh. sh))
       (top-bad es)
@@ -242,4 +242,4 @@ module _ (s : List ℕ) where
   torrent-checks (str bs) t = not-torrent (str bs) (λ es f. no-way (cc))
   torrent-checks (int z) t = not-torrent (int z) (λ es f. no-way (cc))
   torrent-checks (list vs) t = not-torrent (list vs) (λ es f. no-way (cc))
-  torrent-checks (dict es) t = let g = dictionary-stands s 32 0 es t .1 in top-checks (g .0) es (g .2)
+  torrent-checks (dict es) t = let g = dictionary-stands s 32 0 es t .1 in top-checks (g .0) es (omega (arith, g .1)) (g .2)

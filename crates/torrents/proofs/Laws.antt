@@ -1,5 +1,5 @@
 -- The laws: which texts are torrents and what is handed back, when each refusal is given, and what the info hash is of. Assumes nothing.
-use mathlib.Core.Path.{_≡_, refl, sym, ap, _∙_, subst}
+use mathlib.Core.Path.{_≡_, refl, sym, ap, _∙_}
 use mathlib.Core.Logic.{_⊎_, inl, inr, ⊎-elim, _↔_}
 use mathlib.Core.List.{List}
 use Prim.Native.Nat.{ℕ, _<_, _≤_}
@@ -16,18 +16,16 @@ use Rattle.causes.specs.Causes.{Cut, Byte, Order, Integer, Deep, Many, After}
 use Rattle.causes.proofs.Laws as bencode
 use Rattle.walk.proofs.Standing.{fine-stands}
 use Rattle.sha1.specs.Sha1.{sha1}
-use Rattle.sha1.specs.Digest.{Left, left}
+use Rattle.sha1.specs.Digest.{left}
 use Rattle.metainfo.specs.Rules.{torrentOf}
-use Rattle.metainfo.specs.Reading.{readOf}
+use Rattle.metainfo.specs.Reading.{bytesOf, readOf, announceIn, nameIn}
 use Rattle.metainfo.specs.Hashes.{infoHashOf}
 use Rattle.metainfo.specs.declared.Torrent.{Torrent}
 use Rattle.metainfo.proofs.Exact as rules
 use Rattle.metainfo.proofs.Hashing as hashing
 use Rattle.torrents.specs.Torrent.{Said, IsTorrent}
-use Rattle.torrents.specs.Exact.{Shows, TorrentExact}
-use Rattle.torrents.specs.Causes.{NoTorrent, NoTorrentText}
-use Rattle.torrents.proofs.Names.{no-way}
-use Rattle.torrents.proofs.Checks.{Checks}
+use Rattle.torrents.specs.Exact.{TorrentExact}
+use Rattle.torrents.specs.Causes.{NoTorrentText}
 use Rattle.torrents.proofs.Informing.{torrent-checks}
 use Rattle.torrents.proofs.Numbers.{torrent-ours}
 
@@ -43,6 +41,13 @@ pub info-hash : (s o : List ℕ) (v : Value) (t : Said) → Fine s v → IsTorre
 info-hash s o v t f i =
     let h = torrent-exact s .every v t f i in
     hashing.info-hash s o (h .0) (h .1) ∙ ap (λ (bs : List ℕ). left (taken tt) (sha1 bs)) (h .2 .info)
+
+-- the calls for announce and the name hand back what is said
+pub announce-said : (s : List ℕ) (v : Value) (t : Said) → Fine s v → IsTorrent v t → bytesOf s (announceIn (readOf s)) ≡ t .announce
+announce-said s v t f i = let h = torrent-exact s .every v t f i in ap (λ (o : Outcome Torrent). bytesOf s (announceIn o)) (h .1) ∙ h .2 .announce
+
+pub name-said : (s : List ℕ) (v : Value) (t : Said) → Fine s v → IsTorrent v t → bytesOf s (nameIn (readOf s)) ≡ t .name
+name-said s v t f i = let h = torrent-exact s .every v t f i in ap (λ (o : Outcome Torrent). bytesOf s (nameIn o)) (h .1) ∙ h .2 .name
 
 -- ---- refusals
 

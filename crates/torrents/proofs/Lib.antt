@@ -10,3 +10,4 @@ pub mod Informing
 pub mod Numbers
 pub mod Laws
 pub mod Example
+pub mod Determined

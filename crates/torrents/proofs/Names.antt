@@ -1,7 +1,7 @@
 -- The rule for names as the reader tests it, and as document 01 says it. Assumes nothing.
-use mathlib.Core.Path.{_≡_, refl, sym, ap, _∙_}
+use mathlib.Core.Path.{_≡_, refl, sym, ap}
 use mathlib.Core.Bool.{Bool, true, false, cond}
-use mathlib.Core.Logic.{_⊎_, inl, inr, ⊎-elim}
+use mathlib.Core.Logic.{_⊎_, ⊎-elim}
 use mathlib.Core.List.{List, [], _∷_}
 use mathlib.Core.List.{List·Memᴰ as In, List·Memᴰ·head, List·Memᴰ·tail, List·Memᴰ·not-nil, List·Memᴰ·cases-cons}
 use Prim.Native.Nat.{ℕ}
@@ -64,10 +64,3 @@ good-is bs e = go (dots bs) refl e
 pub is-good : (bs : List ℕ) → GoodName bs → goodName bs ≡ true
 unfolding goodName
 is-good bs h = rw (is-dots bs (h .not-empty) (h .not-dot) (h .not-dots)) (is-clean bs (h .no-slash) (h .no-zero))
-
-pub not-good : (bs : List ℕ) → (GoodName bs → ⊥) → goodName bs ≡ false
-not-good bs h = go (goodName bs) refl
-  where
-    go : (t : Bool) → goodName bs ≡ t → t ≡ false
-    go true e = absurd (h (good-is bs e))
-    go false e = refl

@@ -1,32 +1,28 @@
 -- The checks of strings, numbers, names and paths. Assumes nothing.
-use mathlib.Core.Path.{_≡_, refl, sym, ap, _∙_, subst}
+use mathlib.Core.Path.{_≡_, refl, subst}
 use mathlib.Core.Bool.{Bool, true, false, cond}
-use mathlib.Core.Logic.{_⊎_, inl, inr, ⊎-elim}
-use mathlib.Core.List.{List, [], _∷_}
-use mathlib.Core.List.{List·Memᴰ as In, List·Memᴰ·head, List·Memᴰ·tail, List·Memᴰ·not-nil, List·Memᴰ·cases-cons}
-use Prim.Native.Nat.{ℕ, _+_, _≤_}
+use mathlib.Core.List.{List}
+use Prim.Native.Nat.{ℕ, _≤_}
 use native.Mathlib.Omega.{arith}
 use lib.Dec.{leb}
 use lib.IntN.{ℤ, pos, negsuc}
 use lib.ListN.{length}
-use borrow.Author.Tests.{leb-true, leb-false, le-leb}
-use Rattle.refusal.specs.Paper.{Outcome, taken, refused, map, then}
+use borrow.Author.Tests.{leb-true, leb-false}
+use Rattle.refusal.specs.Paper.{taken, refused, then}
 use Rattle.refusal.specs.Limits.{longestPiece}
-use Rattle.bencode.specs.Value.{Value, Items, Entries, str, int, list, dict, none, item, encode}
+use Rattle.bencode.specs.Value.{Value, str, int, list, dict}
 use Rattle.walk.specs.declared.Part.{Part}
-use Rattle.walk.specs.Stands.{Stands, StandItems}
-use Rattle.walk.proofs.Standing.{list-stands, items-next}
-use Rattle.fields.specs.Looks.{ranged}
-use Rattle.fields.specs.Values.{partOf, stringAt, naturalAt, listAt, dictionaryAt}
+use Rattle.walk.specs.Stands.{Stands}
+use Rattle.fields.specs.Values.{partOf, stringAt, naturalAt}
 use Rattle.fields.proofs.Standing.{part-bytes}
 use Rattle.blocks.specs.Rules.{pieceLength, PieceLength}
 use Rattle.blocks.proofs.Legal.{piece-length-is, is-piece-length, piece-bounds}
-use Rattle.metainfo.specs.Rules.{goodName, nameAt, elementsOf, pathIn, pathAt, pieceLengthAt}
+use Rattle.metainfo.specs.Rules.{goodName, nameAt, pieceLengthAt}
 use Rattle.metainfo.specs.Reading.{bytesOf}
 use Rattle.torrents.specs.Torrent.{GoodName, strings}
-use Rattle.torrents.specs.Causes.{NoString, no-string, NoNumber, no-integer, out-of-range, Length, NoName, no-name, bad-name, NoElements, this, later, NoPath, no-list, empty-path, bad-element}
-use Rattle.torrents.proofs.Names.{no-way, good-is, is-good, not-good}
-use Rattle.torrents.proofs.Checks.{Checks, checks-refused, checks-taken, checks-as, checks-then, checks-map}
+use Rattle.torrents.specs.Causes.{NoString, no-string, NoNumber, no-integer, out-of-range, NoName, no-name, bad-name}
+use Rattle.torrents.proofs.Names.{no-way, good-is, is-good}
+use Rattle.torrents.proofs.Checks.{Checks, checks-refused, checks-taken}
 
 -- a part of the text that is these bytes
 abbrev pub Shown : List ℕ → Part → List ℕ → Type 0
@@ -52,23 +48,23 @@ module _ (s : List ℕ) (e q : ℕ) where
 
 -- ---- numbers, as a range has them
 
+-- the value is the integer n, in the range
+abbrev pub Number : (ℕ → Type 0) → Value → ℕ → Type 0
+Number R v n = (v ≡ int (pos n)) × R n
+
+abbrev pub Same : ℕ → ℕ → Type 0
+Same x n = x ≡ n
+
 module _ (R : ℕ → Type 0) (q : ℕ) where
-  -- the value is the integer n, in the range
-  abbrev pub Number : Value → ℕ → Type 0
-  Number v n = (v ≡ int (pos n)) × R n
-
-  abbrev pub Same : ℕ → ℕ → Type 0
-  Same x n = x ≡ n
-
-  pub not-integer : (v : Value) → ((z : ℤ) → v ≡ int z → ⊥) → Checks (refused 10 q) (Number v) Same (NoNumber R q v)
-  not-integer v h = checks-refused 10 q (Number v) Same (NoNumber R q v) (λ n i. h (pos n) (i .0)) (no-integer v h) (only-kind v h)
+  pub not-integer : (v : Value) → ((z : ℤ) → v ≡ int z → ⊥) → Checks (refused 10 q) (Number R v) Same (NoNumber R q v)
+  not-integer v h = checks-refused 10 q (Number R v) Same (NoNumber R q v) (λ n i. h (pos n) (i .0)) (no-integer v h) (only-kind v h)
     where
       only-kind : (w : Value) → ((z : ℤ) → w ≡ int z → ⊥) → (n p : ℕ) → NoNumber R q w n p → (n ≡ 10) × (p ≡ q)
       only-kind w i n p (no-integer u j) = (refl, refl)
       only-kind w i n p (out-of-range z j) = absurd (i z refl)
 
-  pub not-range : (z : ℤ) → ((n : ℕ) → z ≡ pos n → R n → ⊥) → Checks (refused 11 q) (Number (int z)) Same (NoNumber R q (int z))
-  not-range z h = checks-refused 11 q (Number (int z)) Same (NoNumber R q (int z)) (λ n i. h n (let a = i .0 in cc) (i .1)) (out-of-range z h) only-range
+  pub not-range : (z : ℤ) → ((n : ℕ) → z ≡ pos n → R n → ⊥) → Checks (refused 11 q) (Number R (int z)) Same (NoNumber R q (int z))
+  not-range z h = checks-refused 11 q (Number R (int z)) Same (NoNumber R q (int z)) (λ n i. h n (let a = i .0 in cc) (i .1)) (out-of-range z h) only-range
     where
       by : (w : Value) → w ≡ int z → (n p : ℕ) → NoNumber R q w n p → (n ≡ 11) × (p ≡ q)
       by w f n p (no-integer u j) = absurd (j z f)
@@ -77,8 +73,8 @@ module _ (R : ℕ → Type 0) (q : ℕ) where
       only-range : (n p : ℕ) → NoNumber R q (int z) n p → (n ≡ 11) × (p ≡ q)
       only-range n p h = by (int z) refl n p h
 
-  pub in-range : (n : ℕ) → R n → Checks (taken n) (Number (int (pos n))) Same (NoNumber R q (int (pos n)))
-  in-range n r = checks-taken n n (Number (int (pos n))) Same (NoNumber R q (int (pos n))) (refl, r) refl (λ m i. let a = i .0 in cc) no-fault
+  pub in-range : (n : ℕ) → R n → Checks (taken n) (Number R (int (pos n))) Same (NoNumber R q (int (pos n)))
+  in-range n r = checks-taken n n (Number R (int (pos n))) Same (NoNumber R q (int (pos n))) (refl, r) refl (λ m i. let a = i .0 in cc) no-fault
     where
       by : (w : Value) → w ≡ int (pos n) → (m p : ℕ) → NoNumber R q w m p → ⊥
       by w f m p (no-integer u j) = j (pos n) f
@@ -87,23 +83,23 @@ module _ (R : ℕ → Type 0) (q : ℕ) where
       no-fault : (m p : ℕ) → NoNumber R q (int (pos n)) m p → ⊥
       no-fault m p h = by (int (pos n)) refl m p h
 
-pub length-checks : (most q : ℕ) (v : Value) → Checks (naturalAt most q v) (Number (λ n. n ≤ most) q v) (Same (λ n. n ≤ most) q) (NoNumber (λ n. n ≤ most) q v)
+pub length-checks : (most q : ℕ) (v : Value) → Checks (naturalAt most q v) (Number (λ n. n ≤ most) v) Same (NoNumber (λ n. n ≤ most) q v)
 length-checks most q (str bs) = not-integer (λ n. n ≤ most) q (str bs) (λ z f. no-way (cc))
 length-checks most q (int (pos n)) = go (leb n most) refl
   where
-    go : (b : Bool) → leb n most ≡ b → Checks (cond b (taken n) (refused 11 q)) (Number (λ n. n ≤ most) q (int (pos n))) (Same (λ n. n ≤ most) q) (NoNumber (λ n. n ≤ most) q (int (pos n)))
+    go : (b : Bool) → leb n most ≡ b → Checks (cond b (taken n) (refused 11 q)) (Number (λ n. n ≤ most) (int (pos n))) Same (NoNumber (λ n. n ≤ most) q (int (pos n)))
     go true f = in-range (λ n. n ≤ most) q n (leb-true n most f)
     go false f = not-range (λ n. n ≤ most) q (pos n) (λ m g h. let i = leb-false n most f in let j : n ≡ m = cc in omega arith)
 length-checks most q (int (negsuc n)) = not-range (λ n. n ≤ most) q (negsuc n) (λ m g h. no-way (cc))
 length-checks most q (list vs) = not-integer (λ n. n ≤ most) q (list vs) (λ z f. no-way (cc))
 length-checks most q (dict es) = not-integer (λ n. n ≤ most) q (dict es) (λ z f. no-way (cc))
 
-pub piece-checks : (q : ℕ) (v : Value) → Checks (pieceLengthAt q v) (Number PieceLength q v) (Same PieceLength q) (NoNumber PieceLength q v)
+pub piece-checks : (q : ℕ) (v : Value) → Checks (pieceLengthAt q v) (Number PieceLength v) Same (NoNumber PieceLength q v)
 piece-checks q (str bs) = not-integer PieceLength q (str bs) (λ z f. no-way (cc))
 piece-checks q (int (pos n)) = go (leb n longestPiece) refl (pieceLength n) refl
   where
     go : (a : Bool) → leb n longestPiece ≡ a → (b : Bool) → pieceLength n ≡ b
-        → Checks (then (cond a (taken n) (refused 11 q)) (λ m. cond (pieceLength m) (taken m) (refused 11 q))) (Number PieceLength q (int (pos n))) (Same PieceLength q) (NoNumber PieceLength q (int (pos n)))
+        → Checks (then (cond a (taken n) (refused 11 q)) (λ m. cond (pieceLength m) (taken m) (refused 11 q))) (Number PieceLength (int (pos n))) Same (NoNumber PieceLength q (int (pos n)))
     go true f true g = rw g (in-range PieceLength q n (piece-length-is n g))
     go true f false g = rw g (not-range PieceLength q (pos n) (λ m h r. no-way (let i : n ≡ m = cc in let j = is-piece-length m r in cc)))
     go false f b g = not-range PieceLength q (pos n) (λ m h r. let i = leb-false n longestPiece f in let j : n ≡ m = cc in let k = piece-bounds m r in omega arith)
@@ -113,11 +109,11 @@ piece-checks q (dict es) = not-integer PieceLength q (dict es) (λ z f. no-way (
 
 -- ---- names
 
-module _ (s : List ℕ) (e q : ℕ) where
-  -- the value is a good name
-  abbrev pub Named : Value → List ℕ → Type 0
-  Named v bs = (v ≡ str bs) × GoodName bs
+-- the value is a good name
+abbrev pub Named : Value → List ℕ → Type 0
+Named v bs = (v ≡ str bs) × GoodName bs
 
+module _ (s : List ℕ) (e q : ℕ) where
   not-name : (v : Value) → ((bs : List ℕ) → v ≡ str bs → ⊥) → Checks (refused 10 q) (Named v) (Shown s) (NoName q v)
   not-name v h = checks-refused 10 q (Named v) (Shown s) (NoName q v) (λ bs i. h bs (i .0)) (no-name v h) (only-kind v h)
     where

@@ -5,11 +5,9 @@ use mathlib.Core.List.{List}
 use Prim.Native.Nat.{ℕ, _+_, _*_, _<_, _≤_}
 use lib.IntN.{ℤ, pos}
 use lib.ListN.{length}
-use Rattle.refusal.specs.Paper.{Outcome, taken, refused}
 use Rattle.refusal.specs.Numbers.{kind, range, name, pieces}
 use Rattle.refusal.specs.Limits.{longestFile, mostFiles, mostPieces}
 use Rattle.bencode.specs.Value.{Value, Items, Entries, str, int, list, dict, none, item, encode}
-use Rattle.bencode.specs.Decode.{decode}
 use Rattle.bencode.specs.Exact.{Fine}
 use Rattle.walk.specs.Lookup.{Under, nothing, under, lookup}
 use Rattle.walk.specs.Has.{Has}

@@ -1,19 +1,20 @@
 -- What it is for the reader to be exact: it takes the torrents, and hands back what they say. Assumes nothing: these are definitions.
 use mathlib.Core.Path.{_≡_}
 use mathlib.Core.Bool.{Bool, true, false}
-use mathlib.Core.List.{List}
-use Prim.Native.Nat.{ℕ}
+use mathlib.Core.List.{List, [], _∷_}
+use Prim.Native.Nat.{ℕ, _+_}
 use lib.ListN.{length, take, drop}
-use Rattle.refusal.specs.Paper.{Outcome, taken}
-use Rattle.bencode.specs.Value.{Value, Entries, dict, encode}
+use Rattle.refusal.specs.Paper.{taken}
+use Rattle.bencode.specs.Value.{Value, Entries, dict, encode, encodeItems}
 use Rattle.bencode.specs.Exact.{Fine}
 use Rattle.walk.specs.Has.{Has}
 use Rattle.blocks.specs.Rules.{sum}
 use Rattle.metainfo.specs.Keys.{filesKey, lengthKey}
-use Rattle.metainfo.specs.Reading.{bytesOf, readOf}
+use Rattle.metainfo.specs.Reading.{bytesOf, readOf, fileAt}
+use Rattle.metainfo.specs.declared.File.{File}
 use Rattle.metainfo.specs.declared.Content.{Content}
 use Rattle.metainfo.specs.declared.Torrent.{Torrent}
-use Rattle.torrents.specs.Torrent.{Files, single, many, Said, lengthsIn, IsTorrent}
+use Rattle.torrents.specs.Torrent.{OneFile, Files, single, many, Said, lengthsIn, strings, IsTorrent}
 
 abbrev pub isSingle : Files → Bool
 isSingle (single n) = true
@@ -28,12 +29,27 @@ filesUnder (many fs) = filesKey
 abbrev pub StandsAt : List ℕ → ℕ → Value → Type 0
 StandsAt s p v = take (length (encode v)) (drop p s) ≡ encode v
 
--- the content that is handed back is those files, and its place is where the value under length or files stands
+-- the elements of a path stand from p on
+abbrev pub PathAt : List ℕ → ℕ → List (List ℕ) → Type 0
+PathAt s p l = take (length (encodeItems (strings l))) (drop p s) ≡ encodeItems (strings l)
+
+-- at p, and then where each says that the next one stands, the reader of one file finds these files
+pub data FilesAt (s : List ℕ) : ℕ → List OneFile → Type 0 where
+  none-left : (p : ℕ) → FilesAt s p []
+  file-at : (p : ℕ) (x : File) (f : OneFile) (fs : List OneFile) → fileAt s p ≡ taken x → x .length ≡ f .size → PathAt s (x .path) (f .path) → FilesAt s (x .next) fs
+      → FilesAt s p (f ∷ fs)
+
+abbrev pub EachAt : List ℕ → ℕ → Files → Type 0
+EachAt s p (single n) = Unit {0}
+EachAt s p (many fs) = FilesAt s p fs
+
+-- the content that is handed back is those files; its place is where the value under length or files stands, and the first of many files one past it
 pub record ShowsFiles (s : List ℕ) (info : Entries) (c : Content) (fs : Files) : Type 0 where
   pub one : c .single ≡ isSingle fs
   pub files : c .files ≡ length (lengthsIn fs)
   pub total : c .total ≡ sum (lengthsIn fs)
   pub place : (v : Value) × Has info (filesUnder fs) v × StandsAt s (c .place) v
+  pub each : EachAt s (c .place + 1) fs
 
 -- an answer's fields are what is said: parts of the text by their bytes, and info's as its dictionary is written
 pub record Shows (s : List ℕ) (x : Torrent) (t : Said) : Type 0 where
