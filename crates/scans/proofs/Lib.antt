@@ -1,0 +1,9 @@
+-- What the proofs of several functions and crates use.
+pub mod Again
+pub mod Early
+pub mod Local
+pub mod Shared
+pub mod Seats
+pub mod Steps
+pub mod Passes
+pub mod Determined

@@ -1,0 +1,87 @@
+"""A context tracker for walks by hand: the author names the entries of the context, and the positions are counted here.
+Each method appends a line of the walk, or a part of one; `text` closes the parentheses that binders opened."""
+class Walk:
+    def __init__(self, ctx=None):
+        self.c = list(ctx or [])
+        self.out = []
+        self.open = 0
+    # ---- positions
+    def p(self, n):
+        k = [i for i, x in enumerate(self.c) if x == n]
+        assert len(k) == 1, (n, self.c)
+        return k[0]
+    def look(self, n): return f"look ! {self.p(n)} refl"
+    def init(self, n, wt): return f"(init ! {self.p(n)} refl {wt})"
+    def store(self, n, wt): return f"(store ! {self.p(n)} refl {wt})"
+    def lookin(self, n, *path):
+        s = "whole !"
+        for k in reversed(path): s = f"sub ! {k} refl ({s})"
+        return f"look-in ! {self.p(n)} ({s})"
+    # an operand: a local, or a field of one
+    def var(self, n): return f"(load ! (from ! (stop !)) ({self.look(n)}))"
+    def fld(self, n, *path):
+        s = "stop !"
+        for _ in path: s = f"fld ! refl ({s})"
+        return f"(load ! (from ! ({s})) ({self.lookin(n, *path)}))"
+    def opds(self, *os):
+        s = "(no-more !)"
+        for o in reversed(os): s = f"(and-then ! {o} {s})"
+        return s
+    # ---- lines
+    def line(self, s): self.out.append(s)
+    def note(self, s): self.out.append("-- " + s)
+    def ctx_note(self): self.out.append("-- [" + "; ".join(x for x in self.c if not x.startswith("d_")) + "]")
+    def bind(self, s): self.out.append(s); self.open += 1
+    def move(self, *ns):
+        ps = [self.p(n) for n in ns]
+        if ps == list(range(len(ps))): return
+        self.line("move ! (" + " ∷ ".join(map(str, ps)) + " ∷ []) $")
+        self.c = list(ns) + [x for x in self.c if x not in ns]
+    def head(self, *ns): # replaces the first entry
+        self.c = list(ns) + self.c[1:]
+    def headn(self, n, *ns): self.c = list(ns) + self.c[n:]
+    def fsplit(self, n, a, b): self.move(n); self.line("fsplit ! $"); self.head(a, b)
+    def split(self, n, a, b): self.move(n); self.line("split ! $"); self.head(a, b)
+    def drop(self, *ns):
+        for n in ns: self.move(n); self.line("drop ! $"); self.c = self.c[1:]
+    def fjoin(self, a, b, n): self.move(a, b); self.line("fjoin ! $"); self.headn(2, n)
+    def join(self, a, b, n): self.move(a, b); self.line("join ! $"); self.headn(2, n)
+    def alloc(self, n):
+        for i in range(n):
+            self.bind(f"alloc1 ! (λ l{i}.")
+            self.c = [f"_{i}", f"d_{i}"] + self.c
+        self.line("alloc0 ! $ params1 ! $")
+    def passes(self, *wts):
+        for i, w in enumerate(wts): self.line(f"pass1 ! {self.init(f'_{i+1}', w)} $")
+        self.line("pass0 ! $")
+    def assign(self, rv, dst, wt): # to a whole local that holds nothing yet
+        self.line(f"assigns ! {rv} (from ! (stop !)) {self.init(dst, wt)} $")
+    def use(self, k, proof, names, into): # the entries `names` make the item k, whose parts are `into`
+        if len(names) > 3:
+            names = list(names); last = names.pop()
+            while names:
+                a = names.pop(); self.join(a, last, a + "⊛" + last); last = a + "⊛" + last
+            names = [last]
+        self.move(*names)
+        self.line(f"use{len(names)} W ({k}) ({proof}) $")
+        self.headn(len(names), *into)
+    def ends(self, n, look0, live):
+        # the function returns: every live local is forgotten, and all are freed
+        self.line(f"returns ! ({self.look('_0')}) $")
+        self.line(" ".join(f"forget ! {self.p(x)} refl $" for x in live))
+        for i in range(n):
+            self.move(f"_{i}", f"d_{i}"); self.line("free1 ! $"); self.c = self.c[2:]
+        self.line("free0 ! $")
+    def keep(self, *ns):
+        self.line("keep ! (" + " ∷ ".join(str(self.p(n)) for n in ns) + " ∷ []) $"); self.c = list(ns)
+    def text(self, last, indent="        "):
+        # comments stand on their own lines, the rest is run together
+        lines, cur = [], ""
+        for s in self.out + [last + ")" * self.open]:
+            if s.startswith("--"):
+                if cur: lines.append(cur)
+                cur = ""; lines.append(s)
+            elif len(cur) + len(s) > 230: lines.append(cur); cur = s
+            else: cur = (cur + " " + s).strip()
+        if cur: lines.append(cur)
+        return "\n".join(indent + l for l in lines)
