@@ -1,0 +1,4 @@
+-- What the proofs of several functions use, and the laws of written torrents.
+pub mod Putting
+pub mod Ruling
+pub mod Steps

@@ -1,0 +1,162 @@
+// Torrents of one file, written. Reading gives the fields back.
+mod names;
+
+ghost use mathlib.Core.Path.{_≡_};
+ghost use mathlib.Core.List.{[], _∷_, _++_};
+ghost use Prim.Native.Nat.{_+_, _≤_};
+ghost use lib.ListN.{length as lengthOf};
+ghost use lib.Seq.{sets};
+ghost use Rattle.refusal.specs.Numbers.{room};
+ghost use Rattle.refusal.specs.Limits.{mostText};
+ghost use Rattle.scalar.specs.Written.{decimal, written};
+ghost use Rattle.writer.specs.Put.{left};
+ghost use Rattle.writer.specs.Put.{paper as putPaper};
+ghost use Rattle.authoring.specs.Writing.{fields, textOf, sizeOf, writeOf, paper, endOf};
+use blocks::rules;
+use blocks::rules::Total;
+use refusal::Refusal;
+use refusal::limit;
+use refusal::number;
+use writer::Put;
+
+// How many bytes a torrent's text has.
+pub enum Sized {
+    Bytes(usize),
+    Refused(Refusal),
+}
+
+// Writes the torrent, and answers how many bytes it has. A refusal leaves `out` as it was.
+pub fn write(
+    out: &mut [u8],
+    announce: &[u8],
+    name: &[u8],
+    piece_length: u64,
+    pieces: &[u8],
+    length: u64,
+) -> Put
+    ensures { λ r. ⌜ left (putPaper r) (now (out .exit)) ≡ writeOf (fields (now (announce .entry)) (now (name .entry)) «piece_length» (now (pieces .entry)) length) (now (out .entry)) ⌝ }
+{
+    match size(announce, name, piece_length, pieces, length) {
+        Sized::Bytes(n) => {
+            if out.len() < n {
+                return no_room();
+            }
+            Put::To(put_all(out, announce, name, piece_length, pieces, length))
+        }
+        Sized::Refused(r) => Put::Refused(r),
+    }
+}
+
+// How many bytes of output `write` needs for this torrent.
+pub fn size(announce: &[u8], name: &[u8], piece_length: u64, pieces: &[u8], length: u64) -> Sized
+    ensures { λ r. ⌜ paper r ≡ sizeOf (fields (now (announce .entry)) (now (name .entry)) «piece_length» (now (pieces .entry)) length) ⌝ }
+{
+    if !names::is_good(name) {
+        return refused(number::NAME);
+    }
+    if !rules::legal_piece_length(piece_length) {
+        return refused(number::RANGE);
+    }
+    if !rules::legal_file_length(length) {
+        return refused(number::RANGE);
+    }
+    if !rules::legal_total(Total(length), piece_length) {
+        return refused(number::RANGE);
+    }
+    let count = rules::pieces(Total(length), piece_length);
+    if pieces.len() as u64 != 20 * count {
+        return refused(number::PIECES);
+    }
+    // Tests of their own, since the sum of all lengths may not fit.
+    if limit::TEXT < announce.len() {
+        return refused(number::LONG);
+    }
+    if limit::TEXT < name.len() {
+        return refused(number::LONG);
+    }
+    let strings = string_size(announce) + string_size(name) + string_size(pieces);
+    // What stands around the strings and the digits has 61 bytes.
+    let bytes = strings + digits(piece_length) + digits(length) + 61;
+    if limit::TEXT < bytes {
+        return refused(number::LONG);
+    }
+    Sized::Bytes(bytes)
+}
+
+// Puts all of a text that fits, key by key, and gives the place past it.
+fn put_all(
+    out: &mut [u8],
+    announce: &[u8],
+    name: &[u8],
+    piece_length: u64,
+    pieces: &[u8],
+    length: u64,
+) -> usize
+    requires { ⌜ lengthOf (textOf (fields (now announce) (now name) «piece_length» (now pieces) length)) ≤ lengthOf (now out) ⌝ }
+    ensures { λ r. ⌜ (r ≡ lengthOf (textOf (fields (now (announce .entry)) (now (name .entry)) «piece_length» (now (pieces .entry)) length))) × (now (out .exit) ≡ sets (now (out .entry)) 0 (textOf (fields (now (announce .entry)) (now (name .entry)) «piece_length» (now (pieces .entry)) length))) ⌝ }
+{
+    let a = put_string(out, 0, b"d8:announce", announce);
+    let b = put_number(out, a, b"4:infod6:lengthi", length);
+    let c = put_string(out, b, b"4:name", name);
+    let d = put_number(out, c, b"12:piece lengthi", piece_length);
+    let e = put_string(out, d, b"6:pieces", pieces);
+    end(writer::literal(out, e, b"ee"))
+}
+
+// Puts what leads to a string, and the string; gives the place past it.
+fn put_string(out: &mut [u8], at: usize, lead: &[u8], bytes: &[u8]) -> usize
+    requires { ⌜ at + lengthOf (now lead ++ written (now bytes)) ≤ lengthOf (now out) ⌝ }
+    ensures { λ r. ⌜ (r ≡ at + lengthOf (now (lead .entry) ++ written (now (bytes .entry)))) × (now (out .exit) ≡ sets (now (out .entry)) at (now (lead .entry) ++ written (now (bytes .entry)))) ⌝ }
+{
+    let a = end(writer::literal(out, at, lead));
+    end(writer::string(out, a, bytes))
+}
+
+// Puts what leads to an integer's digits, the digits, and its e; gives the place past it.
+fn put_number(out: &mut [u8], at: usize, lead: &[u8], n: u64) -> usize
+    requires { ⌜ at + lengthOf (now lead ++ (decimal n ++ (101 ∷ []))) ≤ lengthOf (now out) ⌝ }
+    ensures { λ r. ⌜ (r ≡ at + lengthOf (now (lead .entry) ++ (decimal n ++ (101 ∷ [])))) × (now (out .exit) ≡ sets (now (out .entry)) at (now (lead .entry) ++ (decimal n ++ (101 ∷ [])))) ⌝ }
+{
+    let a = end(writer::literal(out, at, lead));
+    let b = end(writer::decimal(out, a, n));
+    end(writer::literal(out, b, b"e"))
+}
+
+fn string_size(bytes: &[u8]) -> usize
+    requires { ⌜ lengthOf (now bytes) ≤ mostText ⌝ }
+    ensures { λ r. ⌜ (r ≡ lengthOf (written (now (bytes .entry)))) × (r ≤ mostText + 21) ⌝ }
+{
+    digits(bytes.len() as u64) + 1 + bytes.len()
+}
+
+fn digits(n: u64) -> usize
+    ensures { λ r. ⌜ (r ≡ lengthOf (decimal n)) × (r ≤ 20) ⌝ }
+{
+    let mut room = [0u8; 20];
+    end(writer::decimal(&mut room, 0, n))
+}
+
+// The place past what was put.
+fn end(put: Put) -> usize
+    ensures { λ r. ⌜ r ≡ endOf (putPaper put) ⌝ }
+{
+    match put {
+        Put::To(at) => at,
+        Put::Refused(_) => 0,
+    }
+}
+
+fn refused(number: u8) -> Sized
+    ensures { λ r. ⌜ r ≡ Sized.Refused (record { number = number; place = 0 }) ⌝ }
+{
+    Sized::Refused(Refusal { number, place: 0 })
+}
+
+fn no_room() -> Put
+    ensures { λ r. ⌜ r ≡ Put.Refused (record { number = room; place = 0 }) ⌝ }
+{
+    Put::Refused(Refusal {
+        number: number::ROOM,
+        place: 0,
+    })
+}
