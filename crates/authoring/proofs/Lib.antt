@@ -2,3 +2,5 @@
 pub mod Putting
 pub mod Ruling
 pub mod Steps
+pub mod Written
+pub mod Rewriting

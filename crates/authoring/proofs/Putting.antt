@@ -129,9 +129,19 @@ module _ (f : Fields) where
       let v₅ : List ℕ = toPieces ++ written (f .pieces) in
       ap length (parts f)
       ∙ omega (
-        arith, length-append ((((w₁ ++ v₂) ++ v₃) ++ v₄) ++ v₅) (101 ∷ e), length-append (((w₁ ++ v₂) ++ v₃) ++ v₄) v₅, length-append ((w₁ ++ v₂) ++ v₃) v₄, length-append (w₁ ++ v₂) v₃, length-append w₁ v₂,
-        length-append toAnnounce (written (f .announce)), length-append toLength (decimal (f .length) ++ e), length-append (decimal (f .length)) e, length-append toName (written (f .name)),
-        length-append toPieceLength (decimal (f .pieceLength) ++ e), length-append (decimal (f .pieceLength)) e, length-append toPieces (written (f .pieces)),
+        arith,
+        length-append ((((w₁ ++ v₂) ++ v₃) ++ v₄) ++ v₅) (101 ∷ e),
+        length-append (((w₁ ++ v₂) ++ v₃) ++ v₄) v₅,
+        length-append ((w₁ ++ v₂) ++ v₃) v₄,
+        length-append (w₁ ++ v₂) v₃,
+        length-append w₁ v₂,
+        length-append toAnnounce (written (f .announce)),
+        length-append toLength (decimal (f .length) ++ e),
+        length-append (decimal (f .length)) e,
+        length-append toName (written (f .name)),
+        length-append toPieceLength (decimal (f .pieceLength) ++ e),
+        length-append (decimal (f .pieceLength)) e,
+        length-append toPieces (written (f .pieces)),
       )
 
 -- v is put from `at` on, as a function that puts it ensures

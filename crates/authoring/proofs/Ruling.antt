@@ -1,22 +1,21 @@
 -- The reader's rules on the torrent to be written are the writer's, one by one. Assumes nothing.
-use mathlib.Core.Path.{_≡_, refl, sym, ap, _∙_, subst}
+use mathlib.Core.Path.{_≡_, refl, sym, _∙_}
 use mathlib.Core.Bool.{Bool, true, false, cond}
-use mathlib.Core.List.{List, [], _∷_, _++_}
-use Prim.Native.Nat.{ℕ, _+_, _*_, _<_, _≤_}
+use Prim.Native.Nat.{ℕ, _+_, _*_}
 use native.Mathlib.Omega.{arith}
 use lib.Dec.{leb, ltb, eqb}
 use lib.IntN.{pos}
 use lib.ListN.{length}
-use Rattle.refusal.specs.Paper.{Outcome, taken, refused, map, then}
-use Rattle.refusal.specs.Limits.{longestFile, longestPiece, mostText}
+use Rattle.refusal.specs.Paper.{Outcome, taken, refused, then}
+use Rattle.refusal.specs.Limits.{longestPiece, mostText}
 use Rattle.scalar.specs.Written.{written}
-use Rattle.bencode.specs.Value.{Value, Entries, str, int, list, dict, empty, entry, encode}
-use Rattle.walk.specs.Lookup.{Under, nothing, under, lookup, sameKey}
+use Rattle.bencode.specs.Value.{Value, str, int, encode}
+use Rattle.walk.specs.Lookup.{nothing, under, lookup, sameKey}
 use Rattle.walk.specs.declared.Part.{Part}
-use Rattle.fields.specs.Values.{partOf, stringAt, naturalAt}
+use Rattle.fields.specs.Values.{partOf, stringAt}
 use Rattle.blocks.proofs.Legal.{piece-length-is, piece-bounds}
 use borrow.Author.Tests.{le-leb}
-use Rattle.blocks.specs.Rules.{pieceLength, fileLength, piecesOf, totalAnd}
+use Rattle.blocks.specs.Rules.{pieceLength, fileLength, totalAnd}
 use Rattle.metainfo.specs.Keys.{announceKey, infoKey, lengthKey, nameKey, pieceLengthKey, piecesKey}
 use Rattle.metainfo.specs.Rules.{goodName, nameAt, pieceLengthAt, contentOf, oneFile, sizedOf, infoOf, topOf, torrentOf}
 use Rattle.metainfo.specs.declared.Torrent.{Torrent}
@@ -127,6 +126,9 @@ module _ (f : Fields) where
           right : eqb (length (f .pieces)) (20 * pieceCount f) ≡ true → Is (taken told)
           unfolding sizedOf
           right h = reading A L N P S ∙ rw (h₁, small, h₂, h₃, h₄, h)
+
+  pub kept-told : Ruled f → Is (taken told)
+  kept-told h = right (h .name) (h .piece) (h .file) (h .total) (h .hashes)
 
   pub judged : Judged (torrentOf (valueOf f))
   judged = go (goodName (f .name)) refl (pieceLength (f .pieceLength)) refl (fileLength (f .length)) refl (totalAnd (f .length) (pieceCount f)) refl (eqb (length (f .pieces)) (20 * pieceCount f)) refl

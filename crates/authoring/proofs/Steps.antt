@@ -1,7 +1,7 @@
 -- What the code answers, test by test. Assumes nothing.
 use mathlib.Core.Path.{_≡_, refl, sym, ap, _∙_}
 use mathlib.Core.Bool.{Bool, true, false, cond}
-use mathlib.Core.List.{List, [], _∷_, _++_}
+use mathlib.Core.List.{List, _∷_}
 use Prim.Native.Nat.{ℕ, _+_, _*_, _<_, _≤_}
 use native.Mathlib.Omega.{arith}
 use lib.Dec.{eqb, ltb}
@@ -13,14 +13,14 @@ use Rattle.scalar.specs.Written.{decimal, written}
 use Rattle.writer.specs.Put.{left, putOf}
 use Rattle.writer.specs.Put.{paper as putPaper}
 use Rattle.writer.specs.declared.Put.{Put}
-use Rattle.writer.specs.declared.Put.the-variants.{To, Refused}
+use Rattle.writer.specs.declared.Put.the-variants.{Refused}
 use Rattle.writer.proofs.Laws.{put-whole, put-none}
 use Rattle.metainfo.specs.Rules.{torrentOf}
 use Rattle.metainfo.specs.declared.Torrent.{Torrent}
 use Rattle.metainfo.proofs.Naming.{no-way}
 use Rattle.metainfo.proofs.Sizing.{few-pieces}
 use Rattle.authoring.specs.Writing.{Fields, valueOf, textOf, atStart, sizeOf, puts, writeOf, paper}
-use Rattle.authoring.specs.Rules.{pieceCount, ruled, Ruled, Broken}
+use Rattle.authoring.specs.Rules.{pieceCount, Ruled, Broken}
 use Rattle.authoring.specs.declared.Sized.{Sized}
 use Rattle.authoring.specs.declared.Sized.the-variants as sized
 use Rattle.authoring.proofs.Putting.{size}
@@ -52,10 +52,10 @@ module _ (f : Fields) where
     size-kept : sizeOf f ≡ limited f
     size-kept = size-ruled f ∙ ruled-kept f (limited f) h
 
-    size-is-long : 1048576 < length (textOf f) → sizeOf f ≡ refused 8 0
+    pub size-is-long : 1048576 < length (textOf f) → sizeOf f ≡ refused 8 0
     size-is-long l = size-kept ∙ rw (lt-ltb 1048576 (length (textOf f)) l)
 
-    size-is-short : length (textOf f) ≤ 1048576 → sizeOf f ≡ taken (length (textOf f))
+    pub size-is-short : length (textOf f) ≤ 1048576 → sizeOf f ≡ taken (length (textOf f))
     size-is-short l = size-kept ∙ rw (le-ltb 1048576 (length (textOf f)) l)
 
     pub size-long : {r : Sized} → 1048576 < length (textOf f) → r ≡ sized.Refused (record { number = 8; place = 0 }) → paper r ≡ sizeOf f

@@ -5,7 +5,7 @@ use mathlib.Core.List.{List}
 use Prim.Native.Nat.{ℕ, _*_, _≤_, _<_}
 use lib.Dec.{eqb}
 use lib.ListN as seq
-use Rattle.refusal.specs.Paper.{Outcome, taken}
+use Rattle.refusal.specs.Paper.{Outcome}
 use Rattle.refusal.specs.Numbers as no
 use Rattle.refusal.specs.Limits.{mostText}
 use Rattle.blocks.specs.Rules.{pieceLength, fileLength, piecesOf, totalAnd}

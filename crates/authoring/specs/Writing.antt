@@ -8,7 +8,7 @@ use lib.ListN as seq
 use Rattle.refusal.specs.Paper.{Outcome, taken, refused, refusal, then}
 use Rattle.refusal.specs.Numbers.{long}
 use Rattle.refusal.specs.Limits.{mostText}
-use Rattle.bencode.specs.Value.{Value, Entries, str, int, dict, empty, entry, encode}
+use Rattle.bencode.specs.Value.{Value, str, int, dict, empty, entry, encode}
 use Rattle.writer.specs.Put.{Left, left, putOf}
 use Rattle.metainfo.specs.Keys.{announceKey, infoKey, lengthKey, nameKey, pieceLengthKey, piecesKey}
 use Rattle.metainfo.specs.Rules.{torrentOf}

@@ -1,35 +1,25 @@
+-- `authoring::put_string` meets its contract. Assumes nothing.
 use borrow.Author.Needs.{needs}
 use Rattle.authoring.proofs.Putting.{put-pair}
 use Rattle.scalar.specs.Written.{written}
 use Rattle.authoring.proofs.put_string.Statement.{statement}
 use Rattle.authoring.proofs.put_string.Tie as tie
-use Rattle.authoring.proofs.put_string.Reads as reads
-use Rattle.authoring.proofs.put_string.Lts as lts
-use Rattle.authoring.proofs.end.Reads as end-reads
-use Rattle.writer.proofs.literal.Reads as literal-reads
-use Rattle.writer.proofs.string.Reads as string-reads
 
--- src/lib.rt:111:17
 literal-requires : tie.Need-literal-requires
 literal-requires c κs = search needs
 
--- src/lib.rt:111:9
 end-requires : tie.Need-end-requires
 end-requires c κs = search needs
 
--- src/lib.rt:112:9
 string-requires : tie.Need-string-requires
 string-requires c κs = search needs
 
--- src/lib.rt:112:5
 end-requires-2 : tie.Need-end-requires-2
 end-requires-2 c κs = search needs
 
--- src/lib.rt:107:1
 same-length : tie.Need-same-length
 same-length c = search needs
 
--- src/lib.rt:107:1
 returns : tie.Need-returns
 returns c = put-pair (c .before .before .before .before .before .before .before .before .before .before .before .before .before .args .out .now) (c .before .before .before .before .before .before .before .before .before .before .before .before .before .args .at) (c .before .before .before .before .before .before .before .before .before .before .before .before .before .args .lead .now) (written (c .before .before .before .before .before .before .before .before .before .before .before .before .before .args .bytes .now)) (c .before .before .before .before .before .before .before .before .before .before .before .before .before .pre) (c .before .before .before .before .before .before .before .before .literal .ensures) (c .before .before .before .before .before .end .ensures) (c .before .before .before .string .ensures) (c .end2 .ensures)
 

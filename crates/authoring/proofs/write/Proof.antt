@@ -1,3 +1,4 @@
+-- `authoring::write` meets its contract. Assumes nothing.
 use borrow.Author.Needs.{needs}
 use Rattle.authoring.proofs.Steps.{size-is, write-not, write-none, write-whole}
 use Rattle.authoring.specs.Writing.{fields, paper}
@@ -5,45 +6,31 @@ use mathlib.Core.Path.{_≡_, refl, sym, ap, _∙_}
 use native.Mathlib.Omega.{arith}
 use Rattle.authoring.proofs.write.Statement.{statement}
 use Rattle.authoring.proofs.write.Tie as tie
-use Rattle.authoring.proofs.write.Reads as reads
-use Rattle.authoring.proofs.write.Lts as lts
-use Rattle.authoring.proofs.no_room.Reads as no-room-reads
-use Rattle.authoring.proofs.put_all.Reads as put-all-reads
-use Rattle.authoring.proofs.size.Reads as size-reads
 
--- src/lib.rt:39:11
 size-requires : tie.Need-size-requires
 size-requires c κs = search needs
 
--- src/lib.rt:40:22
 enum-known-n : tie.Need-enum-known-n
 enum-known-n c = search needs
 
--- src/lib.rt:42:17
 no-room-requires : tie.Need-no-room-requires
 no-room-requires c κs = search needs
 
--- src/lib.rt:42:17
 returns : tie.Need-returns
 returns c = let a = c .before .before .before .before .before .before .before .before .before .before .args in let f = fields (a .announce .now) (a .name .now) (a .piece-length) (a .pieces .now) (a .length) in write-none f (a .out .now) _ (ap paper (sym (c .before .before .before .n .given .1)) ∙ c .before .before .before .before .before .size .ensures) (omega arith) (c .no-room .ensures)
 
--- src/lib.rt:44:21
 put-all-requires : tie.Need-put-all-requires
 put-all-requires c κs = let a = c .before .before .before .before .before .before .before .before .before .before .args in let f = fields (a .announce .now) (a .name .now) (a .piece-length) (a .pieces .now) (a .length) in omega (arith, size-is f _ (ap paper (sym (c .before .before .before .n .given .1)) ∙ c .before .before .before .before .before .size .ensures))
 
--- src/lib.rt:46:24
 enum-known-r : tie.Need-enum-known-r
 enum-known-r c = search needs
 
--- src/lib.rt:29:1
 same-length : tie.Need-same-length
 same-length c = search needs
 
--- src/lib.rt:29:1
 returns-2 : tie.Need-returns-2
 returns-2 c = let a = c .before .before .before .before .before .before .before .before .before .before .before .before .before .args in let f = fields (a .announce .now) (a .name .now) (a .piece-length) (a .pieces .now) (a .length) in write-whole f (a .out .now) _ (ap paper (sym (c .before .before .before .before .before .before .n .given .1)) ∙ c .before .before .before .before .before .before .before .before .size .ensures) (omega arith) (c .before .before .put-all .ensures .0) (c .before .before .put-all .ensures .1)
 
--- src/lib.rt:29:1
 returns-3 : tie.Need-returns-3
 returns-3 c = let a = c .before .before .before .before .before .before .before .before .args in let f = fields (a .announce .now) (a .name .now) (a .piece-length) (a .pieces .now) (a .length) in write-not f (a .out .now) _ _ (ap paper (sym (c .before .r .given .1)) ∙ c .before .before .before .size .ensures)
 
