@@ -1,6 +1,4 @@
-// Torrents of one file, written. Reading gives the fields back.
-mod names;
-
+// Torrents of one file, written: announce, and info with length, name, piece length and pieces.
 ghost use mathlib.Core.Path.{_≡_};
 ghost use mathlib.Core.List.{[], _∷_, _++_};
 ghost use Prim.Native.Nat.{_+_, _≤_};
@@ -51,7 +49,7 @@ pub fn write(
 pub fn size(announce: &[u8], name: &[u8], piece_length: u64, pieces: &[u8], length: u64) -> Sized
     ensures { λ r. ⌜ paper r ≡ sizeOf (fields (now (announce .entry)) (now (name .entry)) «piece_length» (now (pieces .entry)) length) ⌝ }
 {
-    if !names::is_good(name) {
+    if !metainfo::legal_name(name) {
         return refused(number::NAME);
     }
     if !rules::legal_piece_length(piece_length) {

@@ -20,7 +20,7 @@ of c = fields (c .args .announce .now) (c .args .name .now) (c .args .piece-leng
 
 -- what each test that was passed says
 good : (c : tie.Else1) → goodName (of (c .before .before .before .before .before) .name) ≡ true
-good c = sym (c .before .is-good .ensures) ∙ not-false (c .before .is-good .result) (c .if1 .left)
+good c = sym (c .before .legal-name .ensures) ∙ not-false (c .before .legal-name .result) (c .if1 .left)
 
 piece : (c : tie.Else2) → pieceLength (of (c .before .before .before .before .before .before .before) .pieceLength) ≡ true
 piece c = sym (c .before .legal-piece-length .ensures) ∙ not-false (c .before .legal-piece-length .result) (c .if2 .left)
@@ -34,14 +34,14 @@ total c = sym (c .before .legal-total .ensures) ∙ not-false (c .before .legal-
 rules : (c : tie.Else5) → Ruled (of (c .before .before .before .before .before .before .before .before .before .before .before .before .before))
 rules c = record { name = good (c .before .before .before .before .before .before .before .before); piece = piece (c .before .before .before .before .before .before); file = file (c .before .before .before .before); total = total (c .before .before); hashes = hashes-right (of (c .before .before .before .before .before .before .before .before .before .before .before .before .before)) (c .before .pieces .result) (c .before .pieces .ensures) (omega arith) }
 
-is-good-requires : tie.Need-is-good-requires
-is-good-requires c κs = search needs
+legal-name-requires : tie.Need-legal-name-requires
+legal-name-requires c κs = search needs
 
 refused-requires : tie.Need-refused-requires
 refused-requires c κs = search needs
 
 returns : tie.Need-returns
-returns c = size-broken (of (c .before .before .before .before .before .before)) (bad-name (sym (c .before .before .is-good .ensures) ∙ not-true (c .before .before .is-good .result) (c .before .if1 .taken))) (c .refused .ensures)
+returns c = size-broken (of (c .before .before .before .before .before .before)) (bad-name (sym (c .before .before .legal-name .ensures) ∙ not-true (c .before .before .legal-name .result) (c .before .if1 .taken))) (c .refused .ensures)
 
 legal-piece-length-requires : tie.Need-legal-piece-length-requires
 legal-piece-length-requires c κs = search needs
@@ -137,7 +137,7 @@ pub size-spec : {M : Type 1} → statement M
 size-spec =
     tie.close
     (tie.spec
-    is-good-requires
+    legal-name-requires
     refused-requires
     returns
     legal-piece-length-requires
