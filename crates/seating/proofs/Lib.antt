@@ -1,3 +1,4 @@
 pub mod Passes
 pub mod Ways
 pub mod Looking
+pub mod Determined

@@ -31,7 +31,7 @@ use Rattle.tables.specs.declared.Seat.{Seat}
 use Rattle.tables.specs.declared.Stepped.{Stepped}
 use Rattle.tables.specs.declared.Answer.the-variants.{Refused, Done, Seated, Wrote}
 use Rattle.seating.specs.declared.Begun.{Begun}
-use Rattle.seating.specs.Steps.{begun, faultAt, headAtZero, markedOr, refusedStep, hasAt, someZero, lowered}
+use Rattle.seating.specs.Steps.{begun, emptyHead, faultAt, headAtZero, markedOr, refusedStep, hasAt, someZero, lowered}
 use Rattle.seating.proofs.Passes.{lowered-each, all-clear}
 
 cannot : {Q : Type 0} {b : Bool} → b ≡ true → b ≡ false → Q
@@ -305,8 +305,16 @@ module _ (h : Head) (s : Seat) (i n : ℕ) (rows holders : List ℕ) (k : ℕ) (
 
 -- ---- starting
 
+-- whether the seats are to be cleared
+module _ (e : Head) (n R C pieces pieceLength lastLength : ℕ) (is : e ≡ emptyHead pieces pieceLength lastLength) (b c : Bool) (eb : b ≡ sizesFit e n R C) where
+  pub clears-not : not b ≡ true → c ≡ false → c ≡ sizesFit (emptyHead pieces pieceLength lastLength) n R C
+  clears-not t ec = ec ∙ sym (not-true b t) ∙ eb ∙ ap (λ (x : Head). sizesFit x n R C) is
+
+  pub clears-all : not b ≡ false → c ≡ true → c ≡ sizesFit (emptyHead pieces pieceLength lastLength) n R C
+  clears-all t ec = ec ∙ sym (not-false b t) ∙ eb ∙ ap (λ (x : Head). sizesFit x n R C) is
+
 module _ (h e : Head) (n : ℕ) (rows holders : List ℕ) (pieces pieceLength lastLength : ℕ)
-    (is : e ≡ record { pieces = pieces; «piece_length» = pieceLength; «last_length» = lastLength; taken = 0; complete = 0 })
+    (is : e ≡ emptyHead pieces pieceLength lastLength)
     (b : Bool) (eb : b ≡ sizesFit e n (length rows) (length holders)) (r : Begun) (seats : List Seat) (en : length seats ≡ n) where
   abbrev B : Yard
   B = yardOf h seats rows holders

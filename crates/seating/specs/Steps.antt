@@ -16,6 +16,10 @@ use Rattle.tables.specs.declared.Answer.{Answer}
 use Rattle.tables.specs.declared.Answer.the-variants.{Refused, Wrote}
 use Rattle.seating.specs.declared.Begun.{Begun}
 
+-- the head of a yard of these sizes with nobody in it
+abbrev pub emptyHead : ℕ → ℕ → ℕ → Head
+emptyHead pieces pieceLength lastLength = record { pieces = pieces; «piece_length» = pieceLength; «last_length» = lastLength; taken = 0; complete = 0 }
+
 -- the seats, cleared where that is wanted
 abbrev pub clearedIf : Bool → List Seat → List Seat
 clearedIf b seats = cond b (replicate (length seats) cleared) seats

@@ -13,10 +13,10 @@ ghost use Rattle.wire.specs.Message.{framed};
 ghost use Rattle.tables.specs.Counting.{bit};
 ghost use Rattle.tables.specs.Rows.{width};
 ghost use Rattle.tables.specs.Seats.{cleared, arrived, counted, weChoke, weWant};
-ghost use Rattle.tables.specs.Tables.{paper, around, turn, yardOf};
+ghost use Rattle.tables.specs.Tables.{paper, around, turn, yardOf, sizesFit};
 ghost use Rattle.tables.specs.Seating.{startOf, sitOf, leaveOf, markOf};
 ghost use Rattle.tables.specs.Step.{chokeFrame, interestFrame, ifTaken};
-ghost use Rattle.seating.specs.Steps.{begun, faultAt, headAtZero, markedOr, refusedStep};
+ghost use Rattle.seating.specs.Steps.{begun, emptyHead, faultAt, headAtZero, markedOr, refusedStep};
 use refusal::Refusal;
 use refusal::number;
 use tables::Answer;
@@ -46,7 +46,8 @@ pub fn start_step(
     rows: &mut [u8],
     holders: &mut [u16],
 ) -> Begun
-    ensures { λ r. ⌜ ((seats : List Seat) → length seats ≡ n → begun r seats (now (rows .exit)) (now (holders .exit)) ≡ startOf pieces «piece_length» «last_length» (yardOf h seats (now (rows .entry)) (now (holders .entry)))) ⌝ }
+    ensures step { λ r. ⌜ ((seats : List Seat) → length seats ≡ n → begun r seats (now (rows .exit)) (now (holders .exit)) ≡ startOf pieces «piece_length» «last_length» (yardOf h seats (now (rows .entry)) (now (holders .entry)))) ⌝ }
+    ensures clears { λ r. ⌜ r .clear ≡ sizesFit (emptyHead pieces «piece_length» «last_length») n (length (now (rows .entry))) (length (now (holders .entry))) ⌝ }
 {
     let empty = empty_head(pieces, piece_length, last_length);
     let row_bytes = rows.len();
@@ -213,7 +214,7 @@ fn head_at_zero(h: Head, s: Seat) -> bool
 }
 
 fn empty_head(pieces: u32, piece_length: u32, last_length: u32) -> Head
-    ensures { λ r. ⌜ r ≡ record { pieces = pieces; «piece_length» = «piece_length»; «last_length» = «last_length»; taken = 0; complete = 0 } ⌝ }
+    ensures { λ r. ⌜ r ≡ emptyHead pieces «piece_length» «last_length» ⌝ }
 {
     Head {
         pieces,

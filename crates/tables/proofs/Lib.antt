@@ -5,3 +5,4 @@ pub mod Digits
 pub mod Sizing
 pub mod Counts
 pub mod Rows
+pub mod Telling

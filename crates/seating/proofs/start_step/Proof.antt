@@ -1,4 +1,6 @@
 use borrow.Author.Needs.{needs}
+use Rattle.seating.specs.declared.Begun.{Begun}
+use Rattle.seating.proofs.Ways.{clears-not, clears-all}
 use Rattle.seating.proofs.Ways.{few-seats, row-room, some-piece, row-inside, row-byte-in, sit-sizes, sit-full, sit-damaged, sit-done, leave-fault, leave-head, leave-piece, leave-done, start-refused, start-done, fault-seat}
 use Rattle.seating.proofs.Ways.{some-piece, row-inside, row-byte-in, sit-sizes, sit-full, sit-damaged, sit-done, leave-fault, leave-head, leave-piece, leave-done, start-refused, start-done, fault-seat}
 use lib.Seq.{sets}
@@ -34,7 +36,7 @@ not-begun-requires c κs = search needs
 
 -- src/lib.rt:55:9
 returns : tie.Need-returns
-returns c = λ seats e. start-refused (c .before .before .before .before .before .before .args .h) _ (c .before .before .before .before .before .before .args .n) (c .before .before .before .before .before .before .args .rows .now) (c .before .before .before .before .before .before .args .holders .now) (c .before .before .before .before .before .before .args .pieces) (c .before .before .before .before .before .before .args .piece-length) (c .before .before .before .before .before .before .args .last-length) (c .before .before .before .empty-head .ensures) _ (c .before .before .sizes-fit .ensures) _ seats e (c .before .if1 .taken) (c .not-begun .ensures)
+returns c = ((λ seats e. start-refused (c .before .before .before .before .before .before .args .h) _ (c .before .before .before .before .before .before .args .n) (c .before .before .before .before .before .before .args .rows .now) (c .before .before .before .before .before .before .args .holders .now) (c .before .before .before .before .before .before .args .pieces) (c .before .before .before .before .before .before .args .piece-length) (c .before .before .before .before .before .before .args .last-length) (c .before .before .before .empty-head .ensures) _ (c .before .before .sizes-fit .ensures) _ seats e (c .before .if1 .taken) (c .not-begun .ensures)), clears-not _ (c .before .before .before .before .before .before .args .n) (length (c .before .before .before .before .before .before .args .rows .now)) (length (c .before .before .before .before .before .before .args .holders .now)) (c .before .before .before .before .before .before .args .pieces) (c .before .before .before .before .before .before .args .piece-length) (c .before .before .before .before .before .before .args .last-length) (c .before .before .before .empty-head .ensures) _ _ (c .before .before .sizes-fit .ensures) (c .before .if1 .taken) (ap (λ (x : Begun). x .clear) (c .not-begun .ensures)))
 
 -- src/lib.rt:57:5
 clear-requires : tie.Need-clear-requires
@@ -58,7 +60,7 @@ same-length-2 c = search needs
 
 -- src/lib.rt:40:1
 returns-2 : tie.Need-returns-2
-returns-2 c = λ seats e. start-done (c .before .before .before .before .before .before .before .before .before .before .before .before .before .before .args .h) _ (c .before .before .before .before .before .before .before .before .before .before .before .before .before .before .args .n) (c .before .before .before .before .before .before .before .before .before .before .before .before .before .before .args .rows .now) (c .before .before .before .before .before .before .before .before .before .before .before .before .before .before .args .holders .now) (c .before .before .before .before .before .before .before .before .before .before .before .before .before .before .args .pieces) (c .before .before .before .before .before .before .before .before .before .before .before .before .before .before .args .piece-length) (c .before .before .before .before .before .before .before .before .before .before .before .before .before .before .args .last-length) (c .before .before .before .before .before .before .before .before .before .before .before .empty-head .ensures) _ (c .before .before .before .before .before .before .before .before .before .before .sizes-fit .ensures) _ seats e _ _ _ (c .before .before .before .before .before .before .before .before .before .if1 .left) refl (c .before .before .before .before .before .before .before .clear .ensures) (c .before .before .before .clear-counts .ensures) (c .begin .ensures)
+returns-2 c = ((λ seats e. start-done (c .before .before .before .before .before .before .before .before .before .before .before .before .before .before .args .h) _ (c .before .before .before .before .before .before .before .before .before .before .before .before .before .before .args .n) (c .before .before .before .before .before .before .before .before .before .before .before .before .before .before .args .rows .now) (c .before .before .before .before .before .before .before .before .before .before .before .before .before .before .args .holders .now) (c .before .before .before .before .before .before .before .before .before .before .before .before .before .before .args .pieces) (c .before .before .before .before .before .before .before .before .before .before .before .before .before .before .args .piece-length) (c .before .before .before .before .before .before .before .before .before .before .before .before .before .before .args .last-length) (c .before .before .before .before .before .before .before .before .before .before .before .empty-head .ensures) _ (c .before .before .before .before .before .before .before .before .before .before .sizes-fit .ensures) _ seats e _ _ _ (c .before .before .before .before .before .before .before .before .before .if1 .left) refl (c .before .before .before .before .before .before .before .clear .ensures) (c .before .before .before .clear-counts .ensures) (c .begin .ensures)), clears-all _ (c .before .before .before .before .before .before .before .before .before .before .before .before .before .before .args .n) (length (c .before .before .before .before .before .before .before .before .before .before .before .before .before .before .args .rows .now)) (length (c .before .before .before .before .before .before .before .before .before .before .before .before .before .before .args .holders .now)) (c .before .before .before .before .before .before .before .before .before .before .before .before .before .before .args .pieces) (c .before .before .before .before .before .before .before .before .before .before .before .before .before .before .args .piece-length) (c .before .before .before .before .before .before .before .before .before .before .before .before .before .before .args .last-length) (c .before .before .before .before .before .before .before .before .before .before .before .empty-head .ensures) _ _ (c .before .before .before .before .before .before .before .before .before .before .sizes-fit .ensures) (c .before .before .before .before .before .before .before .before .before .if1 .left) (ap (λ (x : Begun). x .clear) (c .begin .ensures)))
 
 pub start-step-spec : {M : Type 1} → statement M
 start-step-spec =
