@@ -6,3 +6,7 @@ pub mod Lowest
 pub mod Missing
 pub mod Looks
 pub mod Theorem
+pub mod Fair
+pub mod Serving
+pub mod Pages
+pub mod Demand

@@ -23,10 +23,11 @@ use Rattle.tables.specs.declared.Page.{Page}
 use Rattle.tables.proofs.Sizing.{Fitting}
 use Rattle.history.specs.History.{Entry, History, entry, nothing, event, pieces, Sizes, sizesWith, seated}
 use Rattle.history.specs.Says.{hasPiece, held, lacking, recordOf, holders, headOf, pageLines, pageOf, lowestWithout, leastOf}
+use Rattle.history.specs.Says.{Lowest}
 use Rattle.history.specs.Expected.{no, freeSeat}
 use Rattle.history.proofs.Agreeing.{Agrees, at}
 use Rattle.history.proofs.Calls.{Good, unchanged, Kept, lift, refuses, sized-good, sizes-here, sit-good, by-same}
-use Rattle.history.proofs.Lowest.{Lowest, lowest-is, free-is, scarcest-is}
+use Rattle.history.proofs.Lowest.{lowest-is, free-is, scarcest-is}
 use Rattle.history.proofs.Missing.{lines-are, page-is}
 
 module _ (n : ℕ) (h : History) (y : Yard) (agrees : Agrees n h y) where

@@ -15,15 +15,9 @@ use Rattle.tables.specs.Looks.{fewest, placeOf}
 use Rattle.tables.specs.declared.Seat.{Seat}
 use Rattle.tables.proofs.Cases.{same-or, less-or}
 use Rattle.tables.proofs.Counts.{cannot}
-use Rattle.history.specs.Says.{lowestWithout, leastOf}
+use Rattle.history.specs.Says.{lowestWithout, leastOf, Lowest, Least}
 
 -- ---- the lowest without f
-
--- k is the lowest below n that lacks f, or n
-pub record Lowest (f : ℕ → Bool) (n k : ℕ) : Type 0 where
-  pub within : k ≤ n
-  pub below : (j : ℕ) → j < k → f j ≡ true
-  pub lacks : k < n → f k ≡ false
 
 pub lowest-is : (f : ℕ → Bool) (n : ℕ) → Lowest f n (lowestWithout f n)
 unfolding lowestWithout
@@ -69,12 +63,6 @@ pub free-is : (l : List Seat) (f : ℕ → Bool) → ((i : ℕ) → takenAt l i 
 free-is l f e = lowest-unique f (length l) _ _ (lowest-ext (takenAt l) f (length l) _ e (free-lowest l)) (lowest-is f (length l))
 
 -- ---- the smallest where f is least
-
--- k is the smallest number below n where f is least
-pub record Least (f : ℕ → ℕ) (n k : ℕ) : Type 0 where
-  pub within : k < n
-  pub least : (q : ℕ) → q < n → f k ≤ f q
-  pub first : (q : ℕ) → q < k → f k < f q
 
 pub least-is : (f : ℕ → ℕ) (n : ℕ) → Least f (suc n) (leastOf f (suc n))
 unfolding leastOf

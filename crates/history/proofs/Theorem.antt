@@ -1,13 +1,15 @@
 -- DEMAND 3. After an accepted start and any calls, refused ones among them, the tables are what the history of calls and answers says, and so is
 -- every answer. Assumes nothing.
 use mathlib.Core.Path.{_≡_, refl, sym, ap, ap₂, _∙_, subst}
-use mathlib.Core.Bool.{Bool, true, false, cond, _&&_}
+use mathlib.Core.Bool.{Bool, true, false, cond, _&&_, and-eq-true-iff}
 use mathlib.Core.List.{List, [], _∷_}
 use Prim.Native.Nat.{ℕ, zero, suc, _≤_, _<_}
 use native.Mathlib.Omega.{arith}
+use borrow.Author.Tests.{eqb-true}
+use lib.Dec.{eqb}
 use lib.ListN.{length, getD}
 use Rattle.refusal.specs.Paper.{Outcome, taken, refused}
-use Rattle.refusal.specs.Numbers.{sizes}
+use Rattle.wire.proofs.Steps.{by-test}
 use Rattle.tables.specs.Counting.{count}
 use Rattle.tables.specs.Rows.{width, hasIn}
 use Rattle.tables.specs.Seats.{cleared}
@@ -19,12 +21,12 @@ use Rattle.tables.specs.declared.Head.{Head}
 use Rattle.tables.specs.declared.Seat.{Seat}
 use Rattle.tables.proofs.Cases.{by-bool}
 use Rattle.tables.proofs.Counts.{count-le, cannot}
-use Rattle.history.specs.History.{Entry, History, entry, event, pieces, seated, sizesWith}
+use Rattle.history.specs.History.{Entry, History, entry, event, pieces, Sizes, sizes, seated, sizesWith}
 use Rattle.history.specs.Says.{hasPiece, loaded, recordOf, holders}
-use Rattle.history.specs.Expected.{answer, writes, written}
-use Rattle.history.specs.Run.{State, next, run, Accepted, after, Right, calls}
+use Rattle.history.specs.Expected.{startFits, answer, writes, written}
+use Rattle.history.specs.Run.{State, next, run, Accepted, after, Answered, started, and-then, Right, calls}
 use Rattle.history.proofs.Agreeing.{Agrees}
-use Rattle.history.proofs.Calls.{Kept, feed-kept, choke-kept, interest-kept, leave-kept}
+use Rattle.history.proofs.Calls.{Kept, sizes-here, feed-kept, choke-kept, interest-kept, leave-kept}
 use Rattle.history.proofs.Starting.{fitsFor, empty-agrees, start-kept}
 use Rattle.history.proofs.Looks.{sit-kept, lines-same, missing-kept, scarcest-kept, look-kept, has-kept, count-kept}
 
@@ -72,6 +74,12 @@ unfolding run
 run-agrees n [] s a = a
 run-agrees n (c ∷ cs) s a = run-agrees n cs (next c s) (next-agrees n c s a)
 
+run-answered : (n : ℕ) (cs : List Call) (s : State) → Agrees n (s .past) (s .yard) → Answered n (s .past) → Answered n (run cs s .past)
+unfolding run next
+run-answered n [] s a f = f
+run-answered n (c ∷ cs) s a f = run-answered n cs (next c s) (next-agrees n c s a)
+    (and-then _ (s .past) f (step-kept n (s .past) (s .yard) a c [] .0) (written-same n (s .past) (s .yard) a c))
+
 -- ---- an accepted start
 
 abbrev IsTaken : Outcome Said → Type 0
@@ -90,6 +98,40 @@ module _ (p l k : ℕ) (y : Yard) (ok : Accepted p l k y) where
   after-agrees : (cs : List Call) → Agrees (length (y .seats)) (after p l k y cs .past) (after p l k y cs .yard)
   unfolding next
   after-agrees cs = run-agrees (length (y .seats)) cs _ (start-agrees _)
+
+  start-pieces : (w : List ℕ) → pieces (entry (start p l k) (step (start p l k) y .answer) w ∷ []) ≡ p
+  unfolding sizesWith
+  start-pieces w = ap (λ (a : Outcome Said). pieces (entry (start p l k) a w ∷ [])) ok
+
+-- ---- the number of pieces stays
+
+plain : (c : Call) (a : Outcome Said) (w : List ℕ) (z : Sizes) → ((b : Said) → sizesWith (entry c (taken b) w) z ≡ z) → sizesWith (entry c a w) z ≡ z
+unfolding sizesWith
+plain c (taken b) w z f = f b
+plain c (refused n p) w z f = refl
+
+keeps-pieces : (n : ℕ) (h : History) (c : Call) (w : List ℕ) → pieces (entry c (answer n h c) w ∷ h) ≡ pieces h
+unfolding sizesWith
+keeps-pieces n h (start p l k) w = by-test (λ (a : Outcome Said). pieces (entry (start p l k) a w ∷ h) ≡ pieces h) (startFits h p l k)
+    (λ e. eqb-true p (pieces h) (and-eq-true-iff (eqb p (pieces h)) _ .0 e .0)) (λ e. refl)
+keeps-pieces n h sit w = ap (λ (z : Sizes). z .pieces) (plain sit (answer n h sit) w (sizes h) (λ b. refl))
+keeps-pieces n h (leave i) w = ap (λ (z : Sizes). z .pieces) (plain (leave i) (answer n h (leave i)) w (sizes h) (λ b. refl))
+keeps-pieces n h (feed i s) w = ap (λ (z : Sizes). z .pieces) (plain (feed i s) (answer n h (feed i s)) w (sizes h) (λ b. refl))
+keeps-pieces n h (choke i b space) w = ap (λ (z : Sizes). z .pieces) (plain (choke i b space) (answer n h (choke i b space)) w (sizes h) (λ b. refl))
+keeps-pieces n h (interest i b space) w = ap (λ (z : Sizes). z .pieces) (plain (interest i b space) (answer n h (interest i b space)) w (sizes h) (λ b. refl))
+keeps-pieces n h (missing first space) w = ap (λ (z : Sizes). z .pieces) (plain (missing first space) (answer n h (missing first space)) w (sizes h) (λ b. refl))
+keeps-pieces n h scarcest w = refl
+keeps-pieces n h (look i) w = ap (λ (z : Sizes). z .pieces) (plain (look i) (answer n h (look i)) w (sizes h) (λ b. refl))
+keeps-pieces n h (has i p) w = ap (λ (z : Sizes). z .pieces) (plain (has i p) (answer n h (has i p)) w (sizes h) (λ b. refl))
+keeps-pieces n h (countAt p) w = ap (λ (z : Sizes). z .pieces) (plain (countAt p) (answer n h (countAt p)) w (sizes h) (λ b. refl))
+
+run-pieces : (n : ℕ) (cs : List Call) (s : State) → Agrees n (s .past) (s .yard) → pieces (run cs s .past) ≡ pieces (s .past)
+unfolding run next
+run-pieces n [] s a = refl
+run-pieces n (c ∷ cs) s a =
+    run-pieces n cs (next c s) (next-agrees n c s a)
+    ∙ ap (λ (o : Outcome Said). pieces (entry c o (writtenIn c (s .yard)) ∷ s .past)) (step-kept n (s .past) (s .yard) a c [] .0)
+    ∙ keeps-pieces n (s .past) c (writtenIn c (s .yard))
 
 -- ---- what is right
 
@@ -138,6 +180,19 @@ module _ (p l k : ℕ) (y : Yard) (ok : Accepted p l k y) (cs : List Call) where
 
   pub wrote : (c : Call) → writtenIn c now ≡ written seats past c
   wrote c = written-same seats past now agrees-now c
+
+  -- and so were all answers before it
+  pub all-answered : Answered seats past
+  unfolding next
+  all-answered = run-answered seats cs _ (start-agrees p l k y ok _) (started _)
+
+  -- there is a piece, and there are as many as at the start
+  pub some-pieces : 0 < pieces past
+  some-pieces = sizes-here seats past now agrees-now .some
+
+  pub same-pieces : pieces past ≡ p
+  unfolding next
+  same-pieces = run-pieces seats cs _ (start-agrees p l k y ok _) ∙ start-pieces p l k y ok _
 
 -- the calls of a run are those that were made, in their order
 pub calls-are : (cs : List Call) (s : State) → calls (run cs s .past) [] ≡ calls (s .past) cs

@@ -1,4 +1,5 @@
 pub mod History
 pub mod Says
 pub mod Expected
+pub mod Causes
 pub mod Run

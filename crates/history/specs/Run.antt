@@ -9,6 +9,8 @@ use Rattle.tables.specs.Seats.{cleared}
 use Rattle.tables.specs.Tables.{Yard, done}
 use Rattle.tables.specs.Step.{Call, start, step, written}
 use Rattle.history.specs.History.{Entry, History, entry, pieces, sizes}
+use Rattle.history.specs.Expected
+use Rattle.history.specs.Expected.{answer}
 use Rattle.history.specs.Says.{hasPiece, recordOf, holders, takenSeats, completeSeats}
 
 -- the history so far, and the tables
@@ -37,6 +39,11 @@ after p l k y cs = run cs (next (start p l k) (record { past = []; yard = y }))
 abbrev pub calls : History → List Call → List Call
 calls [] cs = cs
 calls (e ∷ h) cs = calls h (e .call ∷ cs)
+
+-- after the start, each answer of a history, and what was written, is the one that the history before it says
+pub data Answered (n : ℕ) : History → Type 0 where
+  started : (e : Entry) → Answered n (e ∷ [])
+  and-then : (e : Entry) (h : History) → Answered n h → e .answer ≡ answer n h (e .call) → e .written ≡ Expected.written n h (e .call) → Answered n (e ∷ h)
 
 -- the tables of n seats are what the history says, and no count passes what it could reach
 pub record Right (n : ℕ) (h : History) (y : Yard) : Type 0 where

@@ -1,7 +1,8 @@
 -- What a history says of a yard with so many seats: its counts, the missing trucks, the scarcest piece. Assumes nothing: these are definitions.
+use mathlib.Core.Path.{_≡_}
 use mathlib.Core.Bool.{Bool, true, false, not, cond, _&&_}
 use mathlib.Core.List.{List, [], _∷_}
-use Prim.Native.Nat.{ℕ, zero, suc, _+_, _-_}
+use Prim.Native.Nat.{ℕ, zero, suc, _+_, _-_, _≤_, _<_}
 use lib.Dec.{eqb, ltb}
 use lib.ListN.{length, take, drop}
 use Rattle.tables.specs.Counting.{count}
@@ -96,3 +97,22 @@ lowestWithout f (suc n) = let k : ℕ = lowestWithout f n in cond (ltb k n) k (c
 unfoldable pub leastOf : (ℕ → ℕ) → ℕ → ℕ
 leastOf f zero = 0
 leastOf f (suc n) = let k : ℕ = leastOf f n in cond (ltb (f n) (f k)) n k
+
+-- ---- the same as statements
+
+-- k is the lowest below n that lacks f, or n
+pub record Lowest (f : ℕ → Bool) (n k : ℕ) : Type 0 where
+  pub within : k ≤ n
+  pub below : (j : ℕ) → j < k → f j ≡ true
+  pub lacks : k < n → f k ≡ false
+
+-- k is the smallest number below n where f is least
+pub record Least (f : ℕ → ℕ) (n k : ℕ) : Type 0 where
+  pub within : k < n
+  pub least : (q : ℕ) → q < n → f k ≤ f q
+  pub first : (q : ℕ) → q < k → f k < f q
+
+-- each number is greater than those before it, the first at least k
+pub data Ascending : ℕ → List ℕ → Type 0 where
+  none : (k : ℕ) → Ascending k []
+  one : (k a : ℕ) (l : List ℕ) → k ≤ a → Ascending (suc a) l → Ascending k (a ∷ l)
