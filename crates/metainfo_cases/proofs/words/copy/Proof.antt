@@ -1,0 +1,36 @@
+-- `metainfo_cases::words::copy` is safe and ends, since each byte reads on. The measure is what is left of the part.
+use Prim.Native.Nat.{_-_}
+use mathlib.Core.Path.{_≡_}
+use borrow.Author.Needs.{needs}
+use lib.ListN.{length}
+use Rattle.metainfo_cases.proofs.words.copy.Statement.{statement}
+use Rattle.metainfo_cases.proofs.words.copy.Tie as tie
+
+abbrev Inv-loop : tie.InvT-loop
+Inv-loop space₀ at part read₀ written₀ space read written = length space ≡ length space₀
+
+abbrev μ-loop : tie.MeasureT-loop
+μ-loop space₀ at part read₀ written₀ space read written = length part - read
+
+loop-holds : tie.Need-loop-holds Inv-loop μ-loop
+loop-holds c = search needs
+
+plain-requires : tie.Need-plain-requires Inv-loop μ-loop
+plain-requires c κs = search needs
+
+loop-less : tie.Need-loop-less Inv-loop μ-loop
+loop-less c = search needs
+
+loop-again : tie.Need-loop-again Inv-loop μ-loop
+loop-again c = search needs
+
+same-length : tie.Need-same-length Inv-loop μ-loop
+same-length c = search needs
+
+returns : tie.Need-returns Inv-loop μ-loop
+returns c = search needs
+
+pub copy-spec : {M : Type 1} → statement M
+copy-spec =
+    tie.close
+    (tie.spec Inv-loop μ-loop loop-holds plain-requires loop-less loop-again same-length returns)
