@@ -76,7 +76,7 @@ fn torrent(text: &[u8], t: Torrent) {
 fn info_hash(text: &[u8]) {
     let mut out = [0u8; 20];
     match metainfo::info_hash(text, &mut out) {
-        Hashed::Written => hex(out),
+        Hashed::Written => hex(&out),
         Hashed::Refused(r) => refused(r.number, r.place),
     }
 }
@@ -177,7 +177,7 @@ fn entry(text: &[u8], e: Entry) {
 // The elements of a path; of a long one the first nine.
 fn path(text: &[u8], first: usize) {
     let mut at = first;
-    let mut n = 0;
+    let mut n: usize = 0;
     while n < 9 {
         match contents::element_at(text, at) {
             Element::Is(x, next) => {
@@ -242,22 +242,16 @@ fn part(p: Part) {
     number(p.len as u64);
 }
 
-fn hex(out: [u8; 20]) {
+fn hex(out: &[u8; 20]) {
     let mut i = 0;
     while i < 20 {
-        digit(out[i] / 16);
-        digit(out[i] % 16);
+        hex_byte(out[i]);
         i += 1;
     }
 }
 
-fn digit(d: u8) {
-    let digits = b"0123456789abcdef";
-    let at = d as usize;
-    if at < 16 {
-        let end = at + 1;
-        say(&digits[at..end]);
-    }
+fn hex_byte(b: u8) {
+    io::print_hex(STDOUT_FILENO, b as u64, 2);
 }
 
 fn refused(number_of: u8, place: usize) {
