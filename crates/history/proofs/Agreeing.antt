@@ -1,28 +1,23 @@
 -- Tables that agree with a history, and that they still do after a call that is an event at one seat. Assumes nothing.
-use mathlib.Core.Path.{_≡_, refl, sym, ap, ap₂, _∙_, subst}
+use mathlib.Core.Path.{_≡_, sym, ap, ap₂, _∙_, subst}
 use mathlib.Core.Logic.{_≢_}
-use mathlib.Core.Bool.{Bool, true, false, not, cond, _&&_, _||_}
-use mathlib.Core.List.{List, [], _∷_}
-use Prim.Native.Nat.{ℕ, zero, suc, _+_, _*_, _≤_, _<_}
+use mathlib.Core.Bool.{Bool, true, _&&_}
+use mathlib.Core.List.{List, _∷_}
+use Prim.Native.Nat.{ℕ, _+_, _<_}
 use native.Mathlib.Omega.{arith}
-use borrow.Author.Tests.{ne-eqb}
 use lib.Dec.{eqb}
-use lib.ListN.{length, getD, set, replicate, length-set, length-replicate, getD-replicate, List·getD-eq-default}
+use lib.ListN.{length, getD, set, length-set}
 use lib.Seq.{getD-set-same, getD-set-other, set-getD}
-use Rattle.refusal.specs.Paper.{Outcome, taken, refused}
+use Rattle.refusal.specs.Paper.{taken}
 use Rattle.tables.specs.Counting.{bit, count}
 use Rattle.tables.specs.Rows.{width, hasIn}
 use Rattle.tables.specs.Seats.{cleared, counted, holding}
-use Rattle.tables.specs.Tables.{Yard, Said, done, Around, Turn, Out, around, yardOf, atSeat, sizesFit}
-use Rattle.tables.specs.Seating.{emptied}
-use Rattle.tables.specs.Step.{Call, start}
+use Rattle.tables.specs.Tables.{Yard, Around, Turn, Out, around, yardOf, sizesFit}
 use Rattle.tables.specs.declared.Head.{Head}
 use Rattle.tables.specs.declared.Seat.{Seat}
-use Rattle.tables.proofs.Cases.{same-or, less-or}
-use Rattle.tables.proofs.Counts.{count-ext, count-change, count-none}
-use Rattle.tables.proofs.Rows.{blank}
-use Rattle.tables.proofs.Sizing.{Fitting, fitting}
-use Rattle.history.specs.History.{Entry, History, entry, Event, nothing, event, seated, announced, fresh, weAreChoking, weAreInterested, theyAreChoking, theyAreInterested, pieces, Sizes, sizes, sizesWith, seatedBy, announcedBy, freshBy, chokingBy, wantingBy, chokedBy, wantedBy}
+use Rattle.tables.proofs.Cases.{same-or}
+use Rattle.tables.proofs.Counts.{count-ext, count-change}
+use Rattle.history.specs.History.{Entry, History, Event, nothing, event, seated, announced, fresh, weAreChoking, weAreInterested, theyAreChoking, theyAreInterested, pieces, Sizes, sizes, sizesWith, seatedBy, announcedBy, freshBy, chokingBy, wantingBy, chokedBy, wantedBy}
 use Rattle.history.specs.Says.{hasPiece, held, loaded, recordOf, holders, takenSeats, completeSeats, headOf}
 
 -- the tables y of n seats agree with the history h
@@ -127,17 +122,19 @@ module _ (n : ℕ) (h : History) (y : Yard) (agrees : Agrees n h y) where
 
   module _ (e : Entry) (i : ℕ) (v : Event) (l : i < n) (one : One e i v) where
     taken-then : takenSeats n (e ∷ h) + bit (seated h i) ≡ takenSeats n h + bit (seatedBy v (seated h i))
-    taken-then = rw (← one .here) (count-change (seated h) (seated (e ∷ h)) n i l (λ j q d. rw (one .others j d)))
+    taken-then =
+        let a = count-change (seated h) (seated (e ∷ h)) n i l (λ j q d. seated-then h e (one .sizes-same) j nothing (one .others j d)) in
+        omega (arith, a, ap bit (seated-then h e (one .sizes-same) i v (one .here)))
 
     complete-then : completeSeats n (e ∷ h) + bit (loaded h i) ≡ completeSeats n h + bit (loadedThen v h i)
     complete-then =
-        count-change (loaded h) (loaded (e ∷ h)) n i l (λ j q d. loaded-then h e (one .sizes-same) j nothing (one .others j d))
-        ∙ ap (λ (b : Bool). completeSeats n h + bit b) (loaded-then h e (one .sizes-same) i v (one .here))
+        let a = count-change (loaded h) (loaded (e ∷ h)) n i l (λ j q d. loaded-then h e (one .sizes-same) j nothing (one .others j d)) in
+        omega (arith, a, ap bit (loaded-then h e (one .sizes-same) i v (one .here)))
 
     holders-then : (p : ℕ) → holders n (e ∷ h) p + bit (hasPiece h i p) ≡ holders n h p + bit (hasThen v h i p)
     holders-then p =
-        count-change (λ j. hasPiece h j p) (λ j. hasPiece (e ∷ h) j p) n i l (λ j q d. rw (one .others j d))
-        ∙ ap (λ (b : Bool). holders n h p + bit b) (has-then h e (one .sizes-same) i v (one .here) p)
+        let a = count-change (λ j. hasPiece h j p) (λ j. hasPiece (e ∷ h) j p) n i l (λ j q d. has-then h e (one .sizes-same) j nothing (one .others j d) p) in
+        omega (arith, a, ap bit (has-then h e (one .sizes-same) i v (one .here) p))
 
     pub change-agrees : (x : Around) → Becomes v i x → Agrees n (e ∷ h) (yardOf (x .head) (set (y .seats) i (x .seat)) (x .rows) (x .holders))
     change-agrees x b =

@@ -2,15 +2,15 @@
 use mathlib.Core.Path.{_≡_, refl, sym, ap, ap₂, _∙_, subst}
 use mathlib.Core.Logic.{_≢_}
 use mathlib.Core.Bool.{Bool, true, false, not, cond, _&&_, _||_, and-eq-true-iff}
-use mathlib.Core.List.{List, [], _∷_}
-use Prim.Native.Nat.{ℕ, zero, suc, _+_, _-_, _*_, _/_, _≤_, _<_}
+use mathlib.Core.List.{List, _∷_}
+use Prim.Native.Nat.{ℕ, zero, suc, _+_, _-_, _*_, _≤_, _<_}
 use native.Mathlib.Omega.{arith}
-use borrow.Author.Tests.{eq-eqb, ne-eqb, eqb-true, eqb-false, ltb-true, ltb-false, lt-ltb, le-ltb, lt-leb, leb-false, not-true}
+use borrow.Author.Tests.{eq-eqb, ne-eqb, eqb-true, ltb-true, lt-ltb, le-ltb, lt-leb, leb-false}
 use lib.Dec.{eqb, ltb, leb}
-use lib.ListN.{length, getD, set, replicate, length-set}
+use lib.ListN.{length, getD, replicate, length-set}
 use lib.Seq.{length-sets}
 use Rattle.refusal.specs.Paper.{Outcome, taken, refused}
-use Rattle.refusal.specs.Numbers.{late, beyond, bitfield, spare, outside, full, seat, room, sizes, damaged}
+use Rattle.refusal.specs.Numbers.{late, beyond, bitfield, spare, outside, full, seat, room}
 use Rattle.wire.specs.Message.{Message, keepalive, choke, unchoke, interested, notInterested, have, request, piece, cancel, other}
 use Rattle.wire.specs.Message.{bitfield as bits}
 use Rattle.wire.specs.Frames.{Found, found, readOf, meant}
@@ -18,25 +18,23 @@ use Rattle.wire.specs.Frames.{wait as more}
 use Rattle.wire.specs.declared.Part.{Part}
 use Rattle.wire.proofs.Steps.{by-test}
 use Rattle.tables.specs.Counting.{bit, count, some, each}
-use Rattle.tables.specs.Rows.{width, hasIn, bitAt, rowOf, orBytes, withBit, withBits, withoutBits}
-use Rattle.tables.specs.Seats.{cleared, arrived, counted, holding, spoken, theyChoke, theyWant}
+use Rattle.tables.specs.Rows.{width, hasIn, rowOf, orBytes, withBit, withBits, withoutBits}
+use Rattle.tables.specs.Seats.{cleared, holding, spoken}
 use Rattle.tables.specs.Seats.{weChoke as chokeMark, weWant as wantMark}
-use Rattle.tables.specs.Tables.{Yard, Said, wait, done, used, serve, dropped, wrote, Around, Turn, Out, around, refuse, says, sized, sitting, atSeat, sizesFit}
+use Rattle.tables.specs.Tables.{Yard, Said, wait, done, used, wrote, Around, Turn, Out, around, refuse, says, sized, sitting, atSeat, sizesFit}
 use Rattle.tables.specs.Tables.{seated as givesSeat}
-use Rattle.tables.specs.Frames.{isNew, gain, completes, overTop, announce, haveOf, spareSet, bitfieldOf, hears, passed, blockOf, requested, messageOf, frameOf, feedOf}
+use Rattle.tables.specs.Frames.{isNew, gain, completes, overTop, announce, haveOf, spareSet, bitfieldOf, blockOf, messageOf, frameOf, feedOf}
 use Rattle.tables.specs.Frames.{announced as announcedIn}
-use Rattle.tables.specs.Frames.{blockFits as fitsIn}
-use Rattle.tables.specs.Seating.{seatedAt, sitOf, isComplete, atZero, left, leaveOf, markOf}
-use Rattle.tables.specs.Step.{Call, start, sit, leave, feed, interest}
+use Rattle.tables.specs.Seating.{seatedAt, sitOf, atZero, left, leaveOf, markOf}
+use Rattle.tables.specs.Step.{Call, sit, leave, feed, interest}
 use Rattle.tables.specs.Step.{choke as chokes}
 use Rattle.tables.specs.declared.Head.{Head}
 use Rattle.tables.specs.declared.Seat.{Seat}
-use Rattle.tables.proofs.Cases.{same-or, less-or, by-bool}
 use Rattle.tables.proofs.Counts.{count-ext, count-none, count-le, count-has, count-lacks, count-or, or-split, cannot, and-not, or-none, some-none}
 use Rattle.tables.proofs.Rows.{or-false, bit-here, bit-other, bits-here, bits-other, none-here, none-other}
 use Rattle.tables.proofs.Sizing.{Fitting, fitting}
 use Rattle.tables.proofs.Sweeps.{length-each, getD-each}
-use Rattle.history.specs.History.{Entry, History, entry, Event, nothing, came, gone, heard, weChoke, weWant, event, announces, seated, announced, fresh, weAreChoking, weAreInterested, theyAreChoking, theyAreInterested, pieces, Sizes, sizesWith, seatedBy}
+use Rattle.history.specs.History.{History, entry, Event, nothing, came, gone, heard, weChoke, weWant, event, announces, seated, announced, fresh, pieces, Sizes, sizesWith, seatedBy}
 use Rattle.history.specs.Says.{hasPiece, held, loaded, recordOf, holders, takenSeats, completeSeats, headOf}
 use Rattle.history.specs.Expected.{no, sits, blockFits, blockAnswer, requestAnswer, messageAnswer, frameAnswer, markAnswer}
 use Rattle.history.proofs.Agreeing.{Agrees, One, Becomes, at, putBack, hasThen, heldThen, loadedThen, recordThen, change-agrees, quiet-back, counted-fits}
@@ -51,6 +49,10 @@ by-same Q false f g = g refl
 spread : (s a b : Bool) → s ≡ true → (s && (a || b)) ≡ ((s && a) || b)
 spread true a b e = refl
 spread false a b e = cannot false refl e
+
+bit-off : (b : Bool) → bit b ≡ 0 → b ≡ false
+bit-off true e = absurd (omega arith)
+bit-off false e = refl
 
 not-bit : (b : Bool) → not b ≡ true → bit b ≡ 0
 not-bit true e = cannot false refl e
@@ -103,6 +105,9 @@ module _ (n : ℕ) (h : History) (y : Yard) (agrees : Agrees n h y) where
   in-row : (p : ℕ) → p < pieces h → p < 8 * width (pieces h)
   in-row p l = omega arith
 
+  loaded-seated : (i : ℕ) → seated h i ≡ true → loaded h i ≡ eqb (held h i) (pieces h)
+  loaded-seated i sat = rw sat
+
   -- ---- an event that leaves who sits there, and what he has
   steady : (v : Event) (i : ℕ) (s : Seat) → i < n → seatedBy v (seated h i) ≡ seated h i → ((p : ℕ) → hasThen v h i p ≡ hasPiece h i p)
       → s ≡ holding (held h i) (recordThen v h i) → Becomes n h y agrees v i (around (headOf n h) s (y .rows) (y .holders))
@@ -141,16 +146,13 @@ module _ (n : ℕ) (h : History) (y : Yard) (agrees : Agrees n h y) where
     held-top : held h i + more-pieces ≤ pieces h
     held-top = omega (arith, held-more, count-le (hasThen (heard m) h i) (pieces h))
 
-    loaded-is : loaded h i ≡ eqb (held h i) (pieces h)
-    loaded-is = rw sat
-
     -- with a new piece it had not all of them
     unloaded : completes i (announces m) (at n h y agrees i) ≡ true → bit (loaded h i) ≡ 0
     unloaded e =
         let k = and-eq-true-iff (ltb 0 more-pieces) (eqb (held h i + more-pieces) (pieces h)) .0 e in
         let a : 0 < more-pieces = ltb-true 0 more-pieces (k .0) in
         let b : held h i + more-pieces ≡ pieces h = eqb-true (held h i + more-pieces) (pieces h) (k .1) in
-        ap bit (loaded-is ∙ ne-eqb (held h i) (pieces h) (λ q. omega arith))
+        ap bit (loaded-seated i sat ∙ ne-eqb (held h i) (pieces h) (λ q. omega arith))
 
     below-top : overTop n i (announces m) (at n h y agrees i) ≡ false
     unfolding overTop
@@ -288,8 +290,8 @@ module _ (n : ℕ) (h : History) (y : Yard) (agrees : Agrees n h y) where
 
   -- ---- sitting down and leaving
 
-  none-then : (v : Event) (i : ℕ) → ((p : ℕ) → hasThen v h i p ≡ false) → heldThen v h i ≡ 0
-  none-then v i e = count-none (hasThen v h i) (pieces h) (λ p q. e p)
+  none-then : (v : Event) (i : ℕ) → ((p : ℕ) → bit (hasThen v h i p) ≡ 0) → heldThen v h i ≡ 0
+  none-then v i e = count-none (hasThen v h i) (pieces h) (λ p q. bit-off (hasThen v h i p) (e p))
 
   length-without : (i : ℕ) → length (withoutBits (width (pieces h)) i (y .rows)) ≡ length (y .rows)
   length-without i = length-sets (y .rows) (i * width (pieces h)) (replicate (width (pieces h)) 0)
@@ -297,7 +299,7 @@ module _ (n : ℕ) (h : History) (y : Yard) (agrees : Agrees n h y) where
   came-becomes : (i : ℕ) → i < n → seated h i ≡ false → Becomes n h y agrees came i (seatedAt i (at n h y agrees i))
   unfolding seatedAt
   came-becomes i l f =
-      let k : heldThen came h i ≡ 0 = none-then came i (λ p. refl) in
+      let k : heldThen came h i ≡ 0 = none-then came i (λ p. omega arith) in
       record {
         head-by = refl;
         taken-by = rw f (omega arith);
@@ -323,9 +325,6 @@ module _ (n : ℕ) (h : History) (y : Yard) (agrees : Agrees n h y) where
       (came-becomes i l (free l)))))
 
   module _ (i : ℕ) (l : i < n) (sat : seated h i ≡ true) where
-    loaded-here : loaded h i ≡ eqb (held h i) (pieces h)
-    loaded-here = rw sat
-
     row-of : (p : ℕ) → p < pieces h → hasIn (width (pieces h)) (y .rows) i p ≡ hasPiece h i p
     row-of p q = agrees .row-is i p l q
 
@@ -335,7 +334,7 @@ module _ (n : ℕ) (h : History) (y : Yard) (agrees : Agrees n h y) where
         or-none _ _
         (ne-eqb (takenSeats n h) 0 (λ e. omega (arith, ap bit sat, count-has (seated h) n i l)))
         (or-none _ _
-        (and-not (eqb (held h i) (pieces h)) _ (λ a. ne-eqb (completeSeats n h) 0 (λ e. omega (arith, ap bit (loaded-here ∙ a), count-has (loaded h) n i l))))
+        (and-not (eqb (held h i) (pieces h)) _ (λ a. ne-eqb (completeSeats n h) 0 (λ e. omega (arith, ap bit (loaded-seated i sat ∙ a), count-has (loaded h) n i l))))
         (some-none _ (pieces h) (λ p q. and-not (hasIn (width (pieces h)) (y .rows) i p) _ (λ a. ne-eqb (getD (y .holders) p 0) 0
         (λ e. omega (arith, ap bit (sym (row-of p q) ∙ a), agrees .holders-is p q, count-has (λ j. hasPiece h j p) n i l))))))
 
@@ -344,8 +343,8 @@ module _ (n : ℕ) (h : History) (y : Yard) (agrees : Agrees n h y) where
     gone-becomes = record {
       head-by = refl;
       taken-by = omega (arith, ap bit sat, count-has (seated h) n i l);
-      complete-by = omega (arith, ap bit loaded-here, count-has (loaded h) n i l);
-      seat-by = ap (λ (m : ℕ). holding m (recordThen gone h i)) (sym (none-then gone i (λ p. refl)));
+      complete-by = omega (arith, ap bit (loaded-seated i sat), count-has (loaded h) n i l);
+      seat-by = ap (λ (m : ℕ). holding m (recordThen gone h i)) (sym (none-then gone i (λ p. omega arith)));
       rows-len = length-without i;
       row-here = λ p q. none-here (width (pieces h)) n (y .rows) (sizes-here .row) i l p (in-row p q);
       row-other = λ j p d q. none-other (width (pieces h)) n (y .rows) (sizes-here .row) i l j p (in-row p q) d;

@@ -1,29 +1,27 @@
 -- DEMAND 3, statement by statement: after an accepted start on any tables y and after any calls cs. Assumes nothing.
-use mathlib.Core.Path.{_≡_, refl, sym, ap, ap₂, _∙_, subst}
+use mathlib.Core.Path.{_≡_, refl, sym, ap, _∙_, subst}
 use mathlib.Core.Logic.{_↔_}
 use mathlib.Core.Bool.{Bool, true, false, cond, _&&_}
-use mathlib.Core.List.{List, [], _∷_, _++_}
+use mathlib.Core.List.{List}
 use Prim.Native.Nat.{ℕ, zero, suc, _≤_, _<_}
 use native.Mathlib.Omega.{arith}
-use borrow.Author.Tests.{le-leb, leb-false, eqb-true}
-use lib.Dec.{eqb, leb}
+use borrow.Author.Tests.{le-leb, leb-false}
+use lib.Dec.{leb}
 use lib.ListN.{length, getD}
-use Rattle.refusal.specs.Paper.{Outcome, taken, refused}
+use Rattle.refusal.specs.Paper.{taken, refused}
 use Rattle.refusal.specs.Numbers.{damaged, seat, full}
-use Rattle.wire.proofs.Steps.{by-test}
 use Rattle.tables.specs.Counting.{count}
 use Rattle.tables.specs.Seats.{cleared}
 use Rattle.tables.specs.Tables.{Yard, Said, wait, serve, dropped, listed, scarce, seated}
 use Rattle.tables.specs.Step.{Call, sit, missing, scarcest, step}
 use Rattle.tables.specs.Step.{written as writtenIn}
 use Rattle.tables.specs.declared.Page.{Page}
-use Rattle.tables.proofs.Counts.{cannot}
 use Rattle.history.specs.History.{History, announced, pieces}
 use Rattle.history.specs.History.{seated as sitsAt}
-use Rattle.history.specs.Says.{loaded, lacking, recordOf, holders, missingFrom, pageLines, pageOf, leastOf, Lowest, Least}
-use Rattle.history.specs.Expected.{no, freeSeat, answer, written}
+use Rattle.history.specs.Says.{loaded, lacking, recordOf, holders, pageLines, pageOf, leastOf, Lowest, Least}
+use Rattle.history.specs.Expected.{no, freeSeat, answer}
 use Rattle.history.specs.Causes.{Cause, Waits, Serves, Drops}
-use Rattle.history.specs.Run.{Accepted, after, Right}
+use Rattle.history.specs.Run.{Accepted, after}
 use Rattle.history.proofs.Theorem.{right, answered, wrote, some-pieces}
 use Rattle.history.proofs.Lowest.{lowest-is, least-is}
 use Rattle.history.proofs.Fair.{refused-exactly, wait-exactly-when, taken-without}

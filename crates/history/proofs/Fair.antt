@@ -1,28 +1,25 @@
 -- Every refusal and every wait of the answer by the history has its listed cause, and where a cause holds it is given. Assumes nothing.
-use mathlib.Core.Path.{_≡_, refl, sym, ap, ap₂, _∙_, subst}
+use mathlib.Core.Path.{_≡_, refl, sym, ap, _∙_, subst}
 use mathlib.Core.Logic.{_⊎_, inl, inr, _↔_}
 use mathlib.Core.Bool.{Bool, true, false, not, cond, _&&_, and-eq-true-iff}
-use mathlib.Core.List.{List, [], _∷_}
+use mathlib.Core.List.{List}
 use Prim.Native.Nat.{ℕ, _+_, _*_, _≤_, _<_}
 use native.Mathlib.Omega.{arith}
-use borrow.Author.Tests.{eq-eqb, ne-eqb, eqb-true, eqb-false, lt-ltb, le-ltb, ltb-true, ltb-false, le-leb, lt-leb, leb-true, leb-false, not-true}
+use borrow.Author.Tests.{eq-eqb, ne-eqb, eqb-true, eqb-false, lt-ltb, le-ltb, ltb-true, ltb-false, le-leb, lt-leb, leb-true, leb-false}
 use lib.Dec.{eqb, ltb, leb}
 use lib.ListN.{length}
 use Rattle.refusal.specs.Paper.{Outcome, taken, refused}
-use Rattle.refusal.specs.Numbers.{frame, payload, late, beyond, bitfield, spare, outside, full, seat, room, sizes, damaged}
+use Rattle.refusal.specs.Numbers.{frame, payload, beyond, outside, seat, room, damaged}
 use Rattle.refusal.specs.Limits.{longestBlock}
-use Rattle.blocks.specs.Rules.{pieceLength, PieceLength}
+use Rattle.blocks.specs.Rules.{pieceLength}
 use Rattle.blocks.proofs.Legal.{is-piece-length, piece-length-is}
 use Rattle.wire.specs.Message.{Message, keepalive, choke, unchoke, interested, notInterested, have, request, piece, cancel, other}
 use Rattle.wire.specs.Message.{bitfield as bits}
 use Rattle.wire.specs.Frames.{Found, found, readOf, meant}
 use Rattle.wire.specs.Frames.{wait as more}
-use Rattle.wire.specs.Causes.{Few, Cut, TooLong, All, Right}
-use Rattle.wire.specs.Causes.{Cause as ReadCause}
-use Rattle.wire.specs.declared.Part.{Part}
+use Rattle.wire.specs.Causes.{TooLong, All, Right}
 use Rattle.wire.proofs.Steps.{by-test}
 use Rattle.wire.proofs.Decided.{exactly, wait-exactly, twenty-exactly, twenty-one-exactly}
-use Rattle.tables.specs.Counting.{some}
 use Rattle.tables.specs.Rows.{width, bitAt}
 use Rattle.tables.specs.Frames.{spareSet}
 use Rattle.tables.specs.Tables.{Said, wait, done, used, serve, dropped, wrote, listed, shows, holds, heldBy, scarce}
@@ -31,7 +28,6 @@ use Rattle.tables.specs.Step.{Call, start, sit, leave, feed, interest, missing,
 use Rattle.tables.specs.Step.{choke as chokes}
 use Rattle.tables.proofs.Counts.{cannot, some-one, some-every}
 use Rattle.history.specs.History.{History, seated, fresh, weAreChoking, theyAreInterested, pieces}
-use Rattle.history.specs.Says.{Lowest}
 use Rattle.history.specs.Expected.{no, startFits, sits, lengthOf, blockFits, blockAnswer, requestAnswer, messageAnswer, frameAnswer, markAnswer, freeSeat, answer}
 use Rattle.history.specs.Causes.{Sits, Nobody, On, Marks, Says, Block, Fits, StartFits, Cause, Waits}
 use Rattle.history.specs.Causes.On.{leaving, feeding, choking as on-choke, wanting as on-want}
@@ -39,6 +35,7 @@ use Rattle.history.specs.Causes.Marks.{choking, wanting}
 use Rattle.history.specs.Causes.Block.{asked, sent, called-off}
 use Rattle.history.specs.Causes.Cause.{unfit, all-taken, nobody, past-list, past-look, past-has, no-room, too-long, wrong-payload, not-first, wrong-length, spare-bit, no-such-have, no-such-block, no-such-has, no-such-count, past-piece}
 use Rattle.history.specs.Causes.Waits.{cut-off}
+use Rattle.history.proofs.Starting.{both-true}
 use Rattle.history.proofs.Lowest.{lowest-is, lowest-unique}
 
 -- ---- tests as statements
@@ -59,9 +56,6 @@ module _ (n : ℕ) (h : History) where
       go : (b : Bool) → (b ≡ true → Sits n h i) → b ≡ false
       go true g = absurd (f (g refl))
       go false g = refl
-
-both-true : (a b : Bool) → a ≡ true → b ≡ true → (a && b) ≡ true
-both-true a b p q = rw (p, q)
 
 module _ (h : History) (p l k : ℕ) where
   fits-start : StartFits h p l k → startFits h p l k ≡ true

@@ -1,29 +1,28 @@
 -- Sitting down, the missing list, the scarcest piece and single looks: the answer is the one that the history says. Assumes nothing.
 use mathlib.Core.Path.{_≡_, refl, sym, ap, _∙_, subst}
-use mathlib.Core.Bool.{Bool, true, false, cond, _&&_, not}
-use mathlib.Core.List.{List, [], _∷_}
-use Prim.Native.Nat.{ℕ, _≤_, _<_}
+use mathlib.Core.Bool.{Bool, cond}
+use mathlib.Core.List.{List}
+use Prim.Native.Nat.{ℕ}
 use native.Mathlib.Omega.{arith}
 use borrow.Author.Tests.{ltb-true}
-use lib.Dec.{ltb, leb, eqb}
+use lib.Dec.{ltb, leb}
 use lib.ListN.{length, getD}
-use Rattle.refusal.specs.Paper.{Outcome, taken, refused}
+use Rattle.refusal.specs.Paper.{taken}
 use Rattle.refusal.specs.Numbers.{full, seat, beyond}
 use Rattle.tables.specs.Rows.{width, hasIn}
 use Rattle.tables.specs.Seats.{cleared}
-use Rattle.tables.specs.Tables.{Yard, Said, Out, Turn, listed, shows, holds, heldBy, scarce, says, atSeat}
+use Rattle.tables.specs.Tables.{Yard, listed, shows, holds, heldBy, scarce, says, atSeat}
 use Rattle.tables.specs.Tables.{seated as givesSeat}
 use Rattle.tables.specs.Seating.{lowestFree, sitOf}
 use Rattle.tables.specs.Looks.{isMissing, missingOf, linesOf, fewest, placeOf, scarcestOf, seatOf, hasOf, countOf}
 use Rattle.tables.specs.Looks.{pageOf as pageIn}
-use Rattle.tables.specs.Step.{Call, sit, missing, scarcest, look, has, count}
+use Rattle.tables.specs.Step.{sit, missing, scarcest, look, has, count}
 use Rattle.tables.specs.declared.Seat.{Seat}
 use Rattle.tables.specs.declared.Head.{Head}
 use Rattle.tables.specs.declared.Page.{Page}
 use Rattle.tables.proofs.Sizing.{Fitting}
-use Rattle.history.specs.History.{Entry, History, entry, nothing, event, pieces, Sizes, sizesWith, seated}
-use Rattle.history.specs.Says.{hasPiece, held, lacking, recordOf, holders, headOf, pageLines, pageOf, lowestWithout, leastOf}
-use Rattle.history.specs.Says.{Lowest}
+use Rattle.history.specs.History.{History, event, pieces, sizesWith, seated}
+use Rattle.history.specs.Says.{hasPiece, lacking, recordOf, holders, headOf, pageLines, pageOf, lowestWithout, leastOf}
 use Rattle.history.specs.Expected.{no, freeSeat}
 use Rattle.history.proofs.Agreeing.{Agrees, at}
 use Rattle.history.proofs.Calls.{Good, unchanged, Kept, lift, refuses, sized-good, sizes-here, sit-good, by-same}

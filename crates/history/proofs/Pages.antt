@@ -1,16 +1,13 @@
 -- The missing list by the history: who stands on it, in which order, and how a page goes on. Assumes nothing.
-use mathlib.Core.Path.{_≡_, refl, sym, ap, ap₂, _∙_, subst}
+use mathlib.Core.Path.{_≡_, refl, sym, ap, _∙_}
 use mathlib.Core.Logic.{_⊎_, inl, inr}
 use mathlib.Core.Bool.{Bool, true, false, cond}
 use mathlib.Core.List.{List, [], _∷_, _++_, List·Memᴰ, List·Memᴰ·head, List·Memᴰ·tail, List·Memᴰ·not-nil, List·Memᴰ·cases-cons}
 use Prim.Native.Nat.{ℕ, zero, suc, _+_, _-_, _≤_, _<_, min}
-use native.Mathlib.Nat.{not-suc-le-zero}
 use native.Mathlib.Omega.{arith}
-use lib.ListN.{length, take, drop, length-take, take-append-drop}
-use lib.Seq.{drop-nil}
+use lib.ListN.{length, drop, length-take, take-append-drop}
 use Rattle.wire.proofs.Steps.{by-test}
 use Rattle.tables.specs.Looks.{firstOr}
-use Rattle.tables.specs.declared.Page.{Page}
 use Rattle.tables.proofs.Cases.{same-or}
 use Rattle.tables.proofs.Counts.{cannot}
 use Rattle.history.specs.History.{History}

@@ -1,20 +1,19 @@
 -- A request is to be served exactly if we don't choke its truck and it is interested, by the history; and what bytes say by how messages are written. Assumes nothing.
 use mathlib.Core.Path.{_≡_, refl, sym, ap, _∙_, subst}
 use mathlib.Core.Logic.{_↔_}
-use mathlib.Core.Bool.{Bool, true, false, not, cond, _&&_, and-eq-true-iff}
+use mathlib.Core.Bool.{true, not, _&&_, and-eq-true-iff}
 use mathlib.Core.List.{List, _++_}
-use Prim.Native.Nat.{ℕ, _≤_, _<_}
+use Prim.Native.Nat.{ℕ, _<_}
 use borrow.Author.Tests.{lt-ltb, ltb-true, not-true}
 use lib.Dec.{ltb, leb, eqb}
-use lib.ListN.{length, take, drop, take-append-drop}
+use lib.ListN.{length, drop, take-append-drop}
 use Rattle.refusal.specs.BigEndian.{Bytes}
 use Rattle.refusal.specs.Paper.{Outcome, taken, refused}
-use Rattle.refusal.specs.Numbers.{seat}
 use Rattle.wire.specs.Message.{Message, encode, keepalive, choke, unchoke, interested, notInterested, have, request, piece, cancel, other}
 use Rattle.wire.specs.Message.{bitfield as bits}
 use Rattle.wire.specs.Frames.{Found, found, readOf, meant, Keeps}
 use Rattle.wire.specs.Frames.{wait as more}
-use Rattle.wire.proofs.Exact.{Reads, taken-was-written, reads-back}
+use Rattle.wire.proofs.Exact.{taken-was-written, reads-back}
 use Rattle.wire.proofs.Steps.{by-test}
 use Rattle.tables.specs.Rows.{width}
 use Rattle.tables.specs.Frames.{spareSet}
@@ -23,8 +22,8 @@ use Rattle.tables.specs.Tables.{seated as givesSeat}
 use Rattle.tables.specs.Step.{Call, start, sit, leave, feed, interest, missing, scarcest, look, has, count}
 use Rattle.tables.specs.Step.{choke as chokes}
 use Rattle.tables.proofs.Counts.{cannot}
-use Rattle.history.specs.History.{History, seated, fresh, weAreChoking, theyAreInterested, pieces}
-use Rattle.history.specs.Expected.{no, startFits, sits, blockFits, blockAnswer, requestAnswer, messageAnswer, frameAnswer, markAnswer, freeSeat, answer}
+use Rattle.history.specs.History.{History, fresh, weAreChoking, theyAreInterested, pieces}
+use Rattle.history.specs.Expected.{startFits, sits, blockFits, blockAnswer, requestAnswer, messageAnswer, frameAnswer, markAnswer, freeSeat, answer}
 use Rattle.history.specs.Causes.{Sits, Says, Welcome, Asks, Serves, Drops}
 use Rattle.history.specs.Causes.Serves.{serves}
 use Rattle.history.specs.Causes.Drops.{drops}

@@ -1,30 +1,28 @@
 -- An accepted start leaves an empty yard, whatever was in the tables; and which further start is accepted. Assumes nothing.
 use mathlib.Core.Path.{_≡_, refl, sym, ap, ap₂, _∙_, subst}
 use mathlib.Core.Bool.{Bool, true, false, cond, _&&_, and-eq-true-iff}
-use mathlib.Core.List.{List, [], _∷_}
-use Prim.Native.Nat.{ℕ, zero, suc, _+_, _*_, _≤_, _<_}
+use mathlib.Core.List.{List, _∷_}
+use Prim.Native.Nat.{ℕ, zero, suc, _*_}
 use native.Mathlib.Omega.{arith}
-use borrow.Author.Tests.{eq-eqb, ne-eqb, eqb-true, le-leb, leb-true}
+use borrow.Author.Tests.{eq-eqb, eqb-true, le-leb}
 use lib.Dec.{eqb, leb}
 use lib.ListN.{length, getD, replicate, length-replicate, getD-replicate}
-use Rattle.refusal.specs.Paper.{Outcome, taken, refused}
+use Rattle.refusal.specs.Paper.{taken, refused}
 use Rattle.refusal.specs.Numbers.{sizes}
 use Rattle.refusal.specs.Limits.{mostPieces, mostSeats}
 use Rattle.blocks.specs.Rules.{pieceLength}
 use Rattle.blocks.proofs.Legal.{is-piece-length}
-use Rattle.tables.specs.Counting.{bit, count}
-use Rattle.tables.specs.Rows.{width, hasIn}
+use Rattle.tables.specs.Rows.{width}
 use Rattle.tables.specs.Seats.{cleared, holding}
-use Rattle.tables.specs.Tables.{Yard, Said, done, Out, sizesFit}
+use Rattle.tables.specs.Tables.{Yard, done, sizesFit}
 use Rattle.tables.specs.Seating.{emptied, startOf}
-use Rattle.tables.specs.Step.{Call, start}
+use Rattle.tables.specs.Step.{start}
 use Rattle.tables.specs.declared.Head.{Head}
-use Rattle.tables.proofs.Cases.{by-bool}
 use Rattle.tables.proofs.Counts.{count-none, cannot}
 use Rattle.tables.proofs.Rows.{blank}
 use Rattle.tables.proofs.Sizing.{Fitting, fitting}
-use Rattle.history.specs.History.{Entry, History, entry, event, pieces, sizesWith, seated}
-use Rattle.history.specs.Says.{hasPiece, held, loaded, recordOf, holders, headOf}
+use Rattle.history.specs.History.{History, entry, event, pieces, sizesWith, seated}
+use Rattle.history.specs.Says.{hasPiece, held, loaded, holders, headOf}
 use Rattle.history.specs.Expected.{no, startFits}
 use Rattle.history.proofs.Agreeing.{Agrees, quiet-agrees, counted-fits}
 use Rattle.history.proofs.Calls.{Kept}
@@ -58,8 +56,8 @@ empty-agrees h y p l k w ok =
 
 -- ---- a further start
 
-and-true : (a b : Bool) → a ≡ true → b ≡ true → (a && b) ≡ true
-and-true a b p q = rw (p, q)
+pub both-true : (a b : Bool) → a ≡ true → b ≡ true → (a && b) ≡ true
+both-true a b p q = rw (p, q)
 
 iff : (a b : Bool) → (a ≡ true → b ≡ true) → (b ≡ true → a ≡ true) → a ≡ b
 iff true b f g = sym (f refl)
@@ -83,9 +81,9 @@ module _ (n : ℕ) (h : History) (y : Yard) (agrees : Agrees n h y) (p l k : ℕ
   fits-then : fitsFor p l k y ≡ true → startFits h p l k ≡ true
   fits-then e =
       let f : Fitting next (length (y .seats)) (length (y .rows)) (length (y .holders)) = fitting next (length (y .seats)) (length (y .rows)) (length (y .holders)) e in
-      and-true (eqb p (pieces h)) _ (eq-eqb p (pieces h) (omega (arith, f .counts, fits-now .counts)))
-      (and-true (pieceLength l) _ (is-piece-length l (f .length))
-      (and-true (leb 1 k) (leb k l) (le-leb 1 k (f .last)) (le-leb k l (f .within))))
+      both-true (eqb p (pieces h)) _ (eq-eqb p (pieces h) (omega (arith, f .counts, fits-now .counts)))
+      (both-true (pieceLength l) _ (is-piece-length l (f .length))
+      (both-true (leb 1 k) (leb k l) (le-leb 1 k (f .last)) (le-leb k l (f .within))))
 
   then-fits : startFits h p l k ≡ true → fitsFor p l k y ≡ true
   unfolding sizesFit
@@ -96,15 +94,15 @@ module _ (n : ℕ) (h : History) (y : Yard) (agrees : Agrees n h y) (p l k : ℕ
       let q : p ≡ pieces h = eqb-true p (pieces h) (a .0) in
       let m : length (y .seats) ≡ n = agrees .seats-len in
       let r : length (y .rows) ≡ length (y .seats) * width p = fits-now .row ∙ ap₂ (λ (a b : ℕ). a * width b) (sym m) (sym q) in
-      and-true _ _ (le-leb 1 p (omega (arith, fits-now .some)))
-      (and-true _ _ (le-leb p mostPieces (omega (arith, fits-now .few)))
-      (and-true _ _ (le-leb 1 (length (y .seats)) (omega (arith, fits-now .seat)))
-      (and-true _ _ (le-leb (length (y .seats)) mostSeats (omega (arith, fits-now .seats)))
-      (and-true _ _ (b .0)
-      (and-true _ _ (c .0)
-      (and-true _ _ (c .1)
-      (and-true _ _ (eq-eqb (length (y .rows)) (length (y .seats) * width p) r)
-      (and-true _ _ (eq-eqb (length (y .holders)) p (omega (arith, fits-now .counts))) refl))))))))
+      both-true _ _ (le-leb 1 p (omega (arith, fits-now .some)))
+      (both-true _ _ (le-leb p mostPieces (omega (arith, fits-now .few)))
+      (both-true _ _ (le-leb 1 (length (y .seats)) (omega (arith, fits-now .seat)))
+      (both-true _ _ (le-leb (length (y .seats)) mostSeats (omega (arith, fits-now .seats)))
+      (both-true _ _ (b .0)
+      (both-true _ _ (c .0)
+      (both-true _ _ (c .1)
+      (both-true _ _ (eq-eqb (length (y .rows)) (length (y .seats) * width p) r)
+      (both-true _ _ (eq-eqb (length (y .holders)) p (omega (arith, fits-now .counts))) refl))))))))
 
   pub start-kept : (w : List ℕ) → Kept n h y agrees (start p l k) w (startOf p l k y) (cond (startFits h p l k) (taken done) (no sizes))
   unfolding startOf event sizesWith

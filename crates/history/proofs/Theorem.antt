@@ -1,9 +1,9 @@
 -- DEMAND 3. After an accepted start and any calls, refused ones among them, the tables are what the history of calls and answers says, and so is
 -- every answer. Assumes nothing.
 use mathlib.Core.Path.{_≡_, refl, sym, ap, ap₂, _∙_, subst}
-use mathlib.Core.Bool.{Bool, true, false, cond, _&&_, and-eq-true-iff}
+use mathlib.Core.Bool.{true, and-eq-true-iff}
 use mathlib.Core.List.{List, [], _∷_}
-use Prim.Native.Nat.{ℕ, zero, suc, _≤_, _<_}
+use Prim.Native.Nat.{ℕ, _<_}
 use native.Mathlib.Omega.{arith}
 use borrow.Author.Tests.{eqb-true}
 use lib.Dec.{eqb}
@@ -11,18 +11,17 @@ use lib.ListN.{length, getD}
 use Rattle.refusal.specs.Paper.{Outcome, taken, refused}
 use Rattle.wire.proofs.Steps.{by-test}
 use Rattle.tables.specs.Counting.{count}
-use Rattle.tables.specs.Rows.{width, hasIn}
 use Rattle.tables.specs.Seats.{cleared}
-use Rattle.tables.specs.Tables.{Yard, Said, done, Out}
-use Rattle.tables.specs.Seating.{emptied, startOf}
+use Rattle.tables.specs.Tables.{Yard, Said}
+use Rattle.tables.specs.Seating.{startOf}
 use Rattle.tables.specs.Step.{Call, start, sit, leave, feed, choke, interest, missing, scarcest, look, has, step, ifTaken}
 use Rattle.tables.specs.Step.{count as countAt, writes as writesIn, written as writtenIn}
 use Rattle.tables.specs.declared.Head.{Head}
 use Rattle.tables.specs.declared.Seat.{Seat}
 use Rattle.tables.proofs.Cases.{by-bool}
-use Rattle.tables.proofs.Counts.{count-le, cannot}
-use Rattle.history.specs.History.{Entry, History, entry, event, pieces, Sizes, sizes, seated, sizesWith}
-use Rattle.history.specs.Says.{hasPiece, loaded, recordOf, holders}
+use Rattle.tables.proofs.Counts.{count-le}
+use Rattle.history.specs.History.{History, entry, pieces, Sizes, sizes, seated, sizesWith}
+use Rattle.history.specs.Says.{hasPiece, loaded}
 use Rattle.history.specs.Expected.{startFits, answer, writes, written}
 use Rattle.history.specs.Run.{State, next, run, Accepted, after, Answered, started, and-then, Right, calls}
 use Rattle.history.proofs.Agreeing.{Agrees}

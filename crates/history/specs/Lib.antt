@@ -3,3 +3,4 @@ pub mod Says
 pub mod Expected
 pub mod Causes
 pub mod Run
+pub mod Stars
