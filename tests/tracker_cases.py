@@ -6,6 +6,8 @@ It has the texts of that crate in a table of its own, and shares no code with it
 and `%FF` a byte by its two digits.
 """
 
+import glob
+import os
 import re
 import sys
 
@@ -249,6 +251,17 @@ def text_of(word):
     return re.sub(r"%([0-9A-F]{2})", lambda m: chr(int(m.group(1), 16)), word).encode("latin-1")
 
 
+def word_of(text):
+    return "".join(chr(b) if 32 < b < 127 and b not in b"%()" else "%%%02X" % b for b in text)
+
+
+def samples():
+    """The replies of a stock tracker that are kept (tests/opentracker.py)."""
+    for name in sorted(glob.glob(os.path.join(os.path.dirname(__file__), "..", "samples", "opentracker-*.reply"))):
+        with open(name, "rb") as f:
+            yield word_of(f.read())
+
+
 INTERVAL = "d8:intervali1e5:peersl"
 PEER = "d2:ip9:127.0.0.17:peer%20id20:-AA0000-abcdefghijkl4:porti6881ee"
 TEXTS = [
@@ -295,7 +308,7 @@ WRITES = [
 
 def main():
     out = sys.stdout.buffer
-    for line in TEXTS:
+    for line in TEXTS + list(samples()):
         for word in line.split(" "):
             out.write(("%s:%s\n" % (word, answer(text_of(word)))).encode("latin-1"))
     for interval, word, room in WRITES:

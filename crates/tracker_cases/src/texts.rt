@@ -7,6 +7,7 @@ pub fn all() {
     listed();
     failures();
     long();
+    stock();
 }
 
 // What is no reply, and which check comes first.
@@ -93,5 +94,18 @@ fn long() {
     );
     each(
         b"d8:intervali1800e5:peers12000:(2000*%0A%00%00%01%1A%E1)e d8:intervali1800e5:peers12001:(12001*x)e",
+    );
+}
+
+// The replies of a stock tracker: the bytes of samples/opentracker-*.reply.
+fn stock() {
+    each(
+        b"d8:completei0e10:downloadedi0e10:incompletei1e8:intervali1854e12:min%20intervali927e5:peers6:%7F%00%00%01%1A%E1e d8:completei0e10:downloadedi0e10:incompletei2e8:intervali1782e12:min%20intervali891e5:peers12:%7F%00%00%01%1A%E1%7F%00%00%01%C8%D5e",
+    );
+    each(
+        b"d8:completei1e10:downloadedi0e10:incompletei2e8:intervali1728e12:min%20intervali864e5:peers18:%7F%00%00%01%1A%E1%7F%00%00%01%C8%D5%7F%00%00%01%00%01e d8:completei1e10:downloadedi0e10:incompletei3e8:intervali1868e12:min%20intervali934e5:peers24:%7F%00%00%01%1A%E1%7F%00%00%01%C8%D5%7F%00%00%01%FF%FF%7F%00%00%01%00%01e",
+    );
+    each(
+        b"d8:completei1e10:incompletei2e8:intervali1741e12:min%20intervali870e5:peers0:e d14:failure%20reason63:Requested%20download%20is%20not%20authorized%20for%20use%20with%20this%20tracker.e",
     );
 }
