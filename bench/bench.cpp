@@ -1,5 +1,6 @@
-// Times wardrail_check: beside libtorrent's bdecode on one reply, and by the byte on the texts that cost it most. bench/run builds and runs it.
+// Times the readers beside libtorrent's on one reply and one torrent, and wardrail_check by the byte on the texts that cost it most. bench/run builds and runs it.
 #include <libtorrent/bdecode.hpp>
+#include <libtorrent/torrent_info.hpp>
 
 #include <malloc.h>
 
@@ -8,10 +9,18 @@
 #include <cstdint>
 #include <cstdio>
 #include <cstdlib>
+#include <cstring>
+#include <functional>
 #include <string>
 #include <vector>
 
-extern "C" uint64_t wardrail_check(const uint8_t *text, size_t count, uint64_t *detail);
+extern "C" {
+uint64_t wardrail_check(const uint8_t *text, size_t count, uint64_t *detail);
+uint64_t wardrail_reply(const uint8_t *text, size_t count, uint64_t detail[4]);
+uint64_t wardrail_listed_at(const uint8_t *text, size_t count, size_t at, uint64_t detail[6]);
+uint64_t wardrail_torrent(const uint8_t *text, size_t count, uint64_t detail[14]);
+uint64_t wardrail_info_hash(const uint8_t *text, size_t count, uint8_t digest[20]);
+}
 
 namespace {
 
@@ -23,9 +32,11 @@ struct Answer {
     uint64_t number, detail;
 };
 
+const uint8_t *start_of(const string &text) { return reinterpret_cast<const uint8_t *>(text.data()); }
+
 Answer check(const string &text) {
     Answer a{0, 0};
-    a.number = wardrail_check(reinterpret_cast<const uint8_t *>(text.data()), text.size(), &a.detail);
+    a.number = wardrail_check(start_of(text), text.size(), &a.detail);
     return a;
 }
 
@@ -84,24 +95,121 @@ string reply(int peers) {
     return s + "ee";
 }
 
-void beside() {
+// A way to read a text, under the name that is printed. It answers the same number at each run.
+struct Way {
+    const char *name;
+    std::function<uint64_t()> read;
+};
+
+// Times ways to read one text, in turn: each is first as often as any other. The last is the one to be beaten.
+void race(const std::vector<Way> &ways, int rounds) {
+    const size_t n = ways.size();
+    std::vector<std::vector<double>> runs(n);
+    std::vector<uint64_t> answers;
+    for (const Way &way : ways) answers.push_back(way.read());
+    bool alike = true;
+    for (int k = 0; k < rounds; k++)
+        for (size_t j = 0; j < n; j++) {
+            const size_t i = (j + k) % n;
+            runs[i].push_back(timed(1, [&] { alike &= ways[i].read() == answers[i]; }));
+        }
+    expect(alike, "an answer changed");
+    const double m = median(runs[n - 1]), l = least(runs[n - 1]);
+    std::printf("%-28s %10s %10s %14s %10s\n", "microseconds", "median", "least", "times as fast", "by least");
+    for (size_t i = 0; i < n; i++)
+        std::printf("%-28s %10.1f %10.1f %14.2f %10.2f\n", ways[i].name, median(runs[i]) / 1e3, least(runs[i]) / 1e3, m / median(runs[i]), l / least(runs[i]));
+    std::printf("\n");
+}
+
+// A number that depends on each peer's id, address and port.
+uint64_t stirred(uint64_t sum, const char *id, const char *ip, size_t length, uint64_t port) {
+    return (sum * 31 + uint8_t(id[19])) * 31 + uint8_t(ip[length - 1]) + length + port;
+}
+
+uint64_t peers_by_wardrail(const string &text) {
+    uint64_t reply[4], peer[6], sum = 0;
+    if (wardrail_reply(start_of(text), text.size(), reply) != 0 || reply[0] != 3) return 0;
+    size_t at = reply[3];
+    for (uint64_t k = 0; k < reply[2]; k++) {
+        if (wardrail_listed_at(start_of(text), text.size(), at, peer) != 0) return 0;
+        sum = stirred(sum, text.data() + peer[0], text.data() + peer[2], peer[3], peer[4]);
+        at = peer[5];
+    }
+    return sum;
+}
+
+uint64_t peers_by_bdecode(const string &text) {
+    lt::error_code fault;
+    const lt::bdecode_node whole = lt::bdecode(text, fault);
+    if (fault || whole.dict_find_int_value("interval", -1) < 0) return 0;
+    const lt::bdecode_node peers = whole.dict_find_list("peers");
+    uint64_t sum = 0;
+    for (int k = 0; k < peers.list_size(); k++) {
+        const lt::bdecode_node peer = peers.list_at(k);
+        const lt::string_view id = peer.dict_find_string_value("peer id"), ip = peer.dict_find_string_value("ip");
+        if (id.size() != 20) return 0;
+        sum = stirred(sum, id.data(), ip.data(), ip.size(), uint64_t(peer.dict_find_int_value("port")));
+    }
+    return sum;
+}
+
+void replies() {
     const string text = reply(2000);
     const Answer a = check(text);
     expect(a.number == 0 && a.detail == 14005, "the reply is not taken with 14,005 values");
     expect(decoded(text), "bdecode does not take the reply");
-    std::vector<double> ours, theirs;
-    bool alike = true;
-    for (int k = 0; k < 8000; k++) {
-        // each goes first in every second pair
-        if (k % 4 == 0 || k % 4 == 3) ours.push_back(timed(1, [&] { alike &= check(text).number == 0; }));
-        else theirs.push_back(timed(1, [&] { alike &= decoded(text); }));
-    }
-    expect(alike, "an answer changed");
-    std::printf("A reply of 2,000 peers, %zu bytes, %u values: %zu runs of each, in turn.\n\n", text.size(), unsigned(a.detail), ours.size());
-    std::printf("%-18s %10s %10s\n", "microseconds", "median", "least");
-    std::printf("%-18s %10.1f %10.1f\n", "wardrail_check", median(ours) / 1e3, least(ours) / 1e3);
-    std::printf("%-18s %10.1f %10.1f\n", "bdecode", median(theirs) / 1e3, least(theirs) / 1e3);
-    std::printf("%-18s %10.2f %10.2f\n\n", "times as fast", median(theirs) / median(ours), least(theirs) / least(ours));
+    const uint64_t sum = peers_by_wardrail(text);
+    expect(sum != 0 && sum == peers_by_bdecode(text), "the peers are not the same");
+    std::printf("A reply of 2,000 peers, %zu bytes, %u values.\n\n", text.size(), unsigned(a.detail));
+    race({{"wardrail_check", [&] { return check(text).number; }}, {"bdecode", [&] { return uint64_t(decoded(text)); }}}, 4000);
+    std::printf("The same, every peer's id, address and port looked at.\n\n");
+    race({{"wardrail_reply, _listed_at", [&] { return peers_by_wardrail(text); }}, {"bdecode", [&] { return peers_by_bdecode(text); }}}, 2000);
+}
+
+// A torrent of 1,024 files and 16,384 pieces.
+string torrent() {
+    Dice dice;
+    string files, pieces;
+    for (int k = 0; k < 1024; k++) files += "d6:lengthi262144e4:pathl5:route" + written("map-" + to_string(10000 + k).substr(1) + ".bin") + "ee";
+    for (int b = 0; b < 20 * 16384; b++) pieces += char(dice.below(256));
+    return "d8:announce15:http://yard/ann4:infod5:filesl" + files + "e4:name4:week12:piece lengthi16384e6:pieces" + written(pieces) + "ee";
+}
+
+uint64_t files_of(const string &text) {
+    uint64_t detail[14];
+    return wardrail_torrent(start_of(text), text.size(), detail) == 0 ? detail[12] : 0;
+}
+
+uint64_t first_of(const void *digest) {
+    uint64_t first;
+    std::memcpy(&first, digest, sizeof first);
+    return first;
+}
+
+uint64_t hash_of(const string &text) {
+    uint8_t digest[20];
+    return wardrail_info_hash(start_of(text), text.size(), digest) == 0 ? first_of(digest) : 0;
+}
+
+uint64_t hash_by_libtorrent(const string &text) {
+    lt::error_code fault;
+    const lt::torrent_info t(text, fault, lt::from_span);
+    return !fault && t.num_files() == 1024 && t.num_pieces() == 16384 ? first_of(t.info_hashes().v1.data()) : 0;
+}
+
+void torrents() {
+    const string text = torrent();
+    uint64_t detail[14];
+    expect(wardrail_torrent(start_of(text), text.size(), detail) == 0 && detail[9] == 16384 && detail[12] == 1024, "the torrent is not read");
+    const string info = text.substr(detail[2], detail[3]);
+    expect(hash_of(text) != 0 && hash_of(text) == hash_by_libtorrent(text), "another info hash");
+    std::printf("A torrent of 1,024 files and 16,384 pieces, %zu bytes, %u values.\n\n", text.size(), unsigned(check(text).detail));
+    race({{"wardrail_torrent", [&] { return files_of(text); }},
+          {"wardrail_info_hash", [&] { return hash_of(text); }},
+          {"wardrail_check", [&] { return check(text).number; }},
+          {"wardrail_check of info", [&] { return check(info).number; }},
+          {"bdecode", [&] { return uint64_t(decoded(text)); }},
+          {"torrent_info, with its hash", [&] { return hash_by_libtorrent(text); }}}, 1000);
 }
 
 const size_t most_bytes = 1048576, most_values = 16384;
@@ -216,6 +324,7 @@ int main() {
     // bdecode's memory is kept from run to run, so that no page is asked for again
     mallopt(M_MMAP_THRESHOLD, 1 << 30);
     mallopt(M_TRIM_THRESHOLD, 1 << 30);
-    beside();
+    replies();
+    torrents();
     by_the_byte();
 }

@@ -6,6 +6,9 @@ ghost use Rattle.wardrail.specs.Said.{numberOf, detailOf};
 use bencode::Checked;
 use sha1::Hashed;
 
+mod replies;
+mod torrents;
+
 // Whether a text is one value that keeps the limits. `detail` becomes its count of values, or the refusal's place.
 #[no_mangle]
 pub extern "C" fn wardrail_check(text: &[u8], detail: &mut u64) -> u64

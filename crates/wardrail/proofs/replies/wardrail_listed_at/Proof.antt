@@ -1,0 +1,23 @@
+-- `wardrail_listed_at` meets its contract. Assumes nothing.
+use borrow.Author.Needs.{needs}
+use Rattle.wardrail.specs.Replies.{entryDetail}
+use Rattle.wardrail.specs.Said.{numberOf}
+use mathlib.Core.Path.{ap, _∙_}
+use Rattle.wardrail.proofs.replies.wardrail_listed_at.Statement.{statement}
+use Rattle.wardrail.proofs.replies.wardrail_listed_at.Tie as tie
+
+listed-at-requires : tie.Need-listed-at-requires
+listed-at-requires c κs = search needs
+
+listed-detail-requires : tie.Need-listed-detail-requires
+listed-detail-requires c κs = search needs
+
+listed-number-requires : tie.Need-listed-number-requires
+listed-number-requires c κs = search needs
+
+returns : tie.Need-returns
+returns c = (c .listed-number .ensures ∙ ap numberOf (c .before .before .listed-at .ensures), c .before .listed-detail .ensures ∙ ap entryDetail (c .before .before .listed-at .ensures))
+
+pub wardrail-listed-at-spec : {M : Type 1} → statement M
+wardrail-listed-at-spec =
+    tie.close (tie.spec listed-at-requires listed-detail-requires listed-number-requires returns)

@@ -1,0 +1,19 @@
+-- `wardrail_info_hash` meets its contract. Assumes nothing.
+use borrow.Author.Needs.{needs}
+use Rattle.sha1.specs.Digest.{Left}
+use Rattle.wardrail.specs.Said.{numberOf}
+use mathlib.Core.Path.{ap, _∙_}
+use Rattle.wardrail.proofs.torrents.wardrail_info_hash.Statement.{statement}
+use Rattle.wardrail.proofs.torrents.wardrail_info_hash.Tie as tie
+
+info-hash-requires : tie.Need-info-hash-requires
+info-hash-requires c κs = search needs
+
+hashed-number-requires : tie.Need-hashed-number-requires
+hashed-number-requires c κs = search needs
+
+returns : tie.Need-returns
+returns c = (c .hashed-number .ensures ∙ ap (λ (l : Left). numberOf (l .answer)) (c .before .info-hash .ensures), ap (λ (l : Left). l .out) (c .before .info-hash .ensures))
+
+pub wardrail-info-hash-spec : {M : Type 1} → statement M
+wardrail-info-hash-spec = tie.close (tie.spec info-hash-requires hashed-number-requires returns)

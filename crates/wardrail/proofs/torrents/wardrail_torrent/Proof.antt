@@ -1,0 +1,23 @@
+-- `wardrail_torrent` meets its contract. Assumes nothing.
+use borrow.Author.Needs.{needs}
+use Rattle.wardrail.specs.Torrents.{torrentDetail}
+use Rattle.wardrail.specs.Said.{numberOf}
+use mathlib.Core.Path.{ap, _∙_}
+use Rattle.wardrail.proofs.torrents.wardrail_torrent.Statement.{statement}
+use Rattle.wardrail.proofs.torrents.wardrail_torrent.Tie as tie
+
+read-requires : tie.Need-read-requires
+read-requires c κs = search needs
+
+torrent-detail-requires : tie.Need-torrent-detail-requires
+torrent-detail-requires c κs = search needs
+
+torrent-number-requires : tie.Need-torrent-number-requires
+torrent-number-requires c κs = search needs
+
+returns : tie.Need-returns
+returns c = (c .torrent-number .ensures ∙ ap numberOf (c .before .before .read .ensures), c .before .torrent-detail .ensures ∙ ap torrentDetail (c .before .before .read .ensures))
+
+pub wardrail-torrent-spec : {M : Type 1} → statement M
+wardrail-torrent-spec =
+    tie.close (tie.spec read-requires torrent-detail-requires torrent-number-requires returns)
