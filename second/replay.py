@@ -1,0 +1,231 @@
+"""The second program: answers a replay script (docs/REPLAY.md), one line for each call.
+
+    python3 second/replay.py < SCRIPT
+
+It is written from document 01 and from nothing of the proved code.
+"""
+
+import sys
+
+import bencode
+import blocks
+import torrent
+import tracker
+import wire
+from refusal import Refused
+from yard import Yard
+
+
+def unhex(word):
+    return b"" if word == "-" else bytes.fromhex(word)
+
+
+def to_hex(data):
+    return data.hex() or "-"
+
+
+def numbers(word):
+    return [] if word == "-" else [int(number) for number in word.split(",")]
+
+
+def answer_bencode(text):
+    _, count = bencode.read(unhex(text))
+    return f"taken {count}"
+
+
+def answer_torrent(text):
+    found = torrent.read(unhex(text))
+    pieces = blocks.pieces_in(found.total, found.piece_length)
+    names = f"{to_hex(found.announce)} {to_hex(found.name)}"
+    return f"taken {names} {found.piece_length} {pieces} {len(found.files)} {found.total} {to_hex(found.info_hash)}"
+
+
+def answer_file(text, number):
+    file = torrent.file_at(unhex(text), int(number))
+    path = "/".join(to_hex(element) for element in file.path)
+    return f"{file.start} {file.length} {path}"
+
+
+def answer_piece(text, number, data):
+    return "yes" if torrent.check_piece(unhex(text), int(number), unhex(data)) else "no"
+
+
+def answer_reply(text):
+    reply = tracker.read(unhex(text))
+    if reply.failure is not None:
+        return f"failure {to_hex(reply.failure)}"
+    return f"taken {reply.interval} {len(reply.peers)}"
+
+
+def answer_peer(text, number):
+    peer = tracker.peer_at(unhex(text), int(number))
+    peer_id = "none" if peer.id is None else to_hex(peer.id)
+    return f"{peer_id} {to_hex(peer.address)} {peer.port}"
+
+
+def answer_block(piece_length, lengths, piece, offset, length, room):
+    block = int(piece), int(offset), int(length)
+    parts = blocks.parts_of_block(int(piece_length), numbers(lengths), *block, int(room))
+    return " ".join(f"{file}:{at}:{count}" for file, at, count in parts)
+
+
+def answer_byte(piece_length, lengths, file, offset):
+    piece, at = blocks.piece_of_byte(int(piece_length), numbers(lengths), int(file), int(offset))
+    return f"{piece} {at}"
+
+
+def answer_frame(data):
+    frame = wire.read_frame(unhex(data))
+    if frame == wire.WAIT:
+        return "wait"
+    return f"taken {frame.used} {frame.id} {to_hex(frame.payload)}"
+
+
+def answer_handshake(data, info_hash):
+    handshake = wire.read_handshake(unhex(data), unhex(info_hash))
+    if handshake == wire.WAIT:
+        return "wait"
+    return f"taken {to_hex(handshake.free)} {to_hex(handshake.peer_id)}"
+
+
+def answer_write_torrent(announce, name, piece_length, length, pieces, room):
+    lengths = int(piece_length), int(length)
+    return to_hex(torrent.write(unhex(announce), unhex(name), *lengths, unhex(pieces), int(room)))
+
+
+def answer_write_reply(interval, peers, room):
+    return to_hex(tracker.write(int(interval), unhex(peers), int(room)))
+
+
+def answer_write_handshake(info_hash, peer_id, room):
+    return to_hex(wire.write_handshake(unhex(info_hash), unhex(peer_id), int(room)))
+
+
+def answer_write_frame(frame_id, payload, room):
+    if frame_id != wire.KEEPALIVE:
+        frame_id = int(frame_id)
+    return to_hex(wire.write_frame(frame_id, unhex(payload), int(room)))
+
+
+def answer_sha1(data):
+    return to_hex(torrent.digest_of(unhex(data)))
+
+
+def answer_sit(yard):
+    return f"seat {yard.sit()}"
+
+
+def answer_leave(yard, seat):
+    yard.leave(int(seat))
+    return "left"
+
+
+def answer_feed(yard, seat, data):
+    return yard.feed(int(seat), unhex(data))
+
+
+def answer_choke(yard, seat, on, room):
+    return to_hex(yard.set_choke(int(seat), on == "1", int(room)))
+
+
+def answer_interest(yard, seat, on, room):
+    return to_hex(yard.set_interest(int(seat), on == "1", int(room)))
+
+
+def answer_missing(yard, first, room):
+    page = yard.missing(int(first), int(room))
+    seats = ",".join(str(seat) for seat in page.seats) or "-"
+    return f"{seats} of {page.total} next {page.next}"
+
+
+def answer_scarcest(yard):
+    return f"piece {yard.scarcest()}"
+
+
+def answer_head(yard):
+    return f"{yard.taken()} {yard.complete()}"
+
+
+def answer_count(yard, piece):
+    return str(yard.holders(int(piece)))
+
+
+def answer_seat(yard, seat):
+    truck = yard.look(int(seat))
+    if truck is None:
+        return "free"
+    ours = f"{truck.we_choke:d} {truck.we_are_interested:d}"
+    theirs = f"{truck.they_choke:d} {truck.they_are_interested:d}"
+    return f"{'fresh' if truck.fresh else 'used'} {truck.held()} {ours} {theirs}"
+
+
+TEXT_CALLS = {
+    "bencode": answer_bencode,
+    "torrent": answer_torrent,
+    "file": answer_file,
+    "piece": answer_piece,
+    "reply": answer_reply,
+    "peer": answer_peer,
+    "block": answer_block,
+    "byte": answer_byte,
+    "frame": answer_frame,
+    "handshake": answer_handshake,
+    "write-torrent": answer_write_torrent,
+    "write-reply": answer_write_reply,
+    "write-handshake": answer_write_handshake,
+    "write-frame": answer_write_frame,
+    "sha1": answer_sha1,
+}
+
+YARD_CALLS = {
+    "sit": answer_sit,
+    "leave": answer_leave,
+    "feed": answer_feed,
+    "choke": answer_choke,
+    "interest": answer_interest,
+    "missing": answer_missing,
+    "scarcest": answer_scarcest,
+    "head": answer_head,
+    "count": answer_count,
+    "seat": answer_seat,
+}
+
+
+class Replay:
+    """A run of a script: what stays between its calls is the yard."""
+
+    def __init__(self):
+        self.yard = None
+
+    def answer(self, line):
+        call, *words = line.split(" ")
+        try:
+            return self.call(call, words)
+        except Refused as refusal:
+            return f"refused {refusal.number} at {refusal.place}"
+
+    def call(self, call, words):
+        if call == "start":
+            self.yard = Yard(*map(int, words))
+            return "started"
+        if call in TEXT_CALLS:
+            return TEXT_CALLS[call](*words)
+        answer = YARD_CALLS[call]
+        return "no yard" if self.yard is None else answer(self.yard, *words)
+
+
+def main():
+    replay = Replay()
+    for number, line in enumerate(sys.stdin, 1):
+        line = line.rstrip("\n")
+        if not line or line.startswith("#"):
+            continue
+        try:
+            answer = replay.answer(line)
+        except (KeyError, TypeError, ValueError) as fault:
+            sys.exit(f"line {number} is no call ({fault!r}): {line[:60]}")
+        print(answer)
+
+
+if __name__ == "__main__":
+    main()

@@ -1,0 +1,158 @@
+"""The yard: who sits where, and which pieces each truck has announced.
+
+Nothing is counted along the way. Seats taken, seats complete, pieces held and holders of a piece are worked out, when
+they are asked for, from what the trucks now seated have announced since they sat down. So no count can be damaged,
+and 39 is never given.
+"""
+
+from collections import namedtuple
+
+import blocks
+import wire
+from refusal import refuse_unless
+
+MOST_SEATS = 2_000
+
+# seats: those that fit; total: of the whole yard; next: the first one that is not listed, or the number of seats.
+Page = namedtuple("Page", "seats total next")
+
+
+class Truck:
+    """What is known of the truck in a taken seat. has: for each piece 1 if it has announced it, else 0."""
+
+    def __init__(self, pieces):
+        self.fresh = True
+        self.we_choke = True
+        self.we_are_interested = False
+        self.they_choke = True
+        self.they_are_interested = False
+        self.has = bytearray(pieces)
+
+    def held(self):
+        return self.has.count(1)
+
+    def is_complete(self):
+        return self.held() == len(self.has)
+
+
+class Yard:
+    def __init__(self, pieces, piece_length, last_length, seats):
+        refuse_unless(1 <= pieces <= blocks.MOST_PIECES, 38)
+        refuse_unless(1 <= seats <= MOST_SEATS, 38)
+        refuse_unless(blocks.is_piece_length(piece_length), 38)
+        refuse_unless(1 <= last_length <= piece_length, 38)
+        self.pieces = pieces
+        self.piece_length = piece_length
+        self.last_length = last_length
+        # A free seat is None.
+        self.seats = [None] * seats
+
+    def sit(self):
+        """The lowest free seat, now taken."""
+        refuse_unless(None in self.seats, 35)
+        seat = self.seats.index(None)
+        self.seats[seat] = Truck(self.pieces)
+        return seat
+
+    def leave(self, seat):
+        self.truck_at(seat)
+        self.seats[seat] = None
+
+    def feed(self, seat, data):
+        """The first frame of the bytes, taken, with "taken", "serve" or "drop"; or WAIT."""
+        truck = self.truck_at(seat)
+        frame = wire.read_frame(data)
+        if frame == wire.WAIT:
+            return wire.WAIT
+        answer = self.take(truck, frame)
+        truck.fresh = False
+        return f"{answer} {frame.used}"
+
+    def set_choke(self, seat, on, room):
+        truck = self.truck_at(seat)
+        frame = wire.write_frame(wire.CHOKE if on else wire.UNCHOKE, b"", room)
+        truck.we_choke = on
+        return frame
+
+    def set_interest(self, seat, on, room):
+        truck = self.truck_at(seat)
+        frame = wire.write_frame(wire.INTERESTED if on else wire.NOT_INTERESTED, b"", room)
+        truck.we_are_interested = on
+        return frame
+
+    def missing(self, first, room):
+        refuse_unless(first <= len(self.seats), 36)
+        missing = [seat for seat, truck in enumerate(self.seats) if truck and not truck.is_complete()]
+        ahead = [seat for seat in missing if seat >= first]
+        unlisted = ahead[room:]
+        return Page(ahead[:room], len(missing), unlisted[0] if unlisted else len(self.seats))
+
+    def scarcest(self):
+        """The smallest number among the pieces with fewest holders."""
+        rows = [truck.has for truck in self.trucks()]
+        holders = [sum(column) for column in zip(*rows)] or [0]
+        return holders.index(min(holders))
+
+    def taken(self):
+        return len(self.trucks())
+
+    def complete(self):
+        return sum(truck.is_complete() for truck in self.trucks())
+
+    def holders(self, piece):
+        refuse_unless(piece < self.pieces, 31)
+        return sum(truck.has[piece] for truck in self.trucks())
+
+    def look(self, seat):
+        """The truck in a seat, or None."""
+        refuse_unless(seat < len(self.seats), 36)
+        return self.seats[seat]
+
+    def trucks(self):
+        return [truck for truck in self.seats if truck]
+
+    def truck_at(self, seat):
+        truck = self.look(seat)
+        refuse_unless(truck, 36)
+        return truck
+
+    def take(self, truck, frame):
+        if frame.id in (wire.CHOKE, wire.UNCHOKE):
+            truck.they_choke = frame.id == wire.CHOKE
+        elif frame.id in (wire.INTERESTED, wire.NOT_INTERESTED):
+            truck.they_are_interested = frame.id == wire.INTERESTED
+        elif frame.id == wire.HAVE:
+            self.take_have(truck, frame.payload)
+        elif frame.id == wire.BITFIELD:
+            self.take_bitfield(truck, frame.payload)
+        elif frame.id in (wire.REQUEST, wire.CANCEL):
+            self.check_block(frame.payload, number_at(frame.payload, 8))
+        elif frame.id == wire.PIECE:
+            self.check_block(frame.payload, len(frame.payload) - 8)
+        if frame.id != wire.REQUEST:
+            return "taken"
+        return "serve" if truck.they_are_interested and not truck.we_choke else "drop"
+
+    def take_have(self, truck, payload):
+        piece = number_at(payload, 0)
+        refuse_unless(piece < self.pieces, 31)
+        truck.has[piece] = 1
+
+    def take_bitfield(self, truck, payload):
+        refuse_unless(truck.fresh, 30)
+        refuse_unless(len(payload) == (self.pieces + 7) // 8, 32)
+        # High bit first: the bits of the payload are those of one number, written in base two.
+        bits = format(int.from_bytes(payload, "big"), f"0{8 * len(payload)}b")
+        refuse_unless("1" not in bits[self.pieces :], 33)
+        # A fresh truck has announced nothing, so these are all it has.
+        truck.has = bytearray(bit == "1" for bit in bits[: self.pieces])
+
+    def check_block(self, payload, length):
+        piece = number_at(payload, 0)
+        refuse_unless(piece < self.pieces, 31)
+        is_last = piece == self.pieces - 1
+        blocks.check_block(number_at(payload, 4), length, self.last_length if is_last else self.piece_length)
+
+
+def number_at(payload, at):
+    return int.from_bytes(payload[at : at + 4], "big")
