@@ -1,0 +1,44 @@
+"""Writes the scripts of this folder, each with the answers that it has to get.
+
+    python3 tests/scripts/make.py           the small ones, which are stored, into this folder
+    python3 tests/scripts/make.py FOLDER    the big ones, which are not, into that folder
+
+The cases stand in the modules beside this one, calls and answers, from document 01.
+"""
+
+import sys
+from pathlib import Path
+
+import bencode_texts
+import block_calls
+import reply_texts
+import torrent_texts
+import wire_calls
+import written_texts
+import yard_calls
+
+MODULES = [bencode_texts, torrent_texts, reply_texts, block_calls, wire_calls, written_texts, yard_calls]
+
+
+def lines_of(cases):
+    for case in cases:
+        if case.shown:
+            yield f"# {case.shown}"
+        yield case.call
+
+
+def write(folder, name, cases):
+    (folder / f"{name}.script").write_text("".join(f"{line}\n" for line in lines_of(cases)))
+    (folder / f"{name}.expected").write_text("".join(f"{case.answer}\n" for case in cases))
+
+
+def main():
+    big = len(sys.argv) > 1
+    folder = Path(sys.argv[1]) if big else Path(__file__).parent
+    for module in MODULES:
+        for name, cases in (module.BIG if big else module.SMALL).items():
+            write(folder, name, cases())
+
+
+if __name__ == "__main__":
+    main()

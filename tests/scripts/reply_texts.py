@@ -1,0 +1,135 @@
+"""Tracker replies: both forms, failure reasons, every refusal at its place, and the order of the checks."""
+
+from notation import dictionary, faulty, integer, refused, string, text_case, to_hex
+
+ID = b"-WR0001-truck0000001"
+ENTRY = bytes([10, 0, 0, 7, 0x1A, 0xE1])
+
+
+def reply(interval=b"i1800e", peers=b"0:", mark=b"", **more):
+    entries = {b"interval": interval, b"peers": peers}
+    entries |= {key.replace("_", " ").encode(): value for key, value in more.items()}
+    return mark + dictionary(entries)
+
+
+def peer(peer_id=string(ID), ip=b"8:10.0.0.7", port=b"i6881e", mark=b""):
+    return mark + dictionary({b"peer id": peer_id, b"ip": ip, b"port": port})
+
+
+def listed(*peers):
+    return reply(peers=b"l" + b"".join(peers) + b"e")
+
+
+def taken(text, interval, count):
+    return text_case("reply", text, f"taken {interval} {count}")
+
+
+def bad(number, marked):
+    return faulty("reply", number, marked)
+
+
+def compact():
+    three = reply(peers=string(ENTRY + b"\xff\xff\xff\xff\xff\xff" + bytes(6)))
+    return [
+        text_case("reply", b"d8:intervali1800e5:peers5:abcdee", refused(15, 24)),
+        taken(reply(), 1800, 0),
+        taken(reply(peers=string(ENTRY)), 1800, 1),
+        taken(three, 1800, 3),
+        text_case("peer", three, "none 0a000007 6881", 0),
+        text_case("peer", three, "none ffffffff 65535", 1),
+        text_case("peer", three, "none 00000000 0", 2),
+        text_case("peer", three, refused(31), 3),
+        text_case("peer", reply(), refused(31), 0),
+        text_case("peer", three, refused(31), 4294967296),
+        *[bad(15, reply(peers=b"^" + string(b"x" * length))) for length in (1, 4, 5, 7, 11, 13, 18 + 1)],
+        text_case("peer", b"d8:intervali1800e5:peers5:abcdee", refused(15, 24), 0),
+    ]
+
+
+def in_list():
+    two = listed(peer(), peer(ip=b"0:", port=b"i0e"))
+    return [
+        taken(reply(peers=b"le"), 1800, 0),
+        taken(listed(peer()), 1800, 1),
+        taken(two, 1800, 2),
+        text_case("peer", two, f"{to_hex(ID)} {to_hex(b'10.0.0.7')} 6881", 0),
+        text_case("peer", two, f"{to_hex(ID)} - 0", 1),
+        text_case("peer", two, refused(31), 2),
+        text_case("peer", reply(peers=b"le"), refused(31), 0),
+        bad(10, listed(b"^le")),
+        bad(10, listed(peer(), b"^6:abcdef")),
+        bad(10, listed(peer(peer_id=None, mark=b"^"))),
+        bad(10, listed(peer(peer_id=b"^i20e"))),
+        bad(15, listed(peer(peer_id=b"^" + string(ID[1:])))),
+        bad(15, listed(peer(peer_id=b"^" + string(ID + b"x")))),
+        bad(15, listed(peer(peer_id=b"^0:"))),
+        bad(10, listed(peer(ip=None, mark=b"^"))),
+        bad(10, listed(peer(ip=b"^i1e"))),
+        bad(10, listed(peer(port=None, mark=b"^"))),
+        bad(10, listed(peer(port=b"^4:6881"))),
+        taken(listed(peer(port=b"i65535e")), 1800, 1),
+        bad(11, listed(peer(port=b"^i65536e"))),
+        bad(11, listed(peer(port=b"^i-1e"))),
+        bad(11, listed(peer(), peer(port=b"^i65536e"), peer(ip=None))),
+        taken(listed(dictionary({b"a": b"le", b"ip": b"0:", b"peer id": string(ID), b"port": b"i1e", b"z": b"de"})), 1800, 1),
+    ]
+
+
+def tops():
+    return [
+        text_case("reply", b"", refused(1, 0)),
+        bad(10, b"^le"),
+        bad(10, b"^4:spam"),
+        bad(10, b"^i1e"),
+        bad(10, b"^de"),
+        bad(10, reply(interval=None, mark=b"^")),
+        bad(10, reply(interval=b"^4:1800")),
+        bad(11, reply(interval=b"^i-1e")),
+        taken(reply(interval=b"i0e"), 0, 0),
+        taken(reply(interval=b"i2147483647e"), 2147483647, 0),
+        bad(11, reply(interval=b"^i2147483648e")),
+        bad(4, reply(interval=b"^i9223372036854775808e")),
+        bad(10, reply(peers=None, mark=b"^")),
+        bad(10, reply(peers=b"^i6e")),
+        bad(10, reply(peers=b"^de")),
+        taken(reply(complete=b"i5e", min_interval=b"i900e", tracker_id=b"le"), 1800, 0),
+        bad(3, b"d5:peers0:^8:intervali1800ee"),
+        bad(11, reply(interval=b"^i-1e", peers=b"1:x")),
+        bad(10, reply(interval=None, peers=b"1:x", mark=b"^")),
+    ]
+
+
+def failures():
+    beside = reply(interval=b"0:", peers=b"5:abcde", failure_reason=b"4:full")
+    return [
+        text_case("reply", b"d14:failure reason4:fulle", f"failure {to_hex(b'full')}"),
+        text_case("reply", b"d14:failure reason0:e", "failure -"),
+        text_case("reply", beside, f"failure {to_hex(b'full')}"),
+        text_case("peer", beside, refused(31), 0),
+        text_case("peer", b"d14:failure reason4:fulle", refused(31), 7),
+        bad(10, reply(failure_reason=b"^i1e")),
+        bad(10, reply(interval=b"i-1e", failure_reason=b"^le")),
+        bad(10, b"^d14:Failure reason4:fulle"),
+        bad(7, b"d14:failure reason4:fulle^x"),
+    ]
+
+
+def long_replies():
+    peers = [peer(peer_id=string(b"%020d" % number), port=integer(number)) for number in range(2000)]
+    text = listed(*peers)
+    entries = reply(peers=string(ENTRY * 170_000))
+    return [
+        taken(text, 1800, 2000),
+        text_case("peer", text, f"{to_hex(b'%020d' % 1999)} {to_hex(b'10.0.0.7')} 1999", 1999),
+        text_case("peer", text, refused(31), 2000),
+        bad(11, listed(*peers[:-1], peer(port=b"^i65536e"))),
+        taken(entries, 1800, 170_000),
+        text_case("peer", entries, "none 0a000007 6881", 169_999),
+        text_case("reply", reply(peers=string(ENTRY * 175_000)), refused(8)),
+        # 5 values beside the peers and 7 a peer: value 16,385 is the port of peer 2,340.
+        bad(6, listed(*(peers * 2)[:2339], peer(port=b"^i1e"), *peers)),
+    ]
+
+
+SMALL = {"replies": lambda: compact() + in_list() + tops() + failures()}
+BIG = {"replies-long": long_replies}
