@@ -4,26 +4,26 @@ use mathlib.Core.Bool.{Bool, true, false, cond, _&&_, and-eq-true-iff}
 use mathlib.Core.List.{List, _∷_}
 use Prim.Native.Nat.{ℕ, zero, suc, _*_}
 use native.Mathlib.Omega.{arith}
-use borrow.Author.Tests.{eq-eqb, eqb-true, le-leb}
+use borrow.Author.Tests.{eq-eqb, eqb-true, le-leb, leb-true}
 use lib.Dec.{eqb, leb}
 use lib.ListN.{length, getD, replicate, length-replicate, getD-replicate}
 use Rattle.refusal.specs.Paper.{taken, refused}
 use Rattle.refusal.specs.Numbers.{sizes}
 use Rattle.refusal.specs.Limits.{mostPieces, mostSeats}
 use Rattle.blocks.specs.Rules.{pieceLength}
-use Rattle.blocks.proofs.Legal.{is-piece-length}
+use Rattle.blocks.proofs.Legal.{is-piece-length, piece-length-is}
 use Rattle.tables.specs.Rows.{width}
 use Rattle.tables.specs.Seats.{cleared, holding}
 use Rattle.tables.specs.Tables.{Yard, done, sizesFit}
 use Rattle.tables.specs.Seating.{emptied, startOf}
 use Rattle.tables.specs.Step.{start}
-use Rattle.tables.specs.declared.Head.{Head}
 use Rattle.tables.proofs.Counts.{count-none, cannot}
 use Rattle.tables.proofs.Rows.{blank}
 use Rattle.tables.proofs.Sizing.{Fitting, fitting}
 use Rattle.history.specs.History.{History, entry, event, pieces, sizesWith, seated}
 use Rattle.history.specs.Says.{hasPiece, held, loaded, holders, headOf}
 use Rattle.history.specs.Expected.{no, startFits}
+use Rattle.history.specs.Run.{Sized}
 use Rattle.history.proofs.Agreeing.{Agrees, quiet-agrees, counted-fits}
 use Rattle.history.proofs.Calls.{Kept}
 
@@ -59,6 +59,36 @@ empty-agrees h y p l k w ok =
 pub both-true : (a b : Bool) → a ≡ true → b ≡ true → (a && b) ≡ true
 both-true a b p q = rw (p, q)
 
+-- the sizes fit exactly if they are legal and the tables have them
+pub sized-fits : (p l k : ℕ) (y : Yard) → Sized p l k y → fitsFor p l k y ≡ true
+unfolding sizesFit
+sized-fits p l k y s =
+    both-true _ _ (le-leb 1 p (s .some-pieces))
+    (both-true _ _ (le-leb p mostPieces (s .few-pieces))
+    (both-true _ _ (le-leb 1 (length (y .seats)) (s .some-seats))
+    (both-true _ _ (le-leb (length (y .seats)) mostSeats (s .few-seats))
+    (both-true _ _ (is-piece-length l (s .piece-length))
+    (both-true _ _ (le-leb 1 k (s .some-last))
+    (both-true _ _ (le-leb k l (s .last-within))
+    (both-true _ _ (eq-eqb (length (y .rows)) (length (y .seats) * width p) (s .rows-fit))
+    (both-true _ _ (eq-eqb (length (y .holders)) p (s .holders-fit)) refl))))))))
+
+pub fits-sized : (p l k : ℕ) (y : Yard) → fitsFor p l k y ≡ true → Sized p l k y
+fits-sized p l k y e =
+    let f : Fitting (emptied p l k y .head) (length (y .seats)) (length (y .rows)) (length (y .holders)) =
+    fitting (emptied p l k y .head) (length (y .seats)) (length (y .rows)) (length (y .holders)) e in
+    record {
+      some-pieces = f .some;
+      few-pieces = f .few;
+      some-seats = f .seat;
+      few-seats = f .seats;
+      piece-length = f .length;
+      some-last = f .last;
+      last-within = f .within;
+      rows-fit = f .row;
+      holders-fit = f .counts;
+    }
+
 iff : (a b : Bool) → (a ≡ true → b ≡ true) → (b ≡ true → a ≡ true) → a ≡ b
 iff true b f g = sym (f refl)
 iff false true f g = g refl
@@ -75,34 +105,31 @@ module _ (n : ℕ) (h : History) (y : Yard) (agrees : Agrees n h y) (p l k : ℕ
   fits-now : Fitting (headOf n h) n (length (y .rows)) (length (y .holders))
   fits-now = fitting (headOf n h) n (length (y .rows)) (length (y .holders)) (counted-fits n h y agrees (headOf n h .taken) (headOf n h .complete))
 
-  abbrev next : Head
-  next = emptied p l k y .head
-
   fits-then : fitsFor p l k y ≡ true → startFits h p l k ≡ true
   fits-then e =
-      let f : Fitting next (length (y .seats)) (length (y .rows)) (length (y .holders)) = fitting next (length (y .seats)) (length (y .rows)) (length (y .holders)) e in
-      both-true (eqb p (pieces h)) _ (eq-eqb p (pieces h) (omega (arith, f .counts, fits-now .counts)))
-      (both-true (pieceLength l) _ (is-piece-length l (f .length))
-      (both-true (leb 1 k) (leb k l) (le-leb 1 k (f .last)) (le-leb k l (f .within))))
+      let f : Sized p l k y = fits-sized p l k y e in
+      both-true (eqb p (pieces h)) _ (eq-eqb p (pieces h) (omega (arith, f .holders-fit, fits-now .counts)))
+      (both-true (pieceLength l) _ (is-piece-length l (f .piece-length))
+      (both-true (leb 1 k) (leb k l) (le-leb 1 k (f .some-last)) (le-leb k l (f .last-within))))
 
   then-fits : startFits h p l k ≡ true → fitsFor p l k y ≡ true
-  unfolding sizesFit
   then-fits e =
       let a = and-eq-true-iff (eqb p (pieces h)) _ .0 e in
       let b = and-eq-true-iff (pieceLength l) _ .0 (a .1) in
       let c = and-eq-true-iff (leb 1 k) (leb k l) .0 (b .1) in
       let q : p ≡ pieces h = eqb-true p (pieces h) (a .0) in
       let m : length (y .seats) ≡ n = agrees .seats-len in
-      let r : length (y .rows) ≡ length (y .seats) * width p = fits-now .row ∙ ap₂ (λ (a b : ℕ). a * width b) (sym m) (sym q) in
-      both-true _ _ (le-leb 1 p (omega (arith, fits-now .some)))
-      (both-true _ _ (le-leb p mostPieces (omega (arith, fits-now .few)))
-      (both-true _ _ (le-leb 1 (length (y .seats)) (omega (arith, fits-now .seat)))
-      (both-true _ _ (le-leb (length (y .seats)) mostSeats (omega (arith, fits-now .seats)))
-      (both-true _ _ (b .0)
-      (both-true _ _ (c .0)
-      (both-true _ _ (c .1)
-      (both-true _ _ (eq-eqb (length (y .rows)) (length (y .seats) * width p) r)
-      (both-true _ _ (eq-eqb (length (y .holders)) p (omega (arith, fits-now .counts))) refl))))))))
+      sized-fits p l k y record {
+        some-pieces = omega (arith, fits-now .some);
+        few-pieces = omega (arith, fits-now .few);
+        some-seats = omega (arith, fits-now .seat);
+        few-seats = omega (arith, fits-now .seats);
+        piece-length = piece-length-is l (b .0);
+        some-last = leb-true 1 k (c .0);
+        last-within = leb-true k l (c .1);
+        rows-fit = fits-now .row ∙ ap₂ (λ (a b : ℕ). a * width b) (sym m) (sym q);
+        holders-fit = fits-now .counts ∙ sym q;
+      }
 
   pub start-kept : (w : List ℕ) → Kept n h y agrees (start p l k) w (startOf p l k y) (cond (startFits h p l k) (taken done) (no sizes))
   unfolding startOf event sizesWith

@@ -1,6 +1,7 @@
 -- DEMAND 3. After an accepted start and any calls, refused ones among them, the tables are what the history of calls and answers says, and so is
 -- every answer. Assumes nothing.
 use mathlib.Core.Path.{_≡_, refl, sym, ap, ap₂, _∙_, subst}
+use mathlib.Core.Logic.{_↔_}
 use mathlib.Core.Bool.{true, and-eq-true-iff}
 use mathlib.Core.List.{List, [], _∷_}
 use Prim.Native.Nat.{ℕ, _<_}
@@ -23,10 +24,10 @@ use Rattle.tables.proofs.Counts.{count-le}
 use Rattle.history.specs.History.{History, entry, pieces, Sizes, sizes, seated, sizesWith}
 use Rattle.history.specs.Says.{hasPiece, loaded}
 use Rattle.history.specs.Expected.{startFits, answer, writes, written}
-use Rattle.history.specs.Run.{State, next, run, Accepted, after, Answered, started, and-then, Right, calls}
+use Rattle.history.specs.Run.{State, next, run, Accepted, Sized, after, Answered, started, and-then, Right, calls}
 use Rattle.history.proofs.Agreeing.{Agrees}
 use Rattle.history.proofs.Calls.{Kept, sizes-here, feed-kept, choke-kept, interest-kept, leave-kept}
-use Rattle.history.proofs.Starting.{fitsFor, empty-agrees, start-kept}
+use Rattle.history.proofs.Starting.{fitsFor, sized-fits, fits-sized, empty-agrees, start-kept}
 use Rattle.history.proofs.Looks.{sit-kept, lines-same, missing-kept, scarcest-kept, look-kept, has-kept, count-kept}
 
 -- ---- one call
@@ -90,6 +91,9 @@ module _ (p l k : ℕ) (y : Yard) (ok : Accepted p l k y) where
   unfolding step startOf
   accepted-fits = by-bool (fitsFor p l k y) (λ e. e) (λ e. absurd (subst IsTaken (sym (rw e at ok)) tt))
 
+  accepted-sized : Sized p l k y
+  accepted-sized = fits-sized p l k y accepted-fits
+
   start-agrees : (w : List ℕ) → Agrees (length (y .seats)) (entry (start p l k) (step (start p l k) y .answer) w ∷ []) (step (start p l k) y .yard)
   unfolding step startOf
   start-agrees w = rw accepted-fits (empty-agrees [] y p l k w accepted-fits)
@@ -101,6 +105,11 @@ module _ (p l k : ℕ) (y : Yard) (ok : Accepted p l k y) where
   start-pieces : (w : List ℕ) → pieces (entry (start p l k) (step (start p l k) y .answer) w ∷ []) ≡ p
   unfolding sizesWith
   start-pieces w = ap (λ (a : Outcome Said). pieces (entry (start p l k) a w ∷ [])) ok
+
+-- a start is accepted exactly if its sizes are legal and the tables have them, whatever is in them
+pub accepted-exactly : (p l k : ℕ) (y : Yard) → Accepted p l k y ↔ Sized p l k y
+unfolding step startOf
+accepted-exactly p l k y = (accepted-sized p l k y, λ s. rw (sized-fits p l k y s))
 
 -- ---- the number of pieces stays
 

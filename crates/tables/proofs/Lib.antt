@@ -6,3 +6,4 @@ pub mod Sizing
 pub mod Counts
 pub mod Rows
 pub mod Telling
+pub mod Keeping
