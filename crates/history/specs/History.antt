@@ -78,6 +78,7 @@ abbrev pub eventOf : ℕ → Call → Outcome Said → Event
 eventOf i c (taken a) = meaning i c a
 eventOf i c (refused n p) = nothing
 
+-- what an entry means for seat i
 unfoldable pub event : ℕ → Entry → Event
 event i e = eventOf i (e .call) (e .answer)
 
