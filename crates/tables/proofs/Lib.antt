@@ -7,3 +7,4 @@ pub mod Counts
 pub mod Rows
 pub mod Telling
 pub mod Keeping
+pub mod Single

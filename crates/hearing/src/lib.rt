@@ -1,0 +1,108 @@
+// A frame for a seat: the covered step behind the yard's call. It takes the head and the seat by value, and the rows and
+// the holder counts as they are lent; whatever they hold, a refusal and a wait leave them as they were.
+ghost use mathlib.Core.Path.{_≡_};
+ghost use Rattle.wire.specs.Frames.{message, meant};
+ghost use Rattle.tables.specs.Seats.{theyChoke, theyWant};
+ghost use Rattle.tables.specs.Tables.{around, turn};
+ghost use Rattle.tables.specs.Frames.{messageOf, feedOf};
+ghost use Rattle.hearing.specs.Steps.{Sized, Inside};
+use refusal::number;
+use tables::Answer;
+use tables::Head;
+use tables::Seat;
+use tables::Stepped;
+use tables::sizes;
+use tables::sizes::wide;
+use wire::Frame;
+use wire::Read;
+
+mod answer;
+mod block;
+mod news;
+mod row;
+
+// The bytes that came in for seat i of n.
+pub fn feed_step(
+    h: Head,
+    s: Seat,
+    rows: &mut [u8],
+    holders: &mut [u16],
+    i: usize,
+    n: usize,
+    bytes: &[u8],
+) -> Stepped
+    ensures { λ r. ⌜ turn r (now (rows .exit)) (now (holders .exit)) ≡ feedOf i (now (bytes .entry)) n (around h s (now (rows .entry)) (now (holders .entry))) ⌝ }
+{
+    let rows_len = rows.len();
+    let holders_len = holders.len();
+    if !sizes::sizes_fit(h, n, rows_len, holders_len) {
+        return answer::refused(h, s, number::SIZES);
+    }
+    if n <= i {
+        return answer::refused(h, s, number::SEAT);
+    }
+    if !s.taken {
+        return answer::refused(h, s, number::SEAT);
+    }
+    match wire::read_frame(bytes) {
+        Read::Wait => answer::waiting(h, s),
+        Read::Refused(r) => answer::refused(h, s, r.number),
+        Read::Keepalive(used) => answer::passed(h, s, used),
+        Read::Whole(f, used) => frame_step(h, s, rows, holders, i, n, bytes, f, used),
+    }
+}
+
+// A frame with an id. The others of these go by what it says.
+fn frame_step(
+    h: Head,
+    s: Seat,
+    rows: &mut [u8],
+    holders: &mut [u16],
+    i: usize,
+    n: usize,
+    bytes: &[u8],
+    f: Frame,
+    used: usize,
+) -> Stepped
+    requires { ⌜ Sized h n i (now rows) (now holders) × Inside (now bytes) (message f) ⌝ }
+    ensures { λ r. ⌜ turn r (now (rows .exit)) (now (holders .exit)) ≡ messageOf n i used (meant (now (bytes .entry)) (message f)) (around h s (now (rows .entry)) (now (holders .entry))) ⌝ }
+{
+    match f {
+        Frame::Choke => answer::passed(h, they_choke(s, true), used),
+        Frame::Unchoke => answer::passed(h, they_choke(s, false), used),
+        Frame::Interested => answer::passed(h, they_want(s, true), used),
+        Frame::NotInterested => answer::passed(h, they_want(s, false), used),
+        Frame::Have(p) => news::have_step(h, s, rows, holders, i, n, used, wide(p)),
+        Frame::Bitfield(part) => {
+            let from = part.from;
+            let end = from + part.len;
+            news::bitfield_step(h, s, rows, holders, i, n, used, &bytes[from..end])
+        }
+        Frame::Request(p, begin, len) => {
+            block::block_step(h, s, p, begin, wide(len), block::asked(s, used))
+        }
+        Frame::Piece(p, begin, part) => {
+            block::block_step(h, s, p, begin, part.len, Answer::Taken(used))
+        }
+        Frame::Cancel(p, begin, len) => {
+            block::block_step(h, s, p, begin, wide(len), Answer::Taken(used))
+        }
+        Frame::Other(_, _) => answer::passed(h, s, used),
+    }
+}
+
+fn they_choke(s: Seat, b: bool) -> Seat
+    ensures { λ r. ⌜ r ≡ theyChoke b s ⌝ }
+{
+    let mut t = s;
+    t.peer_choking = b;
+    t
+}
+
+fn they_want(s: Seat, b: bool) -> Seat
+    ensures { λ r. ⌜ r ≡ theyWant b s ⌝ }
+{
+    let mut t = s;
+    t.peer_interested = b;
+    t
+}
