@@ -1,0 +1,4 @@
+pub mod Lines
+pub mod Star
+pub mod Runs
+pub mod Places
