@@ -1,7 +1,7 @@
 """Writes the scripts of this folder, each with the answers that it has to get.
 
     python3 tests/scripts/make.py           the small ones, which are stored, into this folder
-    python3 tests/scripts/make.py FOLDER    the big ones, which are not, into that folder
+    python3 tests/scripts/make.py FOLDER    all, the big ones too, into that folder
 
 The cases stand in the modules beside this one, calls and answers, from document 01.
 """
@@ -32,12 +32,24 @@ def write(folder, name, cases):
     (folder / f"{name}.expected").write_text("".join(f"{case.answer}\n" for case in cases))
 
 
-def main():
-    big = len(sys.argv) > 1
-    folder = Path(sys.argv[1]) if big else Path(__file__).parent
+def write_small(folder):
     for module in MODULES:
-        for name, cases in (module.BIG if big else module.SMALL).items():
+        for name, cases in module.SMALL.items():
             write(folder, name, cases())
+
+
+def write_big(folder):
+    for module in MODULES:
+        for name, cases in module.BIG.items():
+            write(folder, name, cases())
+
+
+def main():
+    if len(sys.argv) == 1:
+        write_small(Path(__file__).parent)
+    else:
+        write_small(Path(sys.argv[1]))
+        write_big(Path(sys.argv[1]))
 
 
 if __name__ == "__main__":

@@ -1,0 +1,552 @@
+"""Prints a random script of docs/REPLAY.md, the same one for the same seed.
+
+    python3 tests/random_scripts.py --seed N --calls M [--kind texts|torrents|replies|blocks|wire|yard|all]
+
+Texts, frames and calls are made so that they would be taken, and then some are altered, damaged, cut or joined, so
+that most faults are near misses. Each kind is an endless generator of calls.
+"""
+
+import argparse
+from hashlib import sha1
+from random import Random
+
+PIECE_LENGTHS = [2**power for power in range(14, 25)]
+LARGEST_FILE = 274_877_906_944
+PROTOCOL = b"\x13BitTorrent protocol"
+
+
+def to_hex(data):
+    return data.hex() or "-"
+
+
+# Values: bytes, int, list and dict with bytes for keys; Raw stands for itself.
+
+
+class Raw(bytes):
+    pass
+
+
+def encode(value):
+    if isinstance(value, Raw):
+        return bytes(value)
+    if isinstance(value, bytes):
+        return b"%d:%s" % (len(value), value)
+    if isinstance(value, int):
+        return b"i%de" % value
+    if isinstance(value, list):
+        return b"l" + b"".join(map(encode, value)) + b"e"
+    return b"d" + b"".join(encode(key) + encode(value[key]) for key in sorted(value)) + b"e"
+
+
+def random_bytes(rng, most):
+    alphabet = rng.choice([b"ab", b"0123456789:eild-", bytes(range(256))])
+    return bytes(rng.choice(alphabet) for _ in range(rng.randint(0, most)))
+
+
+def random_integer(rng):
+    edge = rng.choice([0, 0, 1, 10, 16384, 65536, 2**31, 2**32, 2**63, 10**19, 10**40])
+    return rng.choice([-1, 1]) * (edge + rng.randint(-2, 2))
+
+
+def random_value(rng, levels):
+    kind = rng.choice(["string", "integer", "list", "dictionary"] if levels else ["string", "integer"])
+    if kind == "string":
+        return random_bytes(rng, 12)
+    if kind == "integer":
+        return random_integer(rng) if rng.random() < 0.3 else rng.randint(-20, 20)
+    if kind == "list":
+        return [random_value(rng, levels - 1) for _ in range(rng.randint(0, 4))]
+    return {random_bytes(rng, 4): random_value(rng, levels - 1) for _ in range(rng.randint(0, 4))}
+
+
+def alter(rng, value):
+    """The value with one part of it, found by walking down, replaced, left out or added to."""
+    if isinstance(value, list) and value and rng.random() < 0.85:
+        at = rng.randrange(len(value))
+        return value[:at] + rng.choice([[alter(rng, value[at])]] * 6 + [[], [value[at]] * 2]) + value[at + 1 :]
+    if isinstance(value, dict) and value and rng.random() < 0.85:
+        key = rng.choice(sorted(value))
+        others = {other: value[other] for other in value if other != key}
+        return rng.choice([others | {key: alter(rng, value[key])}] * 6 + [others, value | {random_bytes(rng, 6): 1}])
+    if isinstance(value, int) and rng.random() < 0.7:
+        return rng.choice([value + 1, value - 1, -value, value * 2, random_integer(rng)])
+    if isinstance(value, bytes) and rng.random() < 0.7:
+        return rng.choice([value[1:], value + b"x", b"", b".", b"..", b"a/b", b"a\0", value[::-1]])
+    return random_value(rng, 2)
+
+
+def damage(rng, data):
+    """The bytes with one damage at a random place."""
+    at = rng.randint(0, len(data))
+    byte = bytes([rng.choice([rng.randrange(256), *b"0123456789:eild-"])])
+    way = rng.randrange(7)
+    if way == 0:
+        return data[:at]
+    if way == 1:
+        return data[:at] + byte + data[at:]
+    if way == 2:
+        return data[:at] + byte + data[at + 1 :]
+    if way == 3:
+        return data[:at] + data[at + 1 :]
+    if way == 4:
+        return data + byte
+    if way == 5:
+        return data[:at] + data[at : at + rng.randint(1, 9)] * 2 + data[at:]
+    return data[:at] + bytes([data[at] ^ 1 << rng.randrange(8)]) + data[at + 1 :] if at < len(data) else byte
+
+
+def text_of(rng, value):
+    """The encoding of a value, mostly after one alteration or damage."""
+    chance = rng.random()
+    if chance < 0.45:
+        value = alter(rng, value)
+    text = encode(value)
+    if chance > 0.75:
+        text = damage(rng, text)
+    if chance > 0.95:
+        text = damage(rng, text)
+    return text
+
+
+# Bencode.
+
+
+def nested(rng):
+    """Lists and dictionaries nested to about the deepest level."""
+    text = rng.choice([b"", b"0:", b"i1e", b"x"])
+    for _ in range(rng.randint(29, 35)):
+        text = rng.choice([b"l%se", b"d1:a%se"]) % (text or b"le")
+    return text
+
+
+def crowded(rng):
+    """About as many values as are allowed."""
+    count = 16_384 + rng.randint(-4, 4)
+    tail = rng.choice([b"e", b"lee", b"d1:a0:ee", b"xe", b""])
+    return b"l" + rng.choice([b"0:", b"le", b"i7e"]) * (count - 4) + tail
+
+
+def dictionary_text(rng):
+    """A dictionary whose keys are close to each other, in order or nearly so."""
+    keys = sorted(random_bytes(rng, 3) for _ in range(rng.randint(1, 6)))
+    if rng.random() < 0.4:
+        rng.shuffle(keys)
+    if rng.random() < 0.6:
+        keys = sorted(set(keys))
+    return b"d" + b"".join(encode(key) + encode(random_value(rng, 1)) for key in keys) + b"e"
+
+
+def random_text(rng):
+    chance = rng.random()
+    if chance < 0.04:
+        return nested(rng)
+    if chance < 0.043:
+        return crowded(rng)
+    if chance < 0.2:
+        return dictionary_text(rng)
+    if chance < 0.3:
+        return random_bytes(rng, 12)
+    return text_of(rng, random_value(rng, rng.randint(0, 5)))
+
+
+def texts(rng):
+    while True:
+        yield f"bencode {to_hex(random_text(rng))}"
+
+
+# Torrents.
+
+
+def random_name(rng):
+    return rng.choice([b"a", b"route", b"map 7", b"...", b"%", b"\xc3\xa4", b".x", random_bytes(rng, 5) or b"n"])
+
+
+def random_lengths(rng, piece_length):
+    """File lengths of few pieces in all, many of them 0 or near a piece's end."""
+    near = [0, 0, 1, 5, piece_length - 1, piece_length, piece_length + 1, 16_384, rng.randrange(3 * piece_length)]
+    return [rng.choice(near) for _ in range(rng.choice([1, 1, 2, 3, 5, 9]))]
+
+
+def pieces_in(total, piece_length):
+    return (total + piece_length - 1) // piece_length
+
+
+def random_torrent(rng, content=None):
+    """The value of a torrent; of one piece, with its hash, if the content is given."""
+    if content is None:
+        piece_length = rng.choice(PIECE_LENGTHS)
+        lengths = random_lengths(rng, piece_length)
+        hashes = rng.randbytes(20 * pieces_in(sum(lengths), piece_length))
+    else:
+        piece_length, lengths, hashes = 16_384, [len(content)], sha1(content).digest()
+    info = {b"name": random_name(rng), b"piece length": piece_length, b"pieces": hashes}
+    if len(lengths) == 1 and rng.random() < 0.7:
+        info[b"length"] = lengths[0]
+    else:
+        paths = [[random_name(rng) for _ in range(rng.randint(1, 3))] for _ in lengths]
+        info[b"files"] = [{b"length": length, b"path": path} for length, path in zip(lengths, paths)]
+    if rng.random() < 0.2:
+        info[rng.choice([b"private", b"md5sum", b"a", b"nam", b"name.utf-8"])] = random_value(rng, 2)
+    top = {b"announce": rng.choice([b"", b"http://yard/ann"]), b"info": info}
+    if rng.random() < 0.2:
+        top[rng.choice([b"comment", b"creation date", b"a", b"zz"])] = random_value(rng, 2)
+    return top
+
+
+def piece_call(rng):
+    data = random_bytes(rng, 40) or b"x"
+    top = random_torrent(rng, data)
+    text = encode(top) if rng.random() < 0.8 else text_of(rng, top)
+    data = data if rng.random() < 0.6 else damage(rng, data)
+    return f"piece {to_hex(text)} {rng.choice([0, 0, 0, 0, 1, 2**32])} {to_hex(data)}"
+
+
+def write_torrent_call(rng):
+    piece_length = rng.choice(PIECE_LENGTHS)
+    length = max(1, rng.choice(random_lengths(rng, piece_length)))
+    pieces = rng.randbytes(20 * pieces_in(length, piece_length))
+    name, announce = random_name(rng), random_bytes(rng, 20)
+    room = 1000
+    fault = rng.randrange(12)
+    if fault == 0:
+        name = rng.choice([b"", b".", b"..", b"a/b", b"a\0"])
+    elif fault == 1:
+        piece_length = rng.choice([0, piece_length + 1, piece_length // 2, piece_length * 2])
+    elif fault == 2:
+        length = rng.choice([0, LARGEST_FILE, LARGEST_FILE + 1, 2**62, length + 1, length + piece_length])
+    elif fault == 3:
+        pieces = damage(rng, pieces)
+    elif fault == 4:
+        room = rng.randint(0, 200)
+    return f"write-torrent {to_hex(announce)} {to_hex(name)} {piece_length} {length} {to_hex(pieces)} {room}"
+
+
+def torrents(rng):
+    while True:
+        text = to_hex(text_of(rng, random_torrent(rng)))
+        yield rng.choice([
+            f"torrent {text}",
+            f"torrent {text}",
+            f"file {text} {rng.randint(0, 5)}",
+            piece_call(rng),
+            write_torrent_call(rng),
+        ])
+
+
+# Tracker replies.
+
+
+def random_peers(rng):
+    if rng.random() < 0.5:
+        return rng.randbytes(6 * rng.randint(0, 5))
+    return [
+        {b"peer id": rng.randbytes(20), b"ip": random_bytes(rng, 9), b"port": rng.choice([0, 6881, 65535, 65536])}
+        for _ in range(rng.randint(0, 3))
+    ]
+
+
+def random_reply(rng):
+    top = {b"interval": rng.choice([0, 1800, 2**31 - 1, rng.randrange(9999)]), b"peers": random_peers(rng)}
+    if rng.random() < 0.15:
+        top[b"failure reason"] = random_bytes(rng, 9)
+    if rng.random() < 0.2:
+        top[rng.choice([b"complete", b"min interval", b"peers6", b"tracker id"])] = random_value(rng, 2)
+    return top
+
+
+def write_reply_call(rng):
+    interval = rng.choice([0, 1800, 2**31 - 1, 2**31, 2**32, 2**62])
+    peers = rng.randbytes(rng.choice([0, 6, 6, 12, 18, 5, 7]))
+    return f"write-reply {interval} {to_hex(peers)} {rng.choice([100, 100, rng.randint(0, 60)])}"
+
+
+def replies(rng):
+    while True:
+        text = to_hex(text_of(rng, random_reply(rng)))
+        yield rng.choice([
+            f"reply {text}", f"reply {text}", f"peer {text} {rng.randint(0, 4)}", write_reply_call(rng),
+        ])
+
+
+# Blocks.
+
+
+def random_content(rng):
+    piece_length = rng.choice(PIECE_LENGTHS)
+    if rng.random() < 0.3:
+        lengths = [rng.randint(0, 3) for _ in range(rng.choice([3, 40, 1023, 1024, 1025]))]
+    else:
+        lengths = random_lengths(rng, piece_length)
+    if rng.random() < 0.06:
+        lengths.append(rng.choice([LARGEST_FILE, LARGEST_FILE + 1, 2**63, 2**64 - 1, 16_384 * piece_length]))
+    if rng.random() < 0.04:
+        piece_length += rng.choice([1, -1, piece_length // 2, 2**32])
+    return piece_length, lengths
+
+
+def random_block(rng, piece_length, total):
+    """Piece, offset and length, mostly inside the content, often at an edge."""
+    pieces = max(1, pieces_in(total, piece_length))
+    piece = rng.randrange(pieces)
+    if rng.random() < 0.3:
+        piece = rng.choice([0, pieces - 1, pieces, 2**32 - 1])
+    size = max(1, min(piece_length, total - piece * piece_length))
+    length = min(size, rng.choice([1, 2, 16_383, 16_384, rng.randint(1, 16_384)]))
+    offset = rng.choice([0, size - length, rng.randint(0, size - length)])
+    if rng.random() < 0.25:
+        length = rng.choice([0, length + 1, 16_385, 2**32 - 1])
+    if rng.random() < 0.15:
+        offset = rng.choice([offset + 1, size, 2**32 - 1])
+    return piece, offset, length
+
+
+def blocks(rng):
+    while True:
+        piece_length, lengths = random_content(rng)
+        content = f"{piece_length} {','.join(map(str, lengths))}"
+        if rng.random() < 0.7:
+            piece, offset, length = random_block(rng, piece_length, sum(lengths))
+            yield f"block {content} {piece} {offset} {length} {rng.choice([1024, 1024, rng.randint(0, 4)])}"
+        else:
+            file = min(rng.randrange(len(lengths) + 1), rng.choice([3, 2000]))
+            length = lengths[file] if file < len(lengths) else 0
+            offset = rng.choice([0, length, max(0, length - 1), length // 2])
+            yield f"byte {content} {file} {offset}"
+
+
+# The wire.
+
+
+def frame(frame_id, payload=b""):
+    return (len(payload) + 1).to_bytes(4, "big") + bytes([frame_id]) + payload
+
+
+def number(value):
+    return (value % 2**32).to_bytes(4, "big")
+
+
+def random_frame(rng):
+    frame_id = rng.choice([0, 1, 2, 3, 4, 5, 6, 7, 8, 9, 20, 255])
+    sizes = {4: 4, 5: rng.randint(1, 9), 6: 12, 7: 8 + rng.randint(1, 9), 8: 12}
+    size = sizes.get(frame_id, 0 if frame_id < 4 else rng.randint(0, 9))
+    if rng.random() < 0.15:
+        size = max(0, size + rng.choice([-1, 1]))
+    if rng.random() < 0.03:
+        size = rng.choice([2047, 2048, 2049, 16_391, 16_392, 16_393])
+    return bytes(4) if rng.random() < 0.08 else frame(frame_id, rng.randbytes(size))
+
+
+def cut_or_joined(rng, data, other):
+    chance = rng.random()
+    if chance < 0.2:
+        return data[: rng.randint(0, len(data))]
+    if chance < 0.4:
+        return data + other[: rng.randint(0, len(other))]
+    return damage(rng, data) if chance < 0.5 else data
+
+
+def handshake_call(rng):
+    info_hash = rng.randbytes(20)
+    data = PROTOCOL + rng.randbytes(8) + info_hash + rng.randbytes(20)
+    other = info_hash if rng.random() < 0.8 else damage(rng, info_hash)[:20].ljust(20, b"\0")
+    return f"handshake {to_hex(cut_or_joined(rng, data, rng.randbytes(9)))} {to_hex(other)}"
+
+
+def write_frame_call(rng):
+    if rng.random() < 0.1:
+        return f"write-frame keepalive - {rng.randint(0, 6)}"
+    whole = random_frame(rng)
+    frame_id, payload = (whole[4] % 9, whole[5:]) if len(whole) > 4 else (0, b"")
+    room = rng.choice([20_000, 20_000, len(whole), len(whole) - 1, rng.randint(0, 20)])
+    return f"write-frame {frame_id} {to_hex(payload)} {room}"
+
+
+def write_handshake_call(rng):
+    return f"write-handshake {rng.randbytes(20).hex()} {rng.randbytes(20).hex()} {rng.choice([68, 100, 67, 0])}"
+
+
+def wire(rng):
+    while True:
+        yield rng.choice([
+            f"frame {to_hex(cut_or_joined(rng, random_frame(rng), random_frame(rng)))}",
+            f"frame {to_hex(cut_or_joined(rng, random_frame(rng), random_frame(rng)))}",
+            handshake_call(rng),
+            write_frame_call(rng),
+            write_handshake_call(rng),
+            f"sha1 {to_hex(rng.randbytes(rng.randint(0, 200)))}",
+        ])
+
+
+# The yard.
+
+
+class YardCalls:
+    """A history of calls for one yard. It keeps which seats are taken, so that most calls name a seated truck."""
+
+    def __init__(self, rng):
+        self.rng = rng
+        self.size()
+
+    def size(self):
+        rng = self.rng
+        self.pieces, self.seats = rng.choice([
+            (rng.randint(1, 9), rng.randint(1, 4)),
+            (rng.randint(1, 9), rng.randint(1, 4)),
+            (rng.randint(1, 20), rng.randint(1, 9)),
+            (rng.randint(1, 300), rng.randint(1, 60)),
+            (rng.randint(16_300, 16_384), rng.randint(1, 2_000)) if rng.random() < 0.2 else (8, 3),
+        ])
+        self.piece_length = rng.choice(PIECE_LENGTHS)
+        self.last_length = rng.choice([1, 5, self.piece_length - 1, self.piece_length])
+        self.taken = set()
+        # Seats whose next frame is likely to be a bitfield.
+        self.fresh = set()
+
+    def calls(self):
+        rng = self.rng
+        if rng.random() < 0.3:
+            yield rng.choice(["sit", "head", "missing 0 1", "leave 0", "seat 0", "scarcest"])
+        yield from self.opening()
+        ways = [self.sit, self.leave, self.feed, self.mark, self.look]
+        while True:
+            if rng.random() < 0.004:
+                self.size()
+                yield from self.opening()
+            elif rng.random() < 0.004:
+                yield self.refused_start()
+            else:
+                yield rng.choices(ways, [12, 5, 60, 8, 15])[0]()
+
+    def opening(self):
+        yield self.start()
+        for _ in range(self.rng.choice([0, 1, self.seats // 2, self.seats, 2 * self.seats]) % 500):
+            yield self.sit()
+
+    def start(self):
+        return f"start {self.pieces} {self.piece_length} {self.last_length} {self.seats}"
+
+    def refused_start(self):
+        sizes = [self.pieces, self.piece_length, self.last_length, self.seats]
+        wrong = [[0, 16_385, 2**32], [0, 1, 16_383, 24_576, 2**25], [0, self.piece_length + 1], [0, 2_001, 2**32]]
+        at = self.rng.randrange(4)
+        sizes[at] = self.rng.choice(wrong[at])
+        return "start " + " ".join(map(str, sizes))
+
+    def sit(self):
+        free = next((seat for seat in range(self.seats) if seat not in self.taken), None)
+        if free is not None:
+            self.taken.add(free)
+            self.fresh.add(free)
+        return "sit"
+
+    def leave(self):
+        seat = self.seat()
+        self.taken.discard(seat)
+        return f"leave {seat}"
+
+    def seat(self):
+        if self.taken and self.rng.random() < 0.95:
+            return self.rng.choice(sorted(self.taken))
+        return self.rng.choice([self.rng.randrange(self.seats), self.seats, self.seats + 1, 2**32])
+
+    def piece(self):
+        if self.rng.random() < 0.93:
+            return self.rng.randrange(self.pieces)
+        return self.rng.choice([self.pieces - 1, self.pieces, 2**31, 2**32 - 1])
+
+    def mark(self):
+        call = self.rng.choice(["choke", "interest"])
+        return f"{call} {self.seat()} {self.rng.choice('00001')} {self.rng.choice([5, 5, 5, 9, 4, 0])}"
+
+    def look(self):
+        rng = self.rng
+        first = rng.choice([0, 0, rng.randint(0, self.seats), self.seats, self.seats + 1])
+        return rng.choice([
+            f"missing {first} {rng.choice([0, 1, 2, 3, self.seats])}",
+            f"missing {first} {rng.choice([0, 1, 2, 3, self.seats])}",
+            "scarcest" if self.pieces < 5_000 or rng.random() < 0.1 else "head",
+            "head",
+            "head",
+            f"count {self.piece()}",
+            f"seat {self.seat()}",
+            f"seat {rng.randrange(self.seats)}",
+        ])
+
+    def feed(self):
+        seat = self.seat()
+        data = self.bitfield() if seat in self.fresh and self.rng.random() < 0.6 else self.frame()
+        if self.rng.random() < 0.15:
+            data = cut_or_joined(self.rng, data, self.frame())
+        if self.rng.random() < 0.7:
+            self.fresh.discard(seat)
+        return f"feed {seat} {to_hex(data)}"
+
+    def frame(self):
+        return self.rng.choices(
+            [self.have, self.bitfield, self.request, self.block, self.plain, lambda: bytes(4), self.other],
+            [40, 12, 12, 5, 15, 2, 2],
+        )[0]()
+
+    def have(self):
+        return frame(4, number(self.piece()))
+
+    def bitfield(self):
+        size = (self.pieces + 7) // 8
+        spare = 8 * size - self.pieces
+        bits = self.rng.choice([self.rng.getrandbits(self.pieces), 2**self.pieces - 1, 2**self.pieces - 2, 0]) << spare
+        if self.rng.random() < 0.1 and spare:
+            bits |= 1 << self.rng.randrange(spare)
+        payload = bits.to_bytes(size, "big")
+        if self.rng.random() < 0.08:
+            payload = self.rng.choice([payload + b"\0", payload[:-1] or b"\0\0"])
+        return frame(5, payload)
+
+    def block_numbers(self):
+        total = (self.pieces - 1) * self.piece_length + self.last_length
+        return random_block(self.rng, self.piece_length, total)
+
+    def request(self):
+        return frame(self.rng.choice([6, 6, 8]), b"".join(map(number, self.block_numbers())))
+
+    def block(self):
+        piece, offset, length = self.block_numbers()
+        return frame(7, number(piece) + number(offset) + bytes(min(length, self.rng.choice([1, 30, 30, 16_384]))))
+
+    def plain(self):
+        return frame(self.rng.choice([0, 1, 2, 2, 3]))
+
+    def other(self):
+        return random_frame(self.rng)
+
+
+def yard(rng):
+    return YardCalls(rng).calls()
+
+
+KINDS = {"texts": texts, "torrents": torrents, "replies": replies, "blocks": blocks, "wire": wire, "yard": yard}
+
+
+def everything(rng):
+    """All kinds in one script, the yard's calls half of it."""
+    streams = [make(rng) for make in KINDS.values()]
+    while True:
+        yield next(rng.choices(streams, [1, 1, 1, 1, 1, 5])[0])
+
+
+def script(seed, calls, kind="all"):
+    rng = Random(f"{seed} {kind}")
+    stream = KINDS.get(kind, everything)(rng)
+    return [next(stream) for _ in range(calls)]
+
+
+def main():
+    parser = argparse.ArgumentParser(description="Prints a random replay script.")
+    parser.add_argument("--seed", type=int, required=True)
+    parser.add_argument("--calls", type=int, required=True)
+    parser.add_argument("--kind", choices=[*KINDS, "all"], default="all")
+    options = parser.parse_args()
+    print("\n".join(script(options.seed, options.calls, options.kind)))
+
+
+if __name__ == "__main__":
+    main()
