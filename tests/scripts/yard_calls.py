@@ -226,6 +226,9 @@ def freshness():
     ]:
         pairs += [(f"feed 0 {frame}", answer), ("seat 0", "fresh 0 1 0 1 0")]
     pairs += [(f"feed 0 {full}", "taken 6"), ("seat 0", "used 3 1 0 1 0"), ("head", "1 1")]
+    # 30 comes before 32 and 33, and 21 before all three.
+    for frame, number in [(full, 30), (bitfield("e000"), 30), (bitfield("f0"), 30), (bitfield(""), 21)]:
+        pairs += [(f"feed 0 {frame}", refused(number)), ("seat 0", "used 3 1 0 1 0")]
     return steps(*pairs)
 
 
