@@ -10,3 +10,4 @@ pub mod Fair
 pub mod Serving
 pub mod Pages
 pub mod Demand
+pub mod Damage

@@ -3,4 +3,5 @@ pub mod Says
 pub mod Expected
 pub mod Causes
 pub mod Run
+pub mod Damage
 pub mod Stars
