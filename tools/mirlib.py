@@ -1,5 +1,6 @@
 """`rt mir`'s output, parsed: functions as (locals, statements)."""
-import re, subprocess
+import functools, re, subprocess
+@functools.cache
 def load(crate, root):
     t = subprocess.run(['rt','mir',crate],capture_output=True,text=True,cwd=root).stdout
     tok = re.findall(r'\(|\)|"[^"]*"|[^\s()]+', t); pos = 0; stack = [[]]

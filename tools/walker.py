@@ -101,20 +101,21 @@ class Thin:
     def goes(s, p, J, n): return {'val':f'goes-none 𝓤 H A W {n} (λ _. {s.row(p[2])}) yes (λ κs x f. refl)','mref':f'goes-ref 𝓤 H A W {n} {J.get(p[0])} tt (plain (λ _. {s.row(p[2])}))','mslice':f'goes-slice 𝓤 H A W {n} {J.get(p[0])} tt (plain (λ _. {s.row(p[2])}))','slice':f'goes-none-slice 𝓤 H A W {n} ({J.get(p[0])} ∷ []) tt (plain (λ _. {s.row(p[2])})) yes'}[p[1]]
 
     def gen(s, fn, says):
-        cr = s.cr; F = s.fns[fn]; ps = F['params']; res = F['result']
+        cr = s.cr; F = s.fns[f'{cr}::{fn}']; ps = F['params']; res = F['result']
         refs = [p for p in ps if p[1] != 'val']; J = {p[0]: j for j,p in enumerate(refs)}; n = len(refs)
         types, stmts = mirlib.get(cr, ROOT, fn); N = len(types)
-        callees = []; at = {}
+        callees = []
         for sm in stmts:
             if sm[0] == 'call':
-                c = sm[1][1][1].strip('"').split('::')[-1]; at[c] = sm[1][1][1].strip('"').split('::')[0]
+                c = sm[1][1][1].strip('"')
                 if c not in callees: callees.append(c)
+        key = lambda c: '·'.join(dash(x) for x in c.split('::')); mod = lambda c: s.P(c.split('::')[0], '.'.join(c.split('::')[1:]))
         used = set()
         def note(t):
             if s.data(t):
                 used.add(t)
                 for f, u in s.st.get(t) or []: note(u)
-        for f in [fn]+callees:
+        for f in [f'{cr}::{fn}']+callees:
             for p in s.fns[f]['params']: note(p[2])
             note(s.fns[f]['result'])
         used = sorted(used)
@@ -128,7 +129,7 @@ class Thin:
         A(f"-- `{cr}::{fn}` meets its contract: a walk of its MIR, by hand, written by tools/walker.py. Of its callees the proof knows the contracts alone. No field that the code does not name is named.\n-- Assumes nothing.")
         A(s.header()); A(s.uses)
         for t in used: A(s.type_uses(t))
-        for k,c in enumerate(callees): A(f'use {s.P(at[c],c)} as c{k}\nuse {s.P(at[c],c)}.Symbol as c{k}-def\nuse {s.P(at[c],c)}.Symbol.{{name as #{at[c]}·{dash(c)}}}\nuse {s.P(at[c],c)}.Met as c{k}-thm')
+        for k,c in enumerate(callees): A(f'use {mod(c)} as c{k}\nuse {mod(c)}.Symbol as c{k}-def\nuse {mod(c)}.Symbol.{{name as #{key(c)}}}\nuse {mod(c)}.Met as c{k}-thm')
         A(f'use Rattle.{cr}.proofs.{fn}.Key.{{name as #{cr}·{dash(fn)}}}\nuse Rattle.{cr}.proofs.{fn} as f\nuse Rattle.{cr}.proofs.{fn}.Statement as stated\nuse Rattle.{cr}.proofs.{fn}.Code as code\n')
         for t in used: A(f'abbrev R-{t} : RattleType\nR-{t} = T-{t}.the-row\n')
         A('abbrev stayed : Stays (f.ended .signature .params) (f.ended .kept)\nstayed = '+tup([s.stay(p, J) for p in ps])+'\n')
@@ -217,9 +218,9 @@ class Thin:
                     w.line(f"assigns ! (of-opd ! {txt}) (from ! (hop ! ({w.look(f'_{dl}')}) (stop !))) (store-raw ! {w.p('cell-'+p[0])} refl {s.typed(t,x,i)}) $"); cur[p[0]] = par(x); isc[p[0]] = i
                 else: assert rv[0]=='rvOpd', rv; put(dl, *operand(rv[1]))
                 continue
-            c = sm[1][1][1].strip('"').split('::')[-1]; ck = callees.index(c); os_ = [operand(x) for x in mirlib.lst(sm[2])]; dl, _ = mirlib.place(sm[3]); kcall[0] += 1; K = kcall[0]
+            c = sm[1][1][1].strip('"'); ck = callees.index(c); os_ = [operand(x) for x in mirlib.lst(sm[2])]; dl, _ = mirlib.place(sm[3]); kcall[0] += 1; K = kcall[0]
             cps = s.fns[c]['params']; cres = s.fns[c]['result']
-            w.note(f'the call of `{c}`')
+            w.note(f"the call of `{c.split('::')[-1]}`")
             cκ, cq, args, mvs, toks, own, ctxi, after = [], [], [], [], [], [], [], []
             crefs = [q for q in cps if q[1] != 'val']
             for q,op in zip(cps, os_):
@@ -267,9 +268,14 @@ class Thin:
             w.bind(f"await ! tt $ pick ! (λ {r}."); w.split('post','back','ens')
             z = f'z{K}'; zp = {q[0]: f"{z}{' .1'*k} .0" for k,q in enumerate(cps) if q[1] in ('mslice','mref')}
             env = {q[0]: (cur[op[2][0]] if q[1]!='val' else par(op[2])) for q,op in zip(cps,os_)}
-            fact = s.fns[c]['ensures'](r, {**env}, zp)
-            w.use(f"some (λ ({z} : Lasts c{ck}.ended ({tup(cκ)}) ({ga})). ‵ (lasts c{ck}.ended ({tup(cκ)}) ({ga}) {z}) ⊛ raw (fact 𝓤 ({fact})))", "id⊢ 𝓤 _", ['ens'], ['ens'])
-            w.bind(f"pick ! (λ {z}."); w.split('ens','lasts','fact'); w.move('fact'); w.bind(f"heard ! ({fact}) (λ e{K}."); w.c=w.c[1:]
+            facts_ = s.fns[c]['ensures'](r, {**env}, zp); facts_ = [facts_] if isinstance(facts_, str) else facts_
+            said = ' ⊛ '.join(f'raw (fact 𝓤 ({x}))' for x in facts_)
+            w.use(f"some (λ ({z} : Lasts c{ck}.ended ({tup(cκ)}) ({ga})). ‵ (lasts c{ck}.ended ({tup(cκ)}) ({ga}) {z}) ⊛ ({said}))", "id⊢ 𝓤 _", ['ens'], ['ens'])
+            w.bind(f"pick ! (λ {z}."); w.split('ens','lasts','fact'); w.move('fact')
+            for m, x in enumerate(facts_):
+                if m < len(facts_) - 1: w.line('split ! $'); w.head('fact','more')
+                w.bind(f"heard ! ({x}) (λ e{K}{'' if m == 0 else chr(96 + m)}."); w.c=w.c[1:]
+                if m < len(facts_) - 1: w.c[w.p('more')] = 'fact'
             for q in cps:
                 w.fsplit('lasts','x','lasts')
                 if q[1]=='mref': w.c[w.p('x')] = 'fin-'+q[0]
@@ -325,9 +331,9 @@ class Thin:
             else: e.line(f"owned ! {s.owned(p[2],p[0],'g-'+p[0])} $"); e.c=['new']+e.c; e.fjoin('new','o','o')
         e.move('t','o')
         lastv = tup([cur[p[0]] if p[1] in ('mref','mslice') else 'tt' for p in ps]); fits = tup([f'({ln[p[0]]})' if p[1]=='mslice' else 'tt' for p in ps])
-        EX = f"by ! (qed W ({' ∷ '.join(hadf+['[]'])}) ∵ suffices ! _ (ends-at 𝓤 H A f.ended stayed (f.clauses {X}) W bound ({s.low(t0,x0)}) {par(x0)} {lastv} {fits}) $ says ! ({says}) $ " + e.text(f"frame ! $ frame ! $ owned ! {s.owned(t0,x0,i0)} $ done !","").replace('\n',' ')+")"
+        EX = f"by ! (qed W ({' ∷ '.join(hadf+['[]'])}) ∵ suffices ! _ (ends-at 𝓤 H A f.ended stayed (f.clauses {X}) W bound ({s.low(t0,x0)}) {par(x0)} {lastv} {fits}) $ says ! ({says(cur) if callable(says) else says}) $ " + e.text(f"frame ! $ frame ! $ owned ! {s.owned(t0,x0,i0)} $ done !","").replace('\n',' ')+")"
         mvs = ' ∷ '.join(mach(p) for p in ps)+' ∷ []'
-        kn = lambda C: [f'Triple 𝓤 ({C} #{at[c]}·{dash(c)}) (K{k} {X})' for k,c in enumerate(callees)]
+        kn = lambda C: [f'Triple 𝓤 ({C} #{key(c)}) (K{k} {X})' for k,c in enumerate(callees)]
         A(f'''  module _ (C : Calls 𝓤 H) (Λ : Loops 𝓤 H) (fm : FmC 𝓤 H (W .laws) C) {' '.join(f'(k{k} : {t})' for k,t in enumerate(kn('C')))} where
     walk : ent 𝓤 (onEntry 𝓤 H A f.signature {ks} {qs} xs at) (WpFn 𝓤 H C Λ code.function ({mvs}) Post)
     walk =
@@ -357,5 +363,5 @@ unfolding code.routine tablesOf
     entered 𝓤 H (tripleOf 𝓤 H (𝓖 .A) f.signature (f.spec 𝓤 H (𝓖 .A) (𝓜 .mem) (𝓡 .run)))
     (tables 𝓤 H 𝓜 𝓡 code.env .C) (tables 𝓤 H 𝓜 𝓡 code.env .Λ) #{cr}·{dash(fn)} code.function (code.unfolded 𝓤 H 𝓜 𝓡)
     (f-meets 𝓤 H (𝓖 .A) (givenOf 𝓤 H 𝓜 𝓖) (𝓜 .mem) (𝓡 .run) (tablesOf 𝓤 H 𝓜 (tables 𝓤 H 𝓜 𝓡 code.env))''')
-        for k,c in enumerate(callees): A(f"    (cited 𝓤 H (K{k} 𝓤 H (𝓖 .A) (𝓜 .mem) (𝓡 .run)) 𝓜 𝓡 code.env #{at[c]}·{dash(c)} c{k}-def.routine code.calls-{at[c]}·{dash(c)} (c{k}-thm.met 𝓤 H 𝓜 𝓖 𝓡))"+(')' if k==len(callees)-1 else ''))
+        for k,c in enumerate(callees): A(f"    (cited 𝓤 H (K{k} 𝓤 H (𝓖 .A) (𝓜 .mem) (𝓡 .run)) 𝓜 𝓡 code.env #{key(c)} c{k}-def.routine code.calls-{key(c)} (c{k}-thm.met 𝓤 H 𝓜 𝓖 𝓡))"+(')' if k==len(callees)-1 else ''))
         d = f'{ROOT}/crates/{cr}/proofs/{fn}'; os.makedirs(d, exist_ok=True); open(d+'/Proof.antt','w').write('\n'.join(o)+'\n')

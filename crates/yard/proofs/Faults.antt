@@ -1,0 +1,21 @@
+-- Why a page of the missing list is refused, case by case. Assumes nothing.
+use mathlib.Core.Path.{_≡_, refl, sym, _∙_}
+use mathlib.Core.Bool.{Bool, true, false, cond}
+use Prim.Native.Nat.{ℕ, _<_, _≤_}
+use borrow.Author.Tests.{le-leb, lt-leb}
+use lib.Dec.{leb}
+use Rattle.refusal.specs.Numbers.{seat, sizes}
+use Rattle.tables.proofs.Cases.{pick-yes, pick-no}
+use Rattle.tables.specs.Tables.{sizesFit}
+use Rattle.tables.specs.declared.Head.{Head}
+use Rattle.yard.specs.Pages.{pageFault}
+
+module _ (h : Head) (n rows holders first : ℕ) (b : Bool) (e : b ≡ sizesFit h n rows holders) where
+  pub fault-sizes : b ≡ false → sizes ≡ pageFault h n rows holders first
+  fault-sizes f = pick-no (cond (leb first n) 0 seat) (sizesFit h n rows holders) (sym e ∙ f) refl
+
+  pub fault-seat : b ≡ true → n < first → seat ≡ pageFault h n rows holders first
+  fault-seat f l = pick-yes sizes (sizesFit h n rows holders) (sym e ∙ f) (pick-no 0 (leb first n) (lt-leb first n l) refl)
+
+  pub fault-none : b ≡ true → first ≤ n → _≡_ {A = ℕ} 0 (pageFault h n rows holders first)
+  fault-none f l = pick-yes sizes (sizesFit h n rows holders) (sym e ∙ f) (pick-yes seat (leb first n) (le-leb first n l) refl)
