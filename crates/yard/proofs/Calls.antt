@@ -39,7 +39,7 @@ module _ (h : Head) (seats : List Seat) (rows holders : List ℕ) where
   put-back i f s r seats′ rows′ holders′ e t b =
       ap (λ (l : List Seat). out (r .answer) (r .head) l rows′ holders′) b
       ∙ ap {B = Out} (λ (x : Turn). record { answer = x .answer; yard = yardOf (x .after .head) (set seats i (x .after .seat)) (x .after .rows) (x .after .holders) })
-        (t ∙ ap (λ (x : Seat). f (length seats) (around h x rows holders)) e)
+      (t ∙ ap (λ (x : Seat). f (length seats) (around h x rows holders)) e)
 
   pub start-is : (p l m : ℕ) (r : Begun) (seats′ : List Seat) (rows′ holders′ : List ℕ) → begun r seats rows′ holders′ ≡ startOf p l m Y → seats′ ≡ cond (r .clear) (replicate (length seats) cleared) seats
       → out (r .answer) (r .head) seats′ rows′ holders′ ≡ step (start p l m) Y
@@ -144,12 +144,13 @@ module _ (h : Head) (seats : List Seat) (rows holders : List ℕ) (first : ℕ) 
       → r ≡ answerOf fault p
       → (paper r ≡ step (missing first S) (yardOf h seats rows holders) .answer) × (page′ ≡ sets page 0 (written (missing first S) (yardOf h seats rows holders)))
   unfolding step
-  missing-is fault a p r ef ea (ep, el) er =
-      ( ap paper er
+  missing-is fault a p r ef ea (ep, el) er = (
+    ap paper er
         ∙ ap (λ (q : Page). paper (answerOf fault q)) (ep ∙ ap (λ (b : Asked). pageOf (b .pieces) (b .first) (b .lines) seats) ea)
         ∙ ap (λ (f : ℕ). paper (answerOf f (pageOf (h .pieces) first (cond (eqb f 0) S 0) seats))) ef
-        ∙ answer-by X S T U (λ m. pageOf (h .pieces) first m seats)
-      , el
+        ∙ answer-by X S T U (λ m. pageOf (h .pieces) first m seats),
+    el
         ∙ ap (λ (b : Asked). sets page 0 (asLines (linesOf (b .pieces) (b .first) (b .lines) seats))) ea
         ∙ ap (λ (f : ℕ). sets page 0 (asLines (linesOf (h .pieces) first (cond (eqb f 0) S 0) seats))) ef
-        ∙ ap (λ (l : List ℕ). sets page 0 l) (lines-by X S T U (pageOf (h .pieces) first S seats) (λ m. linesOf (h .pieces) first m seats) fits (no-lines (h .pieces) first seats)) )
+        ∙ ap (λ (l : List ℕ). sets page 0 l) (lines-by X S T U (pageOf (h .pieces) first S seats) (λ m. linesOf (h .pieces) first m seats) fits (no-lines (h .pieces) first seats)),
+  )

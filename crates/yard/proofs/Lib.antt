@@ -1,3 +1,4 @@
 -- What the proofs of several functions and crates use.
 pub mod Faults
 pub mod Calls
+pub mod Determined

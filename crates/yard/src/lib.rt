@@ -157,7 +157,14 @@ pub fn look(head: Head, seats: &[Seat], rows: &[u8], holders: &[u16], seat: usiz
 }
 
 // Whether the truck of a seat has a piece.
-pub fn has(head: Head, seats: &[Seat], rows: &[u8], holders: &[u16], seat: usize, piece: usize) -> Answer
+pub fn has(
+    head: Head,
+    seats: &[Seat],
+    rows: &[u8],
+    holders: &[u16],
+    seat: usize,
+    piece: usize,
+) -> Answer
     ensures { λ r. ⌜ paper r ≡ step (Call.has seat piece) (yardOf head (now (seats .entry)) (now (rows .entry)) (now (holders .entry))) .answer ⌝ }
 {
     let n = seats.len();

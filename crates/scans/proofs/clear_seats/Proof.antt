@@ -162,7 +162,7 @@ module _ {M : Type 1} (𝓤 : URA M) (H : Heap 𝓤) (A : Atoms 𝓤) (W : Given
 
     goes-stp : Is Boolean on (vbool on ∷ []) → Is R-Seat s (L-Seat.lowered s ∷ []) → i < 2 ^ 64 → ent 𝓤 (⋆ 𝓤 H A ([])) (Stp 𝓤 H A mem run .pre to-stp)
     goes-stp g-on iss gi =
-        qed W ([]) ∵ 
+        qed W ([]) ∵
         nothing ! $ nothing ! $ owned ! R-Seat (Is R-Seat) (LL.makes T-Seat.the-type L-Seat.the-plain 𝓤 H A) s (L-Seat.lowered s ∷ []) iss $ fjoin ! $ owned ! Boolean (Is Boolean) (bool-makes 𝓤 H A W) on (vbool on ∷ []) g-on $ fjoin ! $
         move ! (1 ∷ 0 ∷ []) $ join ! $ frame ! $ done !
 
@@ -216,7 +216,7 @@ module _ {M : Type 1} (𝓤 : URA M) (H : Heap 𝓤) (A : Atoms 𝓤) (W : Given
           heard ! (r ≡ clearBy on elem) (λ e. fsplit ! $ drop ! $ fsplit ! $ drop ! $ drop ! $ split ! $ drop ! $ peeks ! R-Seat (Is R-Seat) (shows 𝓤 H A R-Seat) r (v ∷ []) (λ isr. drop ! $
           land ! (from ! (stop !)) (init ! 13 refl (LL.lawful T-Seat.the-type L-Seat.the-laws 𝓤 H A W .typed r _ isr .0)) $ rewrite ! 13 (λ (u : Val). ‵ (fat fullShare L-Seat.mir l6 0 u)) (ap only (L-Seat.lowers .val-is r _ isr)) refl $
           -- the new seat is stored in its place, and the seats' borrow is closed
-          
+
           assigns ! (bin ! (load ! (from ! (stop !)) (look ! 19 refl)) (lit ! tt) (record { fits = within-fits seat-size (x .i) (length ys) l (gs .1) })) (from ! (stop !)) (init ! 7 refl (tt, record { fits = within-fits seat-size (x .i) (length ys) l (gs .1) })) $
           assigns ! (bin ! (load ! (from ! (fld ! refl (stop !))) (look-in ! 23 (sub ! 0 refl (whole !)))) (load ! (from ! (stop !)) (look ! 7 refl)) tt) (from ! (stop !)) (init ! 5 refl (tt, tt)) $
           rewrite ! 5 (λ (p : ℕ). ‵ (fat fullShare tyPtr l10 0 (vptr b p))) (sym (place-is seat-size o (x .i))) refl $

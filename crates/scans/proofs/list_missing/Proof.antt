@@ -268,8 +268,17 @@ module _ {M : Type 1} (𝓤 : URA M) (H : Heap 𝓤) (A : Atoms 𝓤) (W : Given
           assigns-last ! (bin ! (load ! (from ! (stop !)) (look ! 18 refl)) (lit ! tt) (record { fits = le-fits (x .i + 1) (length ys) (next-le (x .i) (length ys) l) (gs .0) })) (from ! (stop !)) (store ! 18 refl (tt, record { fits = le-fits (x .i + 1) (length ys) (next-le (x .i) (length ys) l) (gs .0) })) $
           forget ! 14 refl $ forget ! 12 refl $ forget ! 10 refl $ forget ! 8 refl $ forget ! 6 refl $ forget ! 4 refl $
           keep ! (4 ∷ 5 ∷ 6 ∷ 7 ∷ 8 ∷ 9 ∷ 10 ∷ 11 ∷ 12 ∷ 13 ∷ 14 ∷ 15 ∷ 16 ∷ 17 ∷ 18 ∷ 19 ∷ 20 ∷ 21 ∷ 22 ∷ 23 ∷ 24 ∷ 25 ∷ 26 ∷ 27 ∷ 28 ∷ 29 ∷ 2 ∷ 1 ∷ 30 ∷ 31 ∷ 3 ∷ 0 ∷ []) $
-          again ! Nearer At x (record { i = x .i + 1; le = next-le (x .i) (length ys) l; acc = r; is = (subst (Is R-Page r) (L-Page.lowers .val-is r _ isr) isr); pg = (ws .1 .1 .1 .1 .0); np = n ∙ x .np; wt = subst (λ (p : Page). p .written ≤ p .total) (sym (e .0)) (step-bounds asked (x .acc) elem (x .i) (x .pg) (x .wt) (x .tl) .0); tl = subst (λ (p : Page). p .total ≤ x .i + 1) (sym (e .0)) (step-bounds asked (x .acc) elem (x .i) (x .pg) (x .wt) (x .tl) .1);
-            so = ap (λ (p : Page). listFrom asked (dropped (x .i + 1) ys) (x .i + 1) (listing p (ws .1 .1 .1 .1 .0))) (e .0) ∙ ap (λ (l : List ℕ). listFrom asked (dropped (x .i + 1) ys) (x .i + 1) (listing (pageStep asked (x .acc) elem (x .i)) l)) (e .1) ∙ list-next asked ys (x .i) (listing (x .acc) (x .pg)) l ∙ x .so }) (nearer-less (x .i) (length ys) l)))))))))))
+          again ! Nearer At x (record {
+            i = x .i + 1;
+            le = next-le (x .i) (length ys) l;
+            acc = r;
+            is = (subst (Is R-Page r) (L-Page.lowers .val-is r _ isr) isr);
+            pg = (ws .1 .1 .1 .1 .0);
+            np = n ∙ x .np;
+            wt = subst (λ (p : Page). p .written ≤ p .total) (sym (e .0)) (step-bounds asked (x .acc) elem (x .i) (x .pg) (x .wt) (x .tl) .0);
+            tl = subst (λ (p : Page). p .total ≤ x .i + 1) (sym (e .0)) (step-bounds asked (x .acc) elem (x .i) (x .pg) (x .wt) (x .tl) .1);
+            so = ap (λ (p : Page). listFrom asked (dropped (x .i + 1) ys) (x .i + 1) (listing p (ws .1 .1 .1 .1 .0))) (e .0) ∙ ap (λ (l : List ℕ). listFrom asked (dropped (x .i + 1) ys) (x .i + 1) (listing (pageStep asked (x .acc) elem (x .i)) l)) (e .1) ∙ list-next asked ys (x .i) (listing (x .acc) (x .pg)) l ∙ x .so;
+          }) (nearer-less (x .i) (length ys) l)))))))))))
         where
           elem : Seat
           elem = getD (ys) (x .i) cleared
@@ -315,8 +324,17 @@ module _ {M : Type 1} (𝓤 : URA M) (H : Heap 𝓤) (A : Atoms 𝓤) (W : Given
         forget ! 12 refl $ assigns ! (of-opd ! (lit ! tt)) (from ! (stop !)) (init ! 14 refl (tt, record { fits = lit< tt })) $ move ! (26 ∷ []) $ split ! $ move ! (1 ∷ []) $ split ! $ move ! (1 ∷ []) $ drop ! $ move ! (28 ∷ []) $
         fsplit ! $ move ! (1 ∷ []) $ fsplit ! $ move ! (1 ∷ []) $ drop ! $ move ! (1 ∷ []) $ fsplit ! $ move ! (1 ∷ []) $ fsplit ! $
         keep ! (6 ∷ 7 ∷ 8 ∷ 9 ∷ 10 ∷ 11 ∷ 12 ∷ 13 ∷ 14 ∷ 15 ∷ 16 ∷ 17 ∷ 18 ∷ 19 ∷ 20 ∷ 21 ∷ 22 ∷ 23 ∷ 24 ∷ 25 ∷ 26 ∷ 27 ∷ 28 ∷ 29 ∷ 30 ∷ 31 ∷ 5 ∷ 4 ∷ 2 ∷ 0 ∷ 1 ∷ 3 ∷ []) $
-        loop-on l0 l1 l2 l3 l4 l5 l6 l7 l8 l9 l10 l11 l12 (record { i = 0; le = zero-le; acc = r₀; is = subst (Is R-Page r₀) (L-Page.lowers .val-is r₀ _ is₀) is₀; pg = cs; np = refl; wt = subst (λ (p : Page). p .written ≤ p .total) (sym e₀) zero-le; tl = subst (λ (p : Page). p .total ≤ 0) (sym e₀) zero-le;
-            so = ap (λ (p : Page). listFrom asked ys 0 (listing p cs)) e₀ ∙ list-all asked ys cs })))))))))))))))))))
+        loop-on l0 l1 l2 l3 l4 l5 l6 l7 l8 l9 l10 l11 l12 (record {
+          i = 0;
+          le = zero-le;
+          acc = r₀;
+          is = subst (Is R-Page r₀) (L-Page.lowers .val-is r₀ _ is₀) is₀;
+          pg = cs;
+          np = refl;
+          wt = subst (λ (p : Page). p .written ≤ p .total) (sym e₀) zero-le;
+          tl = subst (λ (p : Page). p .total ≤ 0) (sym e₀) zero-le;
+          so = ap (λ (p : Page). listFrom asked ys 0 (listing p cs)) e₀ ∙ list-all asked ys cs;
+        })))))))))))))))))))
 
 module _ {M : Type 1} (𝓤 : URA M) (H : Heap 𝓤) (A : Atoms 𝓤) (W : Given 𝓤 H A) (mem : Memory → SProp 𝓤) (run : Routine → Fun 𝓤) where
   f-walks : (𝓣 : Tables 𝓤 H) → Triple 𝓤 (𝓣 .C #scans·list-step) (Stp 𝓤 H A mem run) → Triple 𝓤 (𝓣 .C #scans·empty-page) (Fst 𝓤 H A mem run) → Walks 𝓤 H A f.ended stayed (WpFn 𝓤 H (𝓣 .C) (𝓣 .Λ) code.function) (f.clauses 𝓤 H A mem run)

@@ -108,7 +108,7 @@ le-fits : (i n : ℕ) → i ≤ n → n < 2 ^ 64 → i < 2 ^ 64
 le-fits i n l m = omega (arith, l, m)
 
 -- where a turn begins
-record Turn (ys : List Seat)  : Type 0 where
+record Turn (ys : List Seat) : Type 0 where
   i : ℕ
   le : i ≤ length ys
   acc : ℕ
@@ -121,7 +121,7 @@ module _ {M : Type 1} (𝓤 : URA M) (H : Heap 𝓤) (A : Atoms 𝓤) (mem : Mem
   Stp = tripleOf 𝓤 H A g.signature (g.spec 𝓤 H A mem run)
 
 module _ {M : Type 1} (𝓤 : URA M) (H : Heap 𝓤) (A : Atoms 𝓤) (W : Given 𝓤 H A) (mem : Memory → SProp 𝓤) (run : Routine → Fun 𝓤) (κ0 : Lft) (q0 : Share)
-    (b o : ℕ) (γ : GName) (ys : List Seat)  where
+    (b o : ℕ) (γ : GName) (ys : List Seat) where
   abbrev at-seats : List Seat → RefT (List Seat)
   at-seats l = record { ptr = (b, o); name = γ; now = l }
 
@@ -145,7 +145,7 @@ module _ {M : Type 1} (𝓤 : URA M) (H : Heap 𝓤) (A : Atoms 𝓤) (W : Given
   Had zs ci = ‵ (flft κ0 q0) ∷ ‵ (at-slice R-Seat (at-seats zs) (sv ∷ [])) ∷ ‵ (fres γ (codedHoleys R-Seat .code (heres R-Seat zs))) ∷ ‵ (fshr-bor κ0 (λ s. arr-parts (shares R-Seat) (length zs) .part s zs b o)) ∷ []
 
   exits : (x : Turn ys) → Room R-Seat (length ys) → x .acc ≡ lowestFree ys → ent 𝓤 (⋆ 𝓤 H A (Had (ys) ([]))) (Post (vint w64 (x .acc)))
-  exits x gs  e =
+  exits x gs e =
       qed W (Had (ys) ([])) ∵
       suffices ! _ (ends-at 𝓤 H A f.ended stayed (f.clauses 𝓤 H A mem run) W bound (vint w64 (x .acc)) (x .acc) (tt, tt) (tt, tt)) $ says ! e $
       move ! (2 ∷ 3 ∷ []) $ fjoin ! $ move ! (2 ∷ 0 ∷ []) $ fjoin ! $ nothing ! $ move ! (2 ∷ 0 ∷ []) $ join ! $ nothing ! $ move ! (2 ∷ 0 ∷ []) $ fjoin ! $ move ! (1 ∷ 0 ∷ []) $
@@ -160,8 +160,8 @@ module _ {M : Type 1} (𝓤 : URA M) (H : Heap 𝓤) (A : Atoms 𝓤) (W : Given
     to-stp = ((tt, tt, tt, stp-args, (vint w64 c ∷ [], (L-Seat.lowered s ∷ [], (vint w64 i ∷ [], tt)))), tt)
 
     goes-stp : Is usize c (vint w64 c ∷ []) → Is R-Seat s (L-Seat.lowered s ∷ []) → i < 2 ^ 64 → ent 𝓤 (⋆ 𝓤 H A ([])) (Stp 𝓤 H A mem run .pre to-stp)
-    goes-stp  isc iss gi =
-        qed W ([]) ∵ 
+    goes-stp isc iss gi =
+        qed W ([]) ∵
         nothing ! $ nothing ! $ owned ! usize (Is usize) (uint-makes 𝓤 H A W w64) i (vint w64 i ∷ []) (refl, gi) $ fjoin ! $ owned ! R-Seat (Is R-Seat) (LL.makes T-Seat.the-type L-Seat.the-plain 𝓤 H A) s (L-Seat.lowered s ∷ []) iss $
         fjoin ! $ owned ! usize (Is usize) (uint-makes 𝓤 H A W w64) c (vint w64 c ∷ []) isc $ fjoin ! $ move ! (1 ∷ 0 ∷ []) $ join ! $ frame ! $ done !
 
@@ -172,7 +172,7 @@ module _ {M : Type 1} (𝓤 : URA M) (H : Heap 𝓤) (A : Atoms 𝓤) (W : Given
   Nearer-wf : WellFounded Nearer
   Nearer-wf = InvImage·wf (λ (x : Turn ys). length ys - x .i) (Nat·lt-wfRel .wf)
 
-  module _ (𝓣 : Tables 𝓤 H) (known : Triple 𝓤 (𝓣 .C #scans·free-step) (Stp 𝓤 H A mem run)) (gs : Room R-Seat (length ys))  where
+  module _ (𝓣 : Tables 𝓤 H) (known : Triple 𝓤 (𝓣 .C #scans·free-step) (Stp 𝓤 H A mem run)) (gs : Room R-Seat (length ys)) where
     abbrev C : Calls 𝓤 H
     C = 𝓣 .C
 
@@ -206,7 +206,7 @@ module _ {M : Type 1} (𝓤 : URA M) (H : Heap 𝓤) (A : Atoms 𝓤) (W : Given
           looks-slice ! tt R-Seat (Is R-Seat) (shows 𝓤 H A R-Seat) (λ d. L-Seat.lowered d ∷ []) (L-Seat.lowers .val-is) (LL.copy T-Seat.the-type L-Seat.the-copy 𝓤 H A W) ys b o (λ q′.
           elem-out ! R-Seat (Is R-Seat) (shows 𝓤 H A R-Seat) (λ d. L-Seat.lowered d ∷ []) (L-Seat.lowers .val-is) q′ ys (x .i) cleared b o l (λ iss.
           assigns ! (of-opd ! (load ! (from ! (hop ! (look ! 7 refl) (stop !))) (look-raw ! 0 refl))) (from ! (stop !)) (init ! 5 refl (LL.lawful T-Seat.the-type L-Seat.the-laws 𝓤 H A W .typed elem _ iss .0)) $
-          elem-back ! R-Seat q′ ys (x .i) cleared (L-Seat.lowered elem ∷ []) b o l $ shuts-slice ! tt R-Seat q′ ys b o $ use0 W (raw (Stp 𝓤 H A mem run .pre (to-stp (x .acc) elem (x .i)))) (goes-stp (x .acc) elem (x .i)  (x .is) iss gi) $
+          elem-back ! R-Seat q′ ys (x .i) cleared (L-Seat.lowered elem ∷ []) b o l $ shuts-slice ! tt R-Seat q′ ys b o $ use0 W (raw (Stp 𝓤 H A mem run .pre (to-stp (x .acc) elem (x .i)))) (goes-stp (x .acc) elem (x .i) (x .is) iss gi) $
           calls-at ! (fmOf 𝓤 H (W .laws) 𝓣) (Stp 𝓤 H A mem run) known (to-stp (x .acc) elem (x .i)) (and-then ! (load ! (from ! (stop !)) (look ! 13 refl)) (and-then ! (load ! (from ! (stop !)) (look ! 3 refl)) (and-then ! (load ! (from ! (stop !)) (look ! 11 refl)) (no-more !)))) (λ v.
           use1 W (later (some (λ (r : ℕ). ((‵ ftrue) ⊛ ‵ (usize .own r (v ∷ []))) ⊛ raw (ensured 𝓤 H A g.ended (g.clauses 𝓤 H A mem run) tt (stp-args (x .acc) elem (x .i)) tt r)))) (id⊢ 𝓤 _) $ await ! tt $ pick ! (λ r. split ! $
           move ! (1 ∷ []) $ use1 W (some (λ (ws : Lasts g.ended tt (stp-args (x .acc) elem (x .i))). ‵ (lasts g.ended tt (stp-args (x .acc) elem (x .i)) ws) ⊛ raw (fact 𝓤 (r ≡ freeStep (x .acc) elem (x .i))))) (id⊢ 𝓤 _) $ pick ! (λ ws.
@@ -231,7 +231,7 @@ module _ {M : Type 1} (𝓤 : URA M) (H : Heap 𝓤) (A : Atoms 𝓤) (W : Given
           assigns ! (of-opd ! (load ! (from ! (stop !)) (look ! 10 refl))) (from ! (stop !)) (init ! 14 refl (tt, record { fits = (x .is) .1 })) $ returns ! (look ! 14 refl) $
           forget ! 14 refl $ forget ! 12 refl $ forget ! 10 refl $ forget ! 8 refl $ forget ! 6 refl $ forget ! 4 refl $ move ! (14 ∷ 15 ∷ []) $ free1 ! $ move ! (12 ∷ 13 ∷ []) $ free1 ! $ move ! (10 ∷ 11 ∷ []) $ free1 ! $
           move ! (8 ∷ 9 ∷ []) $ free1 ! $ move ! (6 ∷ 7 ∷ []) $ free1 ! $ move ! (4 ∷ 5 ∷ []) $ free1 ! $ move ! (2 ∷ 3 ∷ []) $ free1 ! $ free1 ! $ free0 ! $ keep ! (0 ∷ 1 ∷ 2 ∷ 3 ∷ []) $
-          by ! (exits x gs  (free-end ys (x .i) (x .acc) l ∙ x .so))
+          by ! (exits x gs (free-end ys (x .i) (x .acc) l ∙ x .so))
 
       turns : (x : Turn ys) → Sq W (At x) (runs C Λ En Mir.turn-1 (anyQ (Turned x)))
       turns x = elim (by-test (ltb (x .i) (length ys))) [ inl t ↦ more x (ltb-true (x .i) (length ys) t) | inr t ↦ ends x (ltb-false (x .i) (length ys) t) ]

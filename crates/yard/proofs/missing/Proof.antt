@@ -170,7 +170,7 @@ module _ {M : Type 1} (𝓤 : URA M) (H : Heap 𝓤) (A : Atoms 𝓤) (W : Given
         land ! (from ! (stop !)) (init ! 18 refl (uint-lawful 𝓤 H A W w8 .typed r1 _ is1 .0)) $ rewrite ! 18 (λ (u : Val). ‵ (fat fullShare (tyInt w8) l8 0 u)) (ap only (is1 .0)) refl $
         assigns ! (of-opd ! (load ! (from ! (fld ! refl (stop !))) (look-in ! 22 (sub ! 1 refl (whole !))))) (from ! (stop !)) (init ! 16 refl (tt, record { fits = g-page .0 })) $
         -- the call of `asked`
-        
+
         use0 W (raw (K1 𝓤 H A mem run .pre (((tt), (tt), tt, ((head, (first, ((length page), (r1, tt))))), ((L-Head.lowered head ∷ [], (vint w64 first ∷ [], (vint w64 (length page) ∷ [], (vint w8 r1 ∷ [], tt)))))), tt))) (qed W ([]) ∵ nothing ! $ nothing ! $ owned ! u8 (Is u8) (uint-makes 𝓤 H A W w8) r1 (vint w8 r1 ∷ []) ((refl, is1 .1)) $ fjoin ! $ owned ! usize (Is usize) (uint-makes 𝓤 H A W w64) (length page) (vint w64 (length page) ∷ []) (refl, g-page .0) $ fjoin ! $ owned ! usize (Is usize) (uint-makes 𝓤 H A W w64) first (vint w64 first ∷ []) g-first $ fjoin ! $ owned ! R-Head (Is R-Head) (LL.makes T-Head.the-type L-Head.the-plain 𝓤 H A) head (L-Head.lowered head ∷ []) g-head $ fjoin ! $ move ! (1 ∷ 0 ∷ []) $ join ! $ frame ! $ done !) $
         calls-at ! fm (K1 𝓤 H A mem run) k1 (((tt), (tt), tt, ((head, (first, ((length page), (r1, tt))))), ((L-Head.lowered head ∷ [], (vint w64 first ∷ [], (vint w64 (length page) ∷ [], (vint w8 r1 ∷ [], tt)))))), tt) (and-then ! (load ! (from ! (stop !)) (look ! 33 refl)) (and-then ! (load ! (from ! (stop !)) (look ! 25 refl)) (and-then ! (load ! (from ! (stop !)) (look ! 17 refl)) (and-then ! (load ! (from ! (stop !)) (look ! 19 refl)) (no-more !))))) (λ v2.
         use1 W (later (some (λ (r2 : Asked). ((‵ ftrue) ⊛ ‵ (R-Asked .own r2 (v2 ∷ []))) ⊛ raw (ensured 𝓤 H A c1.ended (c1.clauses 𝓤 H A mem run) (tt) ((head, (first, ((length page), (r1, tt))))) tt r2)))) (id⊢ 𝓤 _) $
@@ -201,7 +201,7 @@ module _ {M : Type 1} (𝓤 : URA M) (H : Heap 𝓤) (A : Atoms 𝓤) (W : Given
         use3 W (later (‵ (MutSlice (named 3) κ3 u32 .own (record { ptr = (b3, o3); name = γ3; now = z3 .1 .0 }) (sliceVal (b3, o3) (length page) ∷ [])) ⊛ ‵ (flft κ3 q3))) (comes-back u32 κ3 (ν3-page ∷ []) q3 γ3 b3 o3 𝓤 H A W (named 3) (named 1) page δ3-page (z3 .1 .0) (subst (Room u32) (sym (refl)) g-page) n3-page) $
         await ! tt $ split ! $ rewrite ! 0 (λ (m : ℕ). ‵ (MutSlice (named 3) κ3 u32 .own (record { ptr = (b3, o3); name = γ3; now = z3 .1 .0 }) (sliceVal (b3, o3) m ∷ []))) (refl) refl $
         -- the call of `answer`
-        
+
         use0 W (raw (K3 𝓤 H A mem run .pre (((tt), (tt), tt, ((r1, (r3, tt))), ((vint w8 r1 ∷ [], (L-Page.lowered r3 ∷ [], tt)))), tt))) (qed W ([]) ∵ nothing ! $ nothing ! $ owned ! R-Page (Is R-Page) (LL.makes T-Page.the-type L-Page.the-plain 𝓤 H A) r3 (L-Page.lowered r3 ∷ []) (subst (Is R-Page r3) (L-Page.lowers .val-is r3 _ is3) is3) $ fjoin ! $ owned ! u8 (Is u8) (uint-makes 𝓤 H A W w8) r1 (vint w8 r1 ∷ []) ((refl, is1 .1)) $ fjoin ! $ move ! (1 ∷ 0 ∷ []) $ join ! $ frame ! $ done !) $
         calls-at ! fm (K3 𝓤 H A mem run) k3 (((tt), (tt), tt, ((r1, (r3, tt))), ((vint w8 r1 ∷ [], (L-Page.lowered r3 ∷ [], tt)))), tt) (and-then ! (load ! (from ! (stop !)) (look ! 19 refl)) (and-then ! (load ! (from ! (stop !)) (look ! 13 refl)) (no-more !))) (λ v4.
         use1 W (later (some (λ (r4 : Answer). ((‵ ftrue) ⊛ ‵ (R-Answer .own r4 (v4 ∷ []))) ⊛ raw (ensured 𝓤 H A c3.ended (c3.clauses 𝓤 H A mem run) (tt) ((r1, (r3, tt))) tt r4)))) (id⊢ 𝓤 _) $ await ! tt $ pick ! (λ r4. split ! $
