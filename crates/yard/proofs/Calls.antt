@@ -10,6 +10,7 @@ use lib.ListN.{length, getD, set, replicate}
 use lib.Seq.{sets}
 use Rattle.tables.specs.Seats.{cleared, weChoke, weWant}
 use Rattle.tables.specs.Tables.{Yard, Said, listed, Around, Turn, Out, paper, around, turn, refuse, says, sizesFit, yardOf, out, atSeat}
+use Rattle.tables.specs.Frames.{feedOf}
 use Rattle.tables.specs.Seating.{startOf, lowestFree, sitOf, leaveOf, markOf}
 use Rattle.tables.specs.Looks.{pageOf, linesOf, scarcestOf, seatOf, hasOf, countOf}
 use Rattle.tables.specs.Step.{Call, start, sit, leave, feed, choke, interest, missing, scarcest, look, has, count, step, chokeFrame, interestFrame, ifTaken, writes, written}
@@ -55,6 +56,11 @@ module _ (h : Head) (seats : List Seat) (rows holders : List ℕ) where
       → turn r rows′ holders′ ≡ leaveOf i (length seats) (around h s rows holders) → seats′ ≡ set seats i (r .seat) → out (r .answer) (r .head) seats′ rows′ holders′ ≡ step (leave i) Y
   unfolding step
   leave-is i s r seats′ rows′ holders′ e t b = put-back i (leaveOf i) s r seats′ rows′ holders′ e t b
+
+  pub feed-is : (i : ℕ) (bytes : List ℕ) (s : Seat) (r : Stepped) (seats′ : List Seat) (rows′ holders′ : List ℕ) → s ≡ getD seats i cleared
+      → turn r rows′ holders′ ≡ feedOf i bytes (length seats) (around h s rows holders) → seats′ ≡ set seats i (r .seat) → out (r .answer) (r .head) seats′ rows′ holders′ ≡ step (feed i bytes) Y
+  unfolding step
+  feed-is i bytes s r seats′ rows′ holders′ e t b = put-back i (feedOf i bytes) s r seats′ rows′ holders′ e t b
 
   pub choke-is : (i : ℕ) (on : Bool) (frame frame′ : List ℕ) (s : Seat) (r : Stepped) (seats′ : List Seat) → s ≡ getD seats i cleared
       → turn r rows holders ≡ markOf (weChoke on) (length frame) i (length seats) (around h s rows holders) → seats′ ≡ set seats i (r .seat)

@@ -5,6 +5,7 @@ ghost use lib.ListN.{length};
 ghost use lib.Seq.{sets};
 ghost use Rattle.tables.specs.Tables.{paper, out, yardOf};
 ghost use Rattle.tables.specs.Step.{Call, step, written};
+use hearing::feed_step;
 use scans::clear_seats;
 use scans::list_missing;
 use scans::lowest_free;
@@ -70,6 +71,26 @@ pub fn leave(
     let n = seats.len();
     let s = seat_get(seats, seat);
     let r = leave_step(*head, s, rows, holders, seat, n);
+    seat_set(seats, seat, r.seat);
+    *head = r.head;
+    r.answer
+}
+
+// Bytes came in from the truck of a seat: the first frame that they hold is taken.
+pub fn feed(
+    head: &mut Head,
+    seats: &mut [Seat],
+    rows: &mut [u8],
+    holders: &mut [u16],
+    seat: usize,
+    bytes: &[u8],
+) -> Answer
+    ensures { λ r. ⌜ out r (now (head .exit)) (now (seats .exit)) (now (rows .exit)) (now (holders .exit))
+        ≡ step (Call.feed seat (now (bytes .entry))) (yardOf (now (head .entry)) (now (seats .entry)) (now (rows .entry)) (now (holders .entry))) ⌝ }
+{
+    let n = seats.len();
+    let s = seat_get(seats, seat);
+    let r = feed_step(*head, s, rows, holders, seat, n, bytes);
     seat_set(seats, seat, r.seat);
     *head = r.head;
     r.answer
