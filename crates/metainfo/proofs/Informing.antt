@@ -1,8 +1,7 @@
 -- The checks of info and of the whole, one after the other. Assumes nothing.
 use mathlib.Core.Path.{_≡_, refl, sym, ap, _∙_, subst}
-use mathlib.Core.Bool.{true}
 use mathlib.Core.List.{List}
-use Prim.Native.Nat.{ℕ, _+_, _-_, _≤_}
+use Prim.Native.Nat.{ℕ, _+_, _≤_}
 use native.Mathlib.Omega.{arith}
 use lib.ListN.{length}
 use Rattle.refusal.specs.Paper.{Outcome, taken, refused, then, map}
@@ -11,16 +10,15 @@ use Rattle.bencode.specs.Value.{Value, Entries, str, int, list, dict, encode, c
 use Rattle.bencode.specs.Decode.{decode}
 use Rattle.bencode.specs.Exact.{Fine}
 use Rattle.bencode.proofs.Exact.{taken-fine}
-use Rattle.walk.specs.Walk.{seekPaper, skipOf}
+use Rattle.walk.specs.Walk.{seekPaper}
 use Rattle.walk.specs.Stands.{Stands, StandEntries}
 use Rattle.walk.specs.Lookup.{Under, nothing, under, lookup}
 use Rattle.walk.specs.declared.Part.{Part}
 use Rattle.walk.specs.declared.Sought.{Sought}
-use Rattle.walk.proofs.Standing.{dictionary-stands, fine-stands, skip-past}
+use Rattle.walk.proofs.Standing.{dictionary-stands, fine-stands}
 use Rattle.fields.specs.Looks.{stringOf, dictionaryOf, needed}
-use Rattle.fields.specs.Values.{stringAt, dictionaryAt, must}
+use Rattle.fields.specs.Values.{stringAt, must}
 use Rattle.fields.proofs.Standing.{string-is, dictionary-is}
-use Rattle.blocks.specs.Rules.{pieceLength}
 use Rattle.metainfo.specs.declared.Known.{Known}
 use Rattle.metainfo.specs.declared.Content.{Content}
 use Rattle.metainfo.specs.declared.Torrent.{Torrent}
@@ -28,7 +26,7 @@ use Rattle.metainfo.specs.Keys.{announceKey, infoKey, filesKey, lengthKe
 use Rattle.metainfo.specs.Rules.{nameAt, contentOf, pieceLengthAt, placeUnder, sizedOf, infoOf, infoAt, topOf, torrentOf}
 use Rattle.metainfo.specs.Reading.{stopped, readOf}
 use Rattle.metainfo.proofs.Naming.{no-way}
-use Rattle.metainfo.proofs.Telling.{tells-needed, tells-place, tells-stands, Shown, shown, tell-first, tell-second}
+use Rattle.metainfo.proofs.Telling.{tells-needed, tells-place, tells-stands, shown, tell-first, tell-second}
 use Rattle.metainfo.proofs.Filing.{moved}
 use Rattle.metainfo.proofs.Sizing.{sized-stopped, piece-legal}
 
@@ -124,16 +122,6 @@ pieces-asked s p es k i = tells-needed s (i .deep) p stringAt (lookup (p + 1) es
 
 pub pieces-place : (s : List ℕ) (p : ℕ) (es : Entries) (k : Known) → Informed s p es k → valueOf (k .pieces) ≡ placeUnder (lookup (p + 1) es piecesKey)
 pieces-place s p es k i = tells-place s (i .deep) (lookup (p + 1) es piecesKey) (k .pieces) (i .pieces)
-
-pub info-part : (s : List ℕ) (d p : ℕ) (es : Entries) → d ≤ 32 → Stands s d p (dict es) → (q : ℕ) → taken q ≡ skipOf s p → _≡_ {A = Part} (record { from = p; len = q - p }) (record { from = p; len = length (encode (dict es)) })
-info-part s d p es l t q e =
-    let f : taken q ≡ taken (p + length (encode (dict es))) = e ∙ skip-past s d p (dict es) l t in
-    let g : q ≡ p + length (encode (dict es)) = cc in
-    let h : q - p ≡ length (encode (dict es)) = omega arith in
-    ap (λ (x : ℕ). record { from = p; len = x }) h
-
-pub info-read : {A : Type 0} (s : List ℕ) (d p : ℕ) (es : Entries) → d ≤ 32 → Stands s d p (dict es) → (r o : ℕ) → refused r o ≡ skipOf s p → A
-info-read s d p es l t r o e = let f : refused r o ≡ taken (p + length (encode (dict es))) = e ∙ skip-past s d p (dict es) l t in no-way (cc)
 
 -- ---- the whole
 

@@ -3,6 +3,7 @@ pub mod Naming
 pub mod Telling
 pub mod Filing
 pub mod Sizing
+pub mod Closing
 pub mod Informing
 pub mod Exact
 pub mod Determined

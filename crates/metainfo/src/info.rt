@@ -42,7 +42,7 @@ pub fn read(text: &[u8], announce: Part, at: usize, first: usize) -> Reading
         Bytes::Are(name) => match piece_length_under(text, at, piece_length) {
             Natural::Is(n) => match fields::string_under(text, at, pieces) {
                 Bytes::Are(hashes) => match files::content(text, at, length, files) {
-                    Contents::Are(c) => match walk::skip(text, at) {
+                    Contents::Are(c) => match keys::close(text, pieces) {
                         Past::To(end) => sized(
                             announce,
                             from_to(at, end),

@@ -1,7 +1,15 @@
 // Where the keys of a dictionary were sought.
 ghost use mathlib.Core.Path.{_≡_};
+ghost use Prim.Native.Nat.{ℕ, _+_, _≤_};
+ghost use lib.ListN.{length};
+ghost use Rattle.refusal.specs.Paper.{taken};
+ghost use Rattle.bencode.specs.Value.{Entries, Prev, encodeEntries};
+ghost use Rattle.walk.specs.Walk.{pastPaper};
+ghost use Rattle.walk.specs.Stands.{StandEntries};
 ghost use Rattle.metainfo.specs.Keys.{stopOf, valueOf, Noted};
 use crate::Known;
+use walk::Next;
+use walk::Past;
 use walk::Sought;
 
 // Where a search stopped: a later key is sought from there on.
@@ -41,5 +49,22 @@ pub fn note(text: &[u8], first: usize) -> Known
         name,
         piece_length,
         pieces,
+    }
+}
+
+// The place past the dictionary in which a search stopped: only the entries from there on are passed.
+pub fn close(text: &[u8], sought: Sought) -> Past
+    ensures { λ r. ⌜ ((d : ℕ) → (before : Prev) → (es : Entries) → d ≤ 32 → StandEntries (now (text .entry)) d (stopOf sought) before es → pastPaper r ≡ taken (stopOf sought + length (encodeEntries es))) ⌝ }
+{
+    let mut p = stop(sought);
+    loop {
+        match walk::entry(text, p) {
+            Next::Key(_, value) => match walk::skip(text, value) {
+                Past::To(next) => p = next,
+                Past::Bad(r) => return Past::Bad(r),
+            },
+            Next::Close(past) => return Past::To(past),
+            Next::Not(r) => return Past::Bad(r),
+        }
     }
 }

@@ -2,7 +2,7 @@ use borrow.Author.Needs.{needs}
 use Rattle.metainfo.specs.Keys.{infoKey, soughtFrom}
 use Prim.Native.Nat.{ℕ}
 use Rattle.fields.specs.Looks.{stringPaper, naturalPaper, insidePaper}
-use Rattle.metainfo.proofs.Informing.{info-name, info-length, info-pieces, info-content, info-sized, informed, pieces-asked, pieces-place, info-part, info-read, top-announce, top-info, top-read, whole-not, whole-with, read-with, read-not}
+use Rattle.metainfo.proofs.Informing.{info-name, info-length, info-pieces, info-content, info-sized, informed, pieces-asked, pieces-place, top-announce, top-info, top-read, whole-not, whole-with, read-with, read-not}
 use mathlib.Core.Path.{_≡_, refl, sym, ap, _∙_, subst}
 use Rattle.metainfo.proofs.announced.Statement.{statement}
 use Rattle.metainfo.proofs.announced.Tie as tie

@@ -5,7 +5,8 @@ use Rattle.walk.specs.Lookup.{lookup}
 use Rattle.walk.specs.Walk.{pastPaper}
 use Prim.Native.Nat.{ℕ, _+_}
 use Rattle.fields.specs.Looks.{stringPaper, naturalPaper, insidePaper}
-use Rattle.metainfo.proofs.Informing.{info-name, info-length, info-pieces, info-content, info-sized, informed, pieces-asked, pieces-place, info-part, info-read, top-announce, top-info, top-read, whole-not, whole-with, read-with, read-not}
+use Rattle.metainfo.proofs.Informing.{info-name, info-length, info-pieces, info-content, info-sized, informed, pieces-asked, pieces-place, top-announce, top-info, top-read, whole-not, whole-with, read-with, read-not}
+use Rattle.metainfo.proofs.Closing.{info-part, info-read}
 use mathlib.Core.Path.{_≡_, refl, sym, ap, _∙_, subst}
 use Rattle.metainfo.proofs.info.read.Statement.{statement}
 use Rattle.metainfo.proofs.info.read.Tie as tie
@@ -19,7 +20,6 @@ use Rattle.metainfo.proofs.info.piece_length_under.Reads as piece-lengt
 use Rattle.metainfo.proofs.info.sized.Reads as sized-reads
 use Rattle.metainfo.proofs.keys.note.Reads as note-reads
 use Rattle.metainfo.proofs.keys.value.Reads as value-reads
-use Rattle.walk.proofs.skip.Reads as skip-reads
 
 -- src/info.rt:35:9
 note-requires : tie.Need-note-requires
@@ -58,8 +58,8 @@ enum-known-c : tie.Need-enum-known-c
 enum-known-c c = search needs
 
 -- src/info.rt:45:47
-skip-requires : tie.Need-skip-requires
-skip-requires c κs = search needs
+close-requires : tie.Need-close-requires
+close-requires c κs = search needs
 
 -- src/info.rt:46:34
 enum-known-end : tie.Need-enum-known-end
@@ -99,11 +99,11 @@ enum-known-r-5 c = search needs
 
 -- src/info.rt:32:1
 returns : tie.Need-returns
-returns c = λ d es l t e. let i = informed (c .before .before .before .before .before .before .before .before .before .before .before .before .before .before .before .before .before .before .before .before .before .before .before .before .before .args .text .now) d (c .before .before .before .before .before .before .before .before .before .before .before .before .before .before .before .before .before .before .before .before .before .before .before .before .before .args .at) (c .before .before .before .before .before .before .before .before .before .before .before .before .before .before .before .before .before .before .before .before .before .before .before .before .before .args .first) es l t e (c .before .before .before .before .before .before .before .before .before .before .before .before .before .before .before .before .before .before .before .before .before .before .before .note .result) (c .before .before .before .before .before .before .before .before .before .before .before .before .before .before .before .before .before .before .before .before .before .before .before .note .ensures) in c .sized .ensures ∙ info-sized (c .before .before .before .before .before .before .before .before .before .before .before .before .before .before .before .before .before .before .before .before .before .before .before .before .before .args .announce) (c .before .before .before .before .before .before .before .before .before .before .before .before .before .before .before .before .before .before .before .before .before .before .before .before .before .args .at) es (c .before .before .before .before .before .before .before .before .before .before .before .before .before .before .before .before .before .before .before .before .name .given .0 .0) (ap stringPaper (sym (c .before .before .before .before .before .before .before .before .before .before .before .before .before .before .before .before .before .before .before .before .name .given .1)) ∙ c .before .before .before .before .before .before .before .before .before .before .before .before .before .before .before .before .before .before .before .before .before .before .name-under .ensures (i .deep) (lookup (c .before .before .before .before .before .before .before .before .before .before .before .before .before .before .before .before .before .before .before .before .before .before .before .before .before .args .at + 1) es nameKey) (i .name)) (c .before .before .before .before .before .before .before .before .before .before .before .before .before .before .before .before .n .given .0 .0) (ap naturalPaper (sym (c .before .before .before .before .before .before .before .before .before .before .before .before .before .before .before .before .n .given .1)) ∙ c .before .before .before .before .before .before .before .before .before .before .before .before .before .before .before .before .before .before .piece-length-under .ensures (i .deep) (lookup (c .before .before .before .before .before .before .before .before .before .before .before .before .before .before .before .before .before .before .before .before .before .before .before .before .before .args .at + 1) es pieceLengthKey) (i .piece)) (c .before .before .before .before .before .before .before .before .before .before .before .before .hashes .given .0 .0) (ap stringPaper (sym (c .before .before .before .before .before .before .before .before .before .before .before .before .hashes .given .1)) ∙ c .before .before .before .before .before .before .before .before .before .before .before .before .before .before .string-under .ensures ∙ pieces-asked (c .before .before .before .before .before .before .before .before .before .before .before .before .before .before .before .before .before .before .before .before .before .before .before .before .before .args .text .now) (c .before .before .before .before .before .before .before .before .before .before .before .before .before .before .before .before .before .before .before .before .before .before .before .before .before .args .at) es (c .before .before .before .before .before .before .before .before .before .before .before .before .before .before .before .before .before .before .before .before .before .before .before .note .result) i) (c .before .before .from-to .result) (c .before .value .result) (c .before .before .before .before .before .before .before .before .c .given .0 .0) (c .before .before .from-to .ensures ∙ info-part (c .before .before .before .before .before .before .before .before .before .before .before .before .before .before .before .before .before .before .before .before .before .before .before .before .before .args .text .now) d (c .before .before .before .before .before .before .before .before .before .before .before .before .before .before .before .before .before .before .before .before .before .before .before .before .before .args .at) es l t (c .before .before .before .before .end .given .0 .0) (ap pastPaper (sym (c .before .before .before .before .end .given .1)) ∙ c .before .before .before .before .before .before .skip .ensures)) (c .before .value .ensures ∙ pieces-place (c .before .before .before .before .before .before .before .before .before .before .before .before .before .before .before .before .before .before .before .before .before .before .before .before .before .args .text .now) (c .before .before .before .before .before .before .before .before .before .before .before .before .before .before .before .before .before .before .before .before .before .before .before .before .before .args .at) es (c .before .before .before .before .before .before .before .before .before .before .before .before .before .before .before .before .before .before .before .before .before .before .before .note .result) i) (ap contentPaper (sym (c .before .before .before .before .before .before .before .before .c .given .1)) ∙ c .before .before .before .before .before .before .before .before .before .before .content .ensures (i .deep) (lookup (c .before .before .before .before .before .before .before .before .before .before .before .before .before .before .before .before .before .before .before .before .before .before .before .before .before .args .at + 1) es lengthKey) (lookup (c .before .before .before .before .before .before .before .before .before .before .before .before .before .before .before .before .before .before .before .before .before .before .before .before .before .args .at + 1) es filesKey) (i .levels) (i .length) (i .files))
+returns c = λ d es l t e. let i = informed (c .before .before .before .before .before .before .before .before .before .before .before .before .before .before .before .before .before .before .before .before .before .before .before .before .before .args .text .now) d (c .before .before .before .before .before .before .before .before .before .before .before .before .before .before .before .before .before .before .before .before .before .before .before .before .before .args .at) (c .before .before .before .before .before .before .before .before .before .before .before .before .before .before .before .before .before .before .before .before .before .before .before .before .before .args .first) es l t e (c .before .before .before .before .before .before .before .before .before .before .before .before .before .before .before .before .before .before .before .before .before .before .before .note .result) (c .before .before .before .before .before .before .before .before .before .before .before .before .before .before .before .before .before .before .before .before .before .before .before .note .ensures) in c .sized .ensures ∙ info-sized (c .before .before .before .before .before .before .before .before .before .before .before .before .before .before .before .before .before .before .before .before .before .before .before .before .before .args .announce) (c .before .before .before .before .before .before .before .before .before .before .before .before .before .before .before .before .before .before .before .before .before .before .before .before .before .args .at) es (c .before .before .before .before .before .before .before .before .before .before .before .before .before .before .before .before .before .before .before .before .name .given .0 .0) (ap stringPaper (sym (c .before .before .before .before .before .before .before .before .before .before .before .before .before .before .before .before .before .before .before .before .name .given .1)) ∙ c .before .before .before .before .before .before .before .before .before .before .before .before .before .before .before .before .before .before .before .before .before .before .name-under .ensures (i .deep) (lookup (c .before .before .before .before .before .before .before .before .before .before .before .before .before .before .before .before .before .before .before .before .before .before .before .before .before .args .at + 1) es nameKey) (i .name)) (c .before .before .before .before .before .before .before .before .before .before .before .before .before .before .before .before .n .given .0 .0) (ap naturalPaper (sym (c .before .before .before .before .before .before .before .before .before .before .before .before .before .before .before .before .n .given .1)) ∙ c .before .before .before .before .before .before .before .before .before .before .before .before .before .before .before .before .before .before .piece-length-under .ensures (i .deep) (lookup (c .before .before .before .before .before .before .before .before .before .before .before .before .before .before .before .before .before .before .before .before .before .before .before .before .before .args .at + 1) es pieceLengthKey) (i .piece)) (c .before .before .before .before .before .before .before .before .before .before .before .before .hashes .given .0 .0) (ap stringPaper (sym (c .before .before .before .before .before .before .before .before .before .before .before .before .hashes .given .1)) ∙ c .before .before .before .before .before .before .before .before .before .before .before .before .before .before .string-under .ensures ∙ pieces-asked (c .before .before .before .before .before .before .before .before .before .before .before .before .before .before .before .before .before .before .before .before .before .before .before .before .before .args .text .now) (c .before .before .before .before .before .before .before .before .before .before .before .before .before .before .before .before .before .before .before .before .before .before .before .before .before .args .at) es (c .before .before .before .before .before .before .before .before .before .before .before .before .before .before .before .before .before .before .before .before .before .before .before .note .result) i) (c .before .before .from-to .result) (c .before .value .result) (c .before .before .before .before .before .before .before .before .c .given .0 .0) (c .before .before .from-to .ensures ∙ info-part (c .before .before .before .before .before .before .before .before .before .before .before .before .before .before .before .before .before .before .before .before .before .before .before .before .before .args .text .now) d (c .before .before .before .before .before .before .before .before .before .before .before .before .before .before .before .before .before .before .before .before .before .before .before .before .before .args .at) (c .before .before .before .before .before .before .before .before .before .before .before .before .before .before .before .before .before .before .before .before .before .before .before .before .before .args .first) es l t e (c .before .before .before .before .before .before .before .before .before .before .before .before .before .before .before .before .before .before .before .before .before .before .before .note .result) (c .before .before .before .before .before .before .before .before .before .before .before .before .before .before .before .before .before .before .before .before .before .before .before .note .ensures) (pastPaper (c .before .before .before .before .before .before .close .result)) (λ f b ws g u. c .before .before .before .before .before .before .close .ensures f b ws g u) (c .before .before .before .before .end .given .0 .0) (ap pastPaper (sym (c .before .before .before .before .end .given .1)))) (c .before .value .ensures ∙ pieces-place (c .before .before .before .before .before .before .before .before .before .before .before .before .before .before .before .before .before .before .before .before .before .before .before .before .before .args .text .now) (c .before .before .before .before .before .before .before .before .before .before .before .before .before .before .before .before .before .before .before .before .before .before .before .before .before .args .at) es (c .before .before .before .before .before .before .before .before .before .before .before .before .before .before .before .before .before .before .before .before .before .before .before .note .result) i) (ap contentPaper (sym (c .before .before .before .before .before .before .before .before .c .given .1)) ∙ c .before .before .before .before .before .before .before .before .before .before .content .ensures (i .deep) (lookup (c .before .before .before .before .before .before .before .before .before .before .before .before .before .before .before .before .before .before .before .before .before .before .before .before .before .args .at + 1) es lengthKey) (lookup (c .before .before .before .before .before .before .before .before .before .before .before .before .before .before .before .before .before .before .before .before .before .before .before .before .before .args .at + 1) es filesKey) (i .levels) (i .length) (i .files))
 
 -- src/info.rt:32:1
 returns-2 : tie.Need-returns-2
-returns-2 c = λ d es l t e. info-read (c .before .before .before .before .before .before .before .before .before .before .before .before .before .before .before .before .before .before .before .before .before .before .args .text .now) d (c .before .before .before .before .before .before .before .before .before .before .before .before .before .before .before .before .before .before .before .before .before .before .args .at) es l t (c .before .r .given .0 .0 .number) (c .before .r .given .0 .0 .place) (ap pastPaper (sym (c .before .r .given .1)) ∙ c .before .before .before .skip .ensures)
+returns-2 c = λ d es l t e. info-read (c .before .before .before .before .before .before .before .before .before .before .before .before .before .before .before .before .before .before .before .before .before .before .args .text .now) d (c .before .before .before .before .before .before .before .before .before .before .before .before .before .before .before .before .before .before .before .before .before .before .args .at) (c .before .before .before .before .before .before .before .before .before .before .before .before .before .before .before .before .before .before .before .before .before .before .args .first) es l t e (c .before .before .before .before .before .before .before .before .before .before .before .before .before .before .before .before .before .before .before .before .note .result) (c .before .before .before .before .before .before .before .before .before .before .before .before .before .before .before .before .before .before .before .before .note .ensures) (pastPaper (c .before .before .before .close .result)) (λ f b ws g u. c .before .before .before .close .ensures f b ws g u) (c .before .r .given .0 .0 .number) (c .before .r .given .0 .0 .place) (ap pastPaper (sym (c .before .r .given .1)))
 
 -- src/info.rt:32:1
 returns-3 : tie.Need-returns-3
@@ -134,7 +134,7 @@ read-spec =
     enum-known-hashes
     content-requires
     enum-known-c
-    skip-requires
+    close-requires
     enum-known-end
     from-to-requires
     value-requires
