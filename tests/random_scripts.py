@@ -79,7 +79,7 @@ def damage(rng, data):
     """The bytes with one damage at a random place."""
     at = rng.randint(0, len(data))
     byte = bytes([rng.choice([rng.randrange(256), *b"0123456789:eild-"])])
-    way = rng.randrange(7)
+    way = rng.randrange(8)
     if way == 0:
         return data[:at]
     if way == 1:
@@ -92,6 +92,8 @@ def damage(rng, data):
         return data + byte
     if way == 5:
         return data[:at] + data[at : at + rng.randint(1, 9)] * 2 + data[at:]
+    if way == 6:
+        return data.replace(b"i", rng.choice([b"i0", b"i-", b"i-0"]), 1)
     return data[:at] + bytes([data[at] ^ 1 << rng.randrange(8)]) + data[at + 1 :] if at < len(data) else byte
 
 
@@ -474,16 +476,19 @@ class YardCalls:
 
     def feed(self):
         seat = self.seat()
-        data = self.bitfield() if seat in self.fresh and self.rng.random() < 0.6 else self.frame()
+        data = self.first_frame() if seat in self.fresh else self.frame()
         if self.rng.random() < 0.15:
             data = cut_or_joined(self.rng, data, self.frame())
         if self.rng.random() < 0.7:
             self.fresh.discard(seat)
         return f"feed {seat} {to_hex(data)}"
 
+    def first_frame(self):
+        return self.rng.choices([self.bitfield, self.keepalive, self.frame], [6, 1, 3])[0]()
+
     def frame(self):
         return self.rng.choices(
-            [self.have, self.bitfield, self.request, self.block, self.plain, lambda: bytes(4), self.other],
+            [self.have, self.bitfield, self.request, self.block, self.plain, self.keepalive, self.other],
             [40, 12, 12, 5, 15, 2, 2],
         )[0]()
 
@@ -514,6 +519,9 @@ class YardCalls:
 
     def plain(self):
         return frame(self.rng.choice([0, 1, 2, 2, 3]))
+
+    def keepalive(self):
+        return bytes(4)
 
     def other(self):
         return random_frame(self.rng)
