@@ -233,9 +233,6 @@ def unknown_keys():
 
 
 def piece_checks():
-    content = b"board" * 4000
-    hashes = sha1(content[:16384]).digest() + sha1(content[16384:]).digest()
-    text = torrent(length=integer(len(content)), pieces=string(hashes))
     small = torrent(pieces=string(sha1(b"board").digest()))
     refusing = torrent(name=b"0:")
     return [
@@ -247,23 +244,26 @@ def piece_checks():
         text_case("piece", small, refused(31), 1, to_hex(b"board")),
         text_case("piece", small, refused(31), 1, "-"),
         text_case("piece", small, refused(31), 4294967296, to_hex(b"board")),
+        text_case("piece", refusing, refused(13, refusing.index(b"0:")), 9, "-"),
+    ]
+
+
+def long_pieces():
+    content = b"board" * 4000
+    hashes = sha1(content[:16384]).digest() + sha1(content[16384:]).digest()
+    text = torrent(length=integer(len(content)), pieces=string(hashes))
+    data = bytes(16_777_217)
+    longest = torrent(piece_length=b"i16777216e", length=b"i16777216e", pieces=string(sha1(data[1:]).digest()))
+    return [
         text_case("piece", text, "yes", 0, to_hex(content[:16384])),
         text_case("piece", text, "yes", 1, to_hex(content[16384:])),
         text_case("piece", text, "no", 0, to_hex(content[1:16385])),
         text_case("piece", text, refused(34), 0, to_hex(content[16384:])),
         text_case("piece", text, refused(34), 1, to_hex(content[:16384])),
         text_case("piece", text, refused(31), 2, to_hex(content[16384:])),
-        text_case("piece", refusing, refused(13, refusing.index(b"0:")), 9, "-"),
-    ]
-
-
-def long_pieces():
-    small, data = torrent(pieces=string(sha1(b"board").digest())), bytes(16_777_217)
-    longest = torrent(piece_length=b"i16777216e", length=b"i16777216e", pieces=string(sha1(data[1:]).digest()))
-    return [
         text_case("piece", longest, "yes", 0, to_hex(data[1:])),
-        text_case("piece", small, refused(8), 0, to_hex(data)),
-        text_case("piece", small, refused(31), 1, to_hex(data)),
+        text_case("piece", longest, refused(8), 0, to_hex(data)),
+        text_case("piece", longest, refused(31), 1, to_hex(data)),
     ]
 
 
@@ -303,6 +303,7 @@ def limits():
 
 SMALL = {
     "torrents-listing": listing,
+    "pieces": piece_checks,
     "torrents": lambda: files() + kinds() + numbers() + pieces() + names() + order() + unknown_keys(),
 }
-BIG = {"torrents-limits": limits, "pieces": piece_checks, "pieces-long": long_pieces}
+BIG = {"torrents-limits": limits, "pieces-long": long_pieces}
