@@ -12,12 +12,15 @@ from pathlib import Path
 import bencode_texts
 import block_calls
 import reply_texts
+import sample_texts
 import torrent_texts
 import wire_calls
 import written_texts
 import yard_calls
 
-MODULES = [bencode_texts, torrent_texts, reply_texts, block_calls, wire_calls, written_texts, yard_calls]
+MODULES = [
+    bencode_texts, torrent_texts, reply_texts, block_calls, wire_calls, written_texts, yard_calls, sample_texts,
+]
 
 
 def lines_of(cases):

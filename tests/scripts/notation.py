@@ -41,10 +41,6 @@ def faulty(call, number, marked, *words):
     return text_case(call, marked.replace(MARK, b""), refused(number, marked.index(MARK)), *words)
 
 
-def unmarked(text):
-    return text.replace(MARK, b"")
-
-
 def string(content):
     return b"%d:%s" % (len(content), content)
 

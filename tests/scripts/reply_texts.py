@@ -71,7 +71,7 @@ def in_list():
         bad(11, listed(peer(port=b"^i65536e"))),
         bad(11, listed(peer(port=b"^i-1e"))),
         bad(11, listed(peer(), peer(port=b"^i65536e"), peer(ip=None))),
-        taken(listed(dictionary({b"a": b"le", b"ip": b"0:", b"peer id": string(ID), b"port": b"i1e", b"z": b"de"})), 1800, 1),
+        taken(listed(b"d1:ale2:ip0:7:peer id" + string(ID) + b"4:porti1e1:zdee"), 1800, 1),
     ]
 
 

@@ -275,7 +275,7 @@ def limits():
     full = string(b"A" * 20 * 16384)
     short = string(b"A" * 20 * 16383)
     most = 16384 * 16384
-    largest = 274_877_906_944
+    largest, widest = 274_877_906_944, b"i16777216e"
     text = torrent(length=None, files=many_files(1024))
     spread = of_files(*[file(length=integer(most // 1024))] * 1024, pieces=full)
     return [
@@ -290,10 +290,10 @@ def limits():
         taken(torrent(length=integer(most - 16384), pieces=short), b"n", 16384, 16383, 1, most - 16384),
         bad(12, torrent(length=integer(most), pieces=b"^" + short)),
         bad(11, torrent(length=b"^" + integer(most + 1), pieces=full)),
-        taken(torrent(length=integer(largest), piece_length=b"i16777216e", pieces=full), b"n", 16777216, 16384, 1, largest),
-        bad(11, torrent(length=b"^" + integer(largest + 1), piece_length=b"i16777216e", pieces=full)),
-        bad(11, torrent(length=None, files=b"^l" + file(integer(largest)) + file(b"i1e") + b"e", piece_length=b"i16777216e")),
-        bad(11, torrent(length=None, files=b"^l" + file(integer(largest)) * 1024 + b"e", piece_length=b"i16777216e")),
+        taken(torrent(length=integer(largest), piece_length=widest, pieces=full), b"n", 16777216, 16384, 1, largest),
+        bad(11, torrent(length=b"^" + integer(largest + 1), piece_length=widest, pieces=full)),
+        bad(11, torrent(length=None, files=b"^l" + file(integer(largest)) + file(b"i1e") + b"e", piece_length=widest)),
+        bad(11, torrent(length=None, files=b"^l" + file(integer(largest)) * 1024 + b"e", piece_length=widest)),
         taken(spread, b"n", 16384, 16384, 1024, most),
         text_case("torrent", string(b"a" * 1_048_569), refused(8)),
         text_case("torrent", b"l" + b"0:" * 16384 + b"e", refused(6, 32767)),

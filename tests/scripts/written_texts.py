@@ -13,7 +13,9 @@ ENTRIES = bytes(range(12))
 REPLY = b"d8:intervali1800e5:peers12:" + ENTRIES + b"e"
 
 
-def write_torrent(answer, announce=b"http://t/a", name=b"pkg", piece_length=16384, length=20000, pieces=HASHES, room=9999):
+def write_torrent(
+    answer, announce=b"http://t/a", name=b"pkg", piece_length=16384, length=20000, pieces=HASHES, room=9999
+):
     words = f"{to_hex(announce)} {to_hex(name)} {piece_length} {length} {to_hex(pieces)} {room}"
     return case(f"write-torrent {words}", answer)
 
