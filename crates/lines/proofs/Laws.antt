@@ -1,7 +1,7 @@
 -- The listing's answer is determined, a refusal leaves the lent output as it was, and 37 is given exactly where the lines do not fit. Assumes nothing.
 use mathlib.Core.Path.{_≡_, sym, _∙_}
 use mathlib.Core.List.{List}
-use Prim.Native.Nat.{ℕ, _+_, _<_, _≤_}
+use Prim.Native.Nat.{ℕ, _<_, _≤_}
 use native.Mathlib.Omega.{arith}
 use lib.ListN.{length}
 use Rattle.refusal.specs.Paper.{taken, refused}

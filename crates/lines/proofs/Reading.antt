@@ -6,7 +6,7 @@ use mathlib.Core.List as lists
 use Prim.Native.Nat.{ℕ, suc, _+_, _*_, _<_, _≤_}
 use native.Mathlib.Omega.{arith}
 use borrow.Author.Tests.{le-ltb, lt-ltb, leb-true}
-use lib.Dec.{ltb, leb, eqb}
+use lib.Dec.{leb, eqb}
 use lib.IntN.{pos}
 use lib.ListN.{length, take, drop, length-append}
 use Rattle.refusal.specs.Paper.{Outcome, taken, refused, map, then}
@@ -23,7 +23,7 @@ use Rattle.walk.specs.declared.Part.{Part}
 use Rattle.walk.proofs.Standing.{fine-stands, list-stands, items-next, dictionary-stands, room}
 use Rattle.walk.proofs.Finding.{found-stands}
 use Rattle.walk.proofs.Having.{found-has}
-use Rattle.fields.specs.Values.{partOf, stringAt, naturalAt, listAt, dictionaryAt, must}
+use Rattle.fields.specs.Values.{stringAt, naturalAt, listAt, dictionaryAt, must}
 use Rattle.fields.proofs.Standing.{part-bytes}
 use Rattle.blocks.specs.Rules.{pieceLength, fileCount, piecesOf, totalAnd, sum}
 use Rattle.blocks.proofs.Legal.{both}
@@ -31,17 +31,16 @@ use Rattle.metainfo.specs.Keys.{announceKey, infoKey, filesKey, lengthKey, name
 use Rattle.metainfo.specs.Rules.{nameAt, fileOf, lengthsOf, oneFile, manyFiles, contentOf, pieceLengthAt, placeUnder, sizedOf, infoOf, infoAt, topOf, torrentOf}
 use Rattle.metainfo.specs.Reading.{readOf}
 use Rattle.metainfo.specs.declared.Content.{Content}
-use Rattle.metainfo.specs.declared.File.{File}
 use Rattle.metainfo.specs.declared.Torrent.{Torrent}
 use Rattle.metainfo.proofs.Naming.{no-way}
 use Rattle.metainfo.proofs.Filing.{file-next}
-use Rattle.lines.specs.Lines.{bytesIn, numberIn, found, within, Listed, elementsIn, filesIn, onlyFile, filesBy, filesOf, lengthsIn, escaped, joined, fileLine, fileLines, firstLine, filesWord, bytesWord, piecesWord, linesBy, linesOf, refusedLine, torrentLines, valueLines, mostListed, mostPrinted, listingOf}
+use Rattle.lines.specs.Lines.{bytesIn, numberIn, found, within, Listed, filesIn, filesBy, filesOf, lengthsIn, escaped, joined, fileLine, fileLines, firstLine, filesWord, bytesWord, piecesWord, linesBy, refusedLine, torrentLines, valueLines, mostListed, mostPrinted, listingOf}
 use Rattle.lines.specs.Lines as lines
 use Rattle.lines.specs.Places.{FilesAt}
 use Rattle.lines.proofs.Running.{escaped-most}
 use Rattle.lines.proofs.Fitting.{string-length, list-length, dict-length, has-room}
 use Rattle.lines.proofs.Taken.{then-taken, map-taken, provided-taken, must-taken, number-taken, list-taken, dictionary-taken, name-taken, found-any, found-is}
-use Rattle.lines.proofs.Walking.{File′, file-read}
+use Rattle.lines.proofs.Walking.{file-read}
 
 -- ---- many files
 

@@ -1,19 +1,19 @@
 -- What a check of a torrent's rules that is taken says of the value it looked at. Assumes nothing.
-use mathlib.Core.Path.{_≡_, refl, sym, ap, _∙_, subst}
+use mathlib.Core.Path.{_≡_, refl, sym, ap, _∙_}
 use mathlib.Core.Bool.{Bool, true, false, cond}
-use mathlib.Core.List.{List, [], _∷_}
+use mathlib.Core.List.{List}
 use Prim.Native.Nat.{ℕ, _+_, _≤_}
 use native.Mathlib.Omega.{arith}
 use borrow.Author.Tests.{leb-true}
 use lib.Dec.{leb}
-use lib.IntN.{ℤ, pos, negsuc}
+use lib.IntN.{pos, negsuc}
 use lib.ListN.{length}
 use Rattle.refusal.specs.Paper.{Outcome, taken, refused, map, then}
 use Rattle.scalar.specs.Written.{written}
 use Rattle.bencode.specs.Value.{Value, Items, Entries, str, int, list, dict, none, item, empty, entry, encode}
 use Rattle.walk.specs.Lookup.{Under, nothing, under, lookup, sameKey}
 use Rattle.walk.specs.declared.Part.{Part}
-use Rattle.fields.specs.Values.{partOf, naturalAt, stringAt, listAt, dictionaryAt, must}
+use Rattle.fields.specs.Values.{partOf, naturalAt, listAt, dictionaryAt, must}
 use Rattle.metainfo.specs.Rules.{provided, goodName, nameAt, elementsOf, pathIn, pathAt}
 use Rattle.metainfo.proofs.Naming.{no-way}
 use Rattle.lines.specs.Lines.{found}

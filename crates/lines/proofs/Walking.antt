@@ -1,6 +1,6 @@
 -- The elements of a path and the files of a list, one after the other, as the code meets them. Assumes nothing.
 use mathlib.Core.Path.{_≡_, refl, sym, ap, _∙_, subst}
-use mathlib.Core.List.{List, [], _∷_, _++_, append-assoc}
+use mathlib.Core.List.{List, [], _∷_, _++_}
 use mathlib.Core.List as lists
 use Prim.Native.Nat.{ℕ, _+_, _*_, _<_, _≤_}
 use native.Mathlib.Omega.{arith}
@@ -8,12 +8,12 @@ use lib.IntN.{pos}
 use lib.ListN.{length, take, drop, length-append}
 use Rattle.refusal.specs.Paper.{Outcome, taken, refused, map, then}
 use Rattle.refusal.specs.Limits.{longestFile}
-use Rattle.scalar.specs.Written.{decimal, written}
+use Rattle.scalar.specs.Written.{decimal}
 use Rattle.bencode.specs.Value.{Value, Items, Entries, str, int, list, dict, none, item, encode, encodeItems, start}
 use Rattle.bencode.specs.Decode.{kindOf, valueOf}
 use Rattle.bencode.proofs.Complete.{encode-pos}
-use Rattle.walk.specs.Walk.{Head, end, lookOf}
-use Rattle.walk.specs.Stands.{Stands, StandItems, StandEntries}
+use Rattle.walk.specs.Walk.{Head, end}
+use Rattle.walk.specs.Stands.{Stands, StandItems}
 use Rattle.walk.specs.Lookup.{under, lookup}
 use Rattle.walk.specs.declared.Part.{Part}
 use Rattle.walk.proofs.Standing.{list-stands, items-end, items-next, dictionary-stands, room}
@@ -28,8 +28,8 @@ use Rattle.metainfo.specs.Rules.{elementsOf, pathAt, fileIn, fileOf, lengthsOf}
 use Rattle.metainfo.specs.Reading.{valueIn, fileAt}
 use Rattle.metainfo.specs.declared.File.{File}
 use Rattle.metainfo.proofs.Naming.{no-way}
-use Rattle.metainfo.proofs.Filing.{file-stands, file-next, file-further}
-use Rattle.lines.specs.Lines.{numberIn, itemsIn, elementsIn, filesIn, found, escaped, joined, fileLine, fileLines}
+use Rattle.metainfo.proofs.Filing.{file-stands, file-next}
+use Rattle.lines.specs.Lines.{numberIn, itemsIn, elementsIn, filesIn, found, escaped, joined, fileLines}
 use Rattle.lines.specs.Lines as lines
 use Rattle.lines.specs.Runs.{far, Ran}
 use Rattle.lines.specs.Places.{marked, PathAt, FilesAt}

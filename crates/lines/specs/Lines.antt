@@ -1,5 +1,5 @@
 -- Document 01's listing: the bytes printed for a text, from the value that the text is. Assumes nothing: these are definitions.
-use mathlib.Core.Bool.{Bool, true, false, cond, _&&_, not}
+use mathlib.Core.Bool.{Bool, cond, _&&_, not}
 use mathlib.Core.List.{List, [], _∷_, _++_, map}
 use Prim.Native.Nat.{ℕ, _+_, _/_, _%_}
 use lib.Dec.{ltb, leb, eqb}
@@ -8,7 +8,7 @@ use lib.ListN.{length}
 use Rattle.refusal.specs.Paper.{Outcome, taken, refused}
 use Rattle.refusal.specs.Numbers.{long}
 use Rattle.scalar.specs.Written.{decimal}
-use Rattle.bencode.specs.Value.{Value, Items, Entries, str, int, list, dict, none, item}
+use Rattle.bencode.specs.Value.{Value, Items, str, int, list, dict, none, item}
 use Rattle.bencode.specs.Decode.{decode}
 use Rattle.walk.specs.Lookup.{Under, nothing, under, lookup}
 use Rattle.blocks.specs.Rules.{piecesOf, sum}

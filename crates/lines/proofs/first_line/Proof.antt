@@ -2,61 +2,43 @@ use borrow.Author.Needs.{needs}
 use Rattle.lines.proofs.Running.{ran-then, ran-as, first-joined}
 use Rattle.lines.specs.Lines.{escaped}
 use Rattle.scalar.specs.Written.{decimal}
-use mathlib.Core.Path.{_≡_, refl, sym, ap, _∙_, subst}
 use native.Mathlib.Omega.{arith}
 use Rattle.lines.proofs.first_line.Statement.{statement}
 use Rattle.lines.proofs.first_line.Tie as tie
-use Rattle.lines.proofs.first_line.Reads as reads
-use Rattle.lines.proofs.first_line.Lts as lts
-use Rattle.lines.proofs.ink.byte.Reads as byte-reads
-use Rattle.lines.proofs.ink.escaped.Reads as escaped-reads
-use Rattle.lines.proofs.ink.numbered.Reads as numbered-reads
 
--- src/lib.rt:93:9
 escaped-requires : tie.Need-escaped-requires
 escaped-requires c κs = search needs
 
--- src/lib.rt:94:9
 byte-requires : tie.Need-byte-requires
 byte-requires c κs = search needs
 
--- src/lib.rt:95:57
 slice-aggregate-numbered : tie.Need-slice-aggregate-numbered
 slice-aggregate-numbered c = search needs
 
--- src/lib.rt:95:9
 numbered-requires : tie.Need-numbered-requires
 numbered-requires c κs = search needs
 
--- src/lib.rt:96:50
 slice-aggregate-numbered-2 : tie.Need-slice-aggregate-numbered-2
 slice-aggregate-numbered-2 c = search needs
 
--- src/lib.rt:96:9
 numbered-requires-2 : tie.Need-numbered-requires-2
 numbered-requires-2 c κs = omega (arith, c .before .before .before .before .before .before .before .before .before .before .before .before .before .escaped .ensures .place, c .before .before .before .before .before .before .before .before .before .byte .ensures .place, c .before .before .before .before .numbered .ensures .1)
 
--- src/lib.rt:97:50
 slice-aggregate-numbered-3 : tie.Need-slice-aggregate-numbered-3
 slice-aggregate-numbered-3 c = search needs
 
--- src/lib.rt:97:9
 numbered-requires-3 : tie.Need-numbered-requires-3
 numbered-requires-3 c κs = omega (arith, c .before .before .before .before .before .before .before .before .before .before .before .before .before .before .before .before .before .before .escaped .ensures .place, c .before .before .before .before .before .before .before .before .before .before .before .before .before .before .byte .ensures .place, c .before .before .before .before .before .before .before .before .before .numbered .ensures .1, c .before .before .before .before .numbered2 .ensures .1)
 
--- src/lib.rt:98:43
 slice-aggregate-numbered-4 : tie.Need-slice-aggregate-numbered-4
 slice-aggregate-numbered-4 c = search needs
 
--- src/lib.rt:98:5
 numbered-requires-4 : tie.Need-numbered-requires-4
 numbered-requires-4 c κs = omega (arith, c .before .before .before .before .before .before .before .before .before .before .before .before .before .before .before .before .before .before .before .before .before .before .before .escaped .ensures .place, c .before .before .before .before .before .before .before .before .before .before .before .before .before .before .before .before .before .before .before .byte .ensures .place, c .before .before .before .before .before .before .before .before .before .before .before .before .before .before .numbered .ensures .1, c .before .before .before .before .before .before .before .before .before .numbered2 .ensures .1, c .before .before .before .before .numbered3 .ensures .1)
 
--- src/lib.rt:88:1
 same-length : tie.Need-same-length
 same-length c = search needs
 
--- src/lib.rt:88:1
 returns : tie.Need-returns
 returns c = ran-as (ran-then (c .before .before .before .before .before .before .before .before .before .before .before .before .before .before .before .before .before .before .before .before .before .before .before .before .before .before .escaped .ensures) (ran-then (c .before .before .before .before .before .before .before .before .before .before .before .before .before .before .before .before .before .before .before .before .before .before .byte .ensures) (ran-then (c .before .before .before .before .before .before .before .before .before .before .before .before .before .before .before .before .before .numbered .ensures .0) (ran-then (c .before .before .before .before .before .before .before .before .before .before .before .before .numbered2 .ensures .0) (ran-then (c .before .before .before .before .before .before .before .numbered3 .ensures .0) (c .before .before .numbered4 .ensures .0)))))) (first-joined (escaped (c .before .before .before .before .before .before .before .before .before .before .before .before .before .before .before .before .before .before .before .before .before .before .before .before .before .before .before .before .before .before .before .args .name .now)) (decimal (c .before .before .before .before .before .before .before .before .before .before .before .before .before .before .before .before .before .before .before .before .before .before .before .before .before .before .before .before .before .before .before .args .t .content .files)) (decimal (c .before .before .before .before .before .before .before .before .before .before .before .before .before .before .before .before .before .before .before .before .before .before .before .before .before .before .before .before .before .before .before .args .t .content .total)) (decimal (c .before .before .before .before .before .before .before .before .before .before .before .before .before .before .before .before .before .before .before .before .before .before .before .before .before .before .before .before .before .before .before .args .t .«piece_count»)) (decimal (c .before .before .before .before .before .before .before .before .before .before .before .before .before .before .before .before .before .before .before .before .before .before .before .before .before .before .before .before .before .before .before .args .t .«piece_length»)))
 

@@ -1,46 +1,31 @@
 use borrow.Author.Needs.{needs}
 use Rattle.lines.proofs.Running.{ran-then, ran-as, only-joined}
 use Rattle.scalar.specs.Written.{decimal}
-use mathlib.Core.Path.{_≡_, refl, sym, ap, _∙_, subst}
 use native.Mathlib.Omega.{arith}
 use Rattle.lines.proofs.only_file.Statement.{statement}
 use Rattle.lines.proofs.only_file.Tie as tie
-use Rattle.lines.proofs.only_file.Reads as reads
-use Rattle.lines.proofs.only_file.Lts as lts
-use Rattle.lines.proofs.ink.byte.Reads as byte-reads
-use Rattle.lines.proofs.ink.escaped.Reads as escaped-reads
-use Rattle.lines.proofs.ink.literal.Reads as literal-reads
-use Rattle.lines.proofs.ink.numbered.Reads as numbered-reads
 
--- src/lib.rt:106:35
 slice-aggregate-literal : tie.Need-slice-aggregate-literal
 slice-aggregate-literal c = search needs
 
--- src/lib.rt:106:9
 literal-requires : tie.Need-literal-requires
 literal-requires c κs = search needs
 
--- src/lib.rt:107:42
 slice-aggregate-numbered : tie.Need-slice-aggregate-numbered
 slice-aggregate-numbered c = search needs
 
--- src/lib.rt:107:9
 numbered-requires : tie.Need-numbered-requires
 numbered-requires c κs = search needs
 
--- src/lib.rt:108:9
 escaped-requires : tie.Need-escaped-requires
 escaped-requires c κs = omega (arith, c .before .before .before .numbered .ensures .1, c .before .before .before .before .before .before .before .before .literal .ensures .place)
 
--- src/lib.rt:109:5
 byte-requires : tie.Need-byte-requires
 byte-requires c κs = omega (arith, c .before .before .before .before .before .before .before .numbered .ensures .1, c .before .before .before .before .before .before .before .before .before .before .before .before .literal .ensures .place, c .before .before .before .escaped .ensures .place)
 
--- src/lib.rt:102:1
 same-length : tie.Need-same-length
 same-length c = search needs
 
--- src/lib.rt:102:1
 returns : tie.Need-returns
 returns c = ran-as (ran-then (c .before .before .before .before .before .before .before .before .before .before .before .before .before .before .before .literal .ensures) (ran-then (c .before .before .before .before .before .before .before .before .before .before .numbered .ensures .0) (ran-then (c .before .before .before .before .before .before .escaped .ensures) (c .before .before .byte .ensures)))) (only-joined (decimal (c .before .before .before .before .before .before .before .before .before .before .before .before .before .before .before .before .before .before .before .before .args .total)) (c .before .before .before .before .before .before .before .before .before .before .before .before .before .before .before .before .before .before .before .before .args .name .now))
 

@@ -1,44 +1,31 @@
 use borrow.Author.Needs.{needs}
 use Rattle.lines.proofs.Running.{ran-then, ran-as, refused-joined}
 use Rattle.scalar.specs.Written.{decimal}
-use mathlib.Core.Path.{_≡_, refl, sym, ap, _∙_, subst}
 use native.Mathlib.Omega.{arith}
 use Rattle.lines.proofs.refused.Statement.{statement}
 use Rattle.lines.proofs.refused.Tie as tie
-use Rattle.lines.proofs.refused.Reads as reads
-use Rattle.lines.proofs.refused.Lts as lts
-use Rattle.lines.proofs.ink.literal.Reads as literal-reads
-use Rattle.lines.proofs.ink.numbered.Reads as numbered-reads
 
--- src/lib.rt:68:35
 slice-aggregate-literal : tie.Need-slice-aggregate-literal
 slice-aggregate-literal c = search needs
 
--- src/lib.rt:68:9
 literal-requires : tie.Need-literal-requires
 literal-requires c κs = search needs
 
--- src/lib.rt:69:52
 slice-aggregate-numbered : tie.Need-slice-aggregate-numbered
 slice-aggregate-numbered c = search needs
 
--- src/lib.rt:69:9
 numbered-requires : tie.Need-numbered-requires
 numbered-requires c κs = search needs
 
--- src/lib.rt:70:42
 slice-aggregate-numbered-2 : tie.Need-slice-aggregate-numbered-2
 slice-aggregate-numbered-2 c = search needs
 
--- src/lib.rt:70:5
 numbered-requires-2 : tie.Need-numbered-requires-2
 numbered-requires-2 c κs = omega (arith, c .before .before .before .before .numbered .ensures .1, c .before .before .before .before .before .before .before .before .before .literal .ensures .place)
 
--- src/lib.rt:64:1
 same-length : tie.Need-same-length
 same-length c = search needs
 
--- src/lib.rt:64:1
 returns : tie.Need-returns
 returns c = (ran-as (ran-then (c .before .before .before .before .before .before .before .before .before .before .before .before .literal .ensures) (ran-then (c .before .before .before .before .before .before .before .numbered .ensures .0) (c .before .before .numbered2 .ensures .0))) (refused-joined (decimal (c .before .before .before .before .before .before .before .before .before .before .before .before .before .before .before .before .args .number)) (decimal (c .before .before .before .before .before .before .before .before .before .before .before .before .before .before .before .before .args .place))), omega (arith, c .before .before .before .before .before .before .before .numbered .ensures .1, c .before .before .before .before .before .before .before .before .before .before .before .before .literal .ensures .place, c .before .before .numbered2 .ensures .1))
 

@@ -1,51 +1,34 @@
 use borrow.Author.Needs.{needs}
 use Rattle.lines.proofs.Running.{ran-then, ran-as}
 use Rattle.lines.proofs.Reading.{ready}
-use lib.ListN.{length}
-use mathlib.Core.Path.{_≡_, refl, sym, ap, _∙_, subst}
 use native.Mathlib.Omega.{arith}
 use Rattle.lines.proofs.torrent.Statement.{statement}
 use Rattle.lines.proofs.torrent.Tie as tie
-use Rattle.lines.proofs.torrent.Reads as reads
-use Rattle.lines.proofs.torrent.Lts as lts
-use Rattle.lines.proofs.files.many.Reads as many-reads
-use Rattle.lines.proofs.first_line.Reads as first-line-reads
-use Rattle.lines.proofs.only_file.Reads as only-file-reads
-use Rattle.walk.proofs.bytes.Reads as bytes-reads
 
--- src/lib.rt:79:9
 bytes-requires : tie.Need-bytes-requires
 bytes-requires c κs = search needs
 
--- src/lib.rt:81:9
 first-line-requires : tie.Need-first-line-requires
 first-line-requires c κs = omega (arith, ready (c .before .before .before .before .before .args .text .now) (c .before .before .bytes .result .now) (c .before .before .before .before .before .args .t) (c .before .before .before .before .before .pre .0) (c .before .before .before .before .before .pre .1) (c .before .before .bytes .ensures .0) .short)
 
--- src/lib.rt:83:9
 only-file-requires : tie.Need-only-file-requires
 only-file-requires c κs = omega (arith, ready (c .before .before .before .before .before .before .before .before .before .before .args .text .now) (c .before .before .before .before .before .before .before .bytes .result .now) (c .before .before .before .before .before .before .before .before .before .before .args .t) (c .before .before .before .before .before .before .before .before .before .before .pre .0) (c .before .before .before .before .before .before .before .before .before .before .pre .1) (c .before .before .before .before .before .before .before .bytes .ensures .0) .short, ready (c .before .before .before .before .before .before .before .before .before .before .args .text .now) (c .before .before .before .before .before .before .before .bytes .result .now) (c .before .before .before .before .before .before .before .before .before .before .args .t) (c .before .before .before .before .before .before .before .before .before .before .pre .0) (c .before .before .before .before .before .before .before .before .before .before .pre .1) (c .before .before .before .before .before .before .before .bytes .ensures .0) .head, c .before .before .before .before .first-line .ensures .place)
 
--- src/lib.rt:83:9
 same-length : tie.Need-same-length
 same-length c = search needs
 
--- src/lib.rt:83:9
 returns : tie.Need-returns
 returns c = let x = ran-as (ran-then (c .before .before .before .before .before .before .before .first-line .ensures) (c .before .before .only-file .ensures)) (ready (c .before .before .before .before .before .before .before .before .before .before .before .before .before .args .text .now) (c .before .before .before .before .before .before .before .before .before .before .bytes .result .now) (c .before .before .before .before .before .before .before .before .before .before .before .before .before .args .t) (c .before .before .before .before .before .before .before .before .before .before .before .before .before .pre .0) (c .before .before .before .before .before .before .before .before .before .before .before .before .before .pre .1) (c .before .before .before .before .before .before .before .before .before .before .bytes .ensures .0) .alone-is (c .before .before .before .before .if1 .taken)) in (x, omega (arith, x .place, ready (c .before .before .before .before .before .before .before .before .before .before .before .before .before .args .text .now) (c .before .before .before .before .before .before .before .before .before .before .bytes .result .now) (c .before .before .before .before .before .before .before .before .before .before .before .before .before .args .t) (c .before .before .before .before .before .before .before .before .before .before .before .before .before .pre .0) (c .before .before .before .before .before .before .before .before .before .before .before .before .before .pre .1) (c .before .before .before .before .before .before .before .before .before .before .bytes .ensures .0) .most))
 
--- src/lib.rt:85:23
 add-many : tie.Need-add-many
 add-many c = omega (arith, ready (c .before .before .before .before .before .before .before .before .before .before .args .text .now) (c .before .before .before .before .before .before .before .bytes .result .now) (c .before .before .before .before .before .before .before .before .before .before .args .t) (c .before .before .before .before .before .before .before .before .before .before .pre .0) (c .before .before .before .before .before .before .before .before .before .before .pre .1) (c .before .before .before .before .before .before .before .bytes .ensures .0) .several-are (c .before .if1 .left) .3)
 
--- src/lib.rt:85:5
 many-requires : tie.Need-many-requires
 many-requires c κs = let x = ready (c .before .before .before .before .before .before .before .before .before .before .before .args .text .now) (c .before .before .before .before .before .before .before .before .bytes .result .now) (c .before .before .before .before .before .before .before .before .before .before .before .args .t) (c .before .before .before .before .before .before .before .before .before .before .before .pre .0) (c .before .before .before .before .before .before .before .before .before .before .before .pre .1) (c .before .before .before .before .before .before .before .before .bytes .ensures .0) .several-are (c .before .before .if1 .left) in (x .0, x .1, omega (arith, x .4, ready (c .before .before .before .before .before .before .before .before .before .before .before .args .text .now) (c .before .before .before .before .before .before .before .before .bytes .result .now) (c .before .before .before .before .before .before .before .before .before .before .before .args .t) (c .before .before .before .before .before .before .before .before .before .before .before .pre .0) (c .before .before .before .before .before .before .before .before .before .before .before .pre .1) (c .before .before .before .before .before .before .before .before .bytes .ensures .0) .head, c .before .before .before .before .before .first-line .ensures .place))
 
--- src/lib.rt:74:1
 same-length-2 : tie.Need-same-length-2
 same-length-2 c = search needs
 
--- src/lib.rt:74:1
 returns-2 : tie.Need-returns-2
 returns-2 c = let y = ready (c .before .before .before .before .before .before .before .before .before .before .before .before .before .before .args .text .now) (c .before .before .before .before .before .before .before .before .before .before .before .bytes .result .now) (c .before .before .before .before .before .before .before .before .before .before .before .before .before .before .args .t) (c .before .before .before .before .before .before .before .before .before .before .before .before .before .before .pre .0) (c .before .before .before .before .before .before .before .before .before .before .before .before .before .before .pre .1) (c .before .before .before .before .before .before .before .before .before .before .before .bytes .ensures .0) .several-are (c .before .before .before .before .before .if1 .left) in let x = ran-as (ran-then (c .before .before .before .before .before .before .before .before .first-line .ensures) (c .before .before .many .ensures (y .0) (y .1))) (y .2) in (x, omega (arith, x .place, ready (c .before .before .before .before .before .before .before .before .before .before .before .before .before .before .args .text .now) (c .before .before .before .before .before .before .before .before .before .before .before .bytes .result .now) (c .before .before .before .before .before .before .before .before .before .before .before .before .before .before .args .t) (c .before .before .before .before .before .before .before .before .before .before .before .before .before .before .pre .0) (c .before .before .before .before .before .before .before .before .before .before .before .before .before .before .pre .1) (c .before .before .before .before .before .before .before .before .before .before .before .bytes .ensures .0) .most))
 

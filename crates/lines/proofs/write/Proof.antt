@@ -2,61 +2,44 @@ use borrow.Author.Needs.{needs}
 use Rattle.lines.proofs.Running.{ran-as}
 use Rattle.lines.proofs.Reading.{listing-long, listing-refused}
 use Rattle.metainfo.specs.Reading.{paper}
-use mathlib.Core.Path.{_≡_, refl, sym, ap, _∙_, subst}
+use mathlib.Core.Path.{sym, ap, _∙_}
 use native.Mathlib.Omega.{arith}
 use Rattle.lines.proofs.write.Statement.{statement}
 use Rattle.lines.proofs.write.Tie as tie
-use Rattle.lines.proofs.write.Reads as reads
-use Rattle.lines.proofs.write.Lts as lts
-use Rattle.lines.proofs.refused.Reads as refused-reads
-use Rattle.lines.proofs.torrent.Reads as torrent-reads
-use Rattle.metainfo.proofs.read.Reads as read-reads
 
--- src/lib.rt:56:9
 refused-requires : tie.Need-refused-requires
 refused-requires c κs = search needs
 
--- src/lib.rt:56:9
 same-length : tie.Need-same-length
 same-length c = search needs
 
--- src/lib.rt:56:9
 returns : tie.Need-returns
 returns c = (ran-as (c .before .before .refused .ensures .0) (listing-long (c .before .before .before .before .before .before .before .args .text .now) (omega arith)), c .before .before .refused .ensures .1)
 
--- src/lib.rt:58:11
 read-requires : tie.Need-read-requires
 read-requires c κs = search needs
 
--- src/lib.rt:59:23
 enum-known-t : tie.Need-enum-known-t
 enum-known-t c = search needs
 
--- src/lib.rt:59:29
 torrent-requires : tie.Need-torrent-requires
 torrent-requires c κs = (sym (ap paper (sym (c .before .before .t .given .1)) ∙ c .before .before .before .before .read .ensures), omega arith)
 
--- src/lib.rt:60:26
 enum-known-r : tie.Need-enum-known-r
 enum-known-r c = search needs
 
--- src/lib.rt:60:32
 refused-requires-2 : tie.Need-refused-requires-2
 refused-requires-2 c κs = search needs
 
--- src/lib.rt:51:1
 same-length-2 : tie.Need-same-length-2
 same-length-2 c = search needs
 
--- src/lib.rt:51:1
 returns-2 : tie.Need-returns-2
 returns-2 c = search needs
 
--- src/lib.rt:51:1
 same-length-3 : tie.Need-same-length-3
 same-length-3 c = search needs
 
--- src/lib.rt:51:1
 returns-3 : tie.Need-returns-3
 returns-3 c = (ran-as (c .before .before .refused2 .ensures .0) (listing-refused (c .before .before .before .before .before .before .before .before .before .before .before .args .text .now) (c .before .before .before .before .before .r .given .0 .0 .number) (c .before .before .before .before .before .r .given .0 .0 .place) (omega arith) (ap paper (sym (c .before .before .before .before .before .r .given .1)) ∙ c .before .before .before .before .before .before .before .read .ensures)), c .before .before .refused2 .ensures .1)
 

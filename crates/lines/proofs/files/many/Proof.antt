@@ -2,17 +2,13 @@ use Rattle.lines.proofs.Walking.{FilesGoing, files-start, files-done, f
 use Rattle.lines.proofs.Running.{ran-length}
 use Rattle.metainfo.proofs.Filing.{file-further}
 use Rattle.metainfo.specs.Reading.{filePaper}
-use Prim.Native.Nat.{_-_, _≤_}
+use Prim.Native.Nat.{_-_}
 use lib.ListN.{length}
 use borrow.Author.Needs.{needs}
-use mathlib.Core.Path.{_≡_, refl, sym, ap, _∙_, subst}
+use mathlib.Core.Path.{sym, ap, _∙_}
 use native.Mathlib.Omega.{arith}
 use Rattle.lines.proofs.files.many.Statement.{statement}
 use Rattle.lines.proofs.files.many.Tie as tie
-use Rattle.lines.proofs.files.many.Reads as reads
-use Rattle.lines.proofs.files.many.Lts as lts
-use Rattle.lines.proofs.files.line.Reads as line-reads
-use Rattle.metainfo.proofs.file_at.Reads as file-at-reads
 
 abbrev Inv-loop : tie.InvT-loop
 Inv-loop text first out₀ at p₀ to₀ offset₀ out p to offset = FilesGoing text first at out₀ p offset to out
@@ -20,43 +16,33 @@ Inv-loop text first out₀ at p₀ to₀ offset₀ out p to offset = FilesGoing 
 abbrev μ-loop : tie.MeasureT-loop
 μ-loop text first out₀ at p₀ to₀ offset₀ out p to offset = length text - p
 
--- src/files.rt:23:5
 loop-holds : tie.Need-loop-holds Inv-loop μ-loop
 loop-holds c = files-start (c .before .before .args .text .now) (c .before .before .args .first) (c .before .before .args .at) (c .before .before .args .out .now)
 
--- src/files.rt:24:15
 file-at-requires : tie.Need-file-at-requires Inv-loop μ-loop
 file-at-requires c κs = search needs
 
--- src/files.rt:25:23
 enum-known-f : tie.Need-enum-known-f Inv-loop μ-loop
 enum-known-f c = search needs
 
--- src/files.rt:26:17
 line-requires : tie.Need-line-requires Inv-loop μ-loop
 line-requires c κs = files-room (c .before .before .before .before .before .before .before .before .args .text .now) (c .before .before .before .before .before .before .before .before .args .first) (c .before .before .before .before .before .before .before .before .args .at) (c .before .before .before .before .before .before .before .before .args .out .now) (c .before .before .before .before .before .loop .p) (c .before .before .before .before .before .loop .offset) (c .before .before .before .before .before .loop .to) (c .before .before .before .before .before .loop .out) (c .before .before .before .before .before .loop .inv) (c .before .before .f .given .0 .0) (ap filePaper (sym (c .before .before .f .given .1)) ∙ c .before .before .before .before .file-at .ensures) (c .before .before .before .before .before .before .before .before .pre .0) (c .before .before .before .before .before .before .before .before .pre .1) (c .before .before .before .before .before .before .before .before .pre .2)
 
--- src/files.rt:27:17
 add-offset : tie.Need-add-offset Inv-loop μ-loop
 add-offset c = omega (arith, files-small (c .before .before .before .before .before .before .before .before .before .before .before .before .args .text .now) (c .before .before .before .before .before .before .before .before .before .before .before .before .args .first) (c .before .before .before .before .before .before .before .before .before .before .before .before .args .at) (c .before .before .before .before .before .before .before .before .before .before .before .before .args .out .now) (c .before .before .before .before .before .before .before .before .before .loop .p) (c .before .before .before .before .before .before .before .before .before .loop .offset) (c .before .before .before .before .before .before .before .before .before .loop .to) (c .before .before .before .before .before .before .before .before .before .loop .out) (c .before .before .before .before .before .before .before .before .before .loop .inv) (c .before .before .before .before .before .before .f .given .0 .0) (ap filePaper (sym (c .before .before .before .before .before .before .f .given .1)) ∙ c .before .before .before .before .before .before .before .before .file-at .ensures) (c .before .before .before .before .before .before .before .before .before .before .before .before .pre .0) (c .before .before .before .before .before .before .before .before .before .before .before .before .pre .1))
 
--- src/files.rt:23:5
 loop-less : tie.Need-loop-less Inv-loop μ-loop
 loop-less c = omega (arith, file-further (c .before .before .before .before .before .before .before .before .before .before .before .before .args .text .now) (c .before .before .before .before .before .before .before .before .before .loop .p) (c .before .before .before .before .before .before .f .given .0 .0) (ap filePaper (sym (c .before .before .before .before .before .before .f .given .1)) ∙ c .before .before .before .before .before .before .before .before .file-at .ensures) .0, file-further (c .before .before .before .before .before .before .before .before .before .before .before .before .args .text .now) (c .before .before .before .before .before .before .before .before .before .loop .p) (c .before .before .before .before .before .before .f .given .0 .0) (ap filePaper (sym (c .before .before .before .before .before .before .f .given .1)) ∙ c .before .before .before .before .before .before .before .before .file-at .ensures) .1)
 
--- src/files.rt:23:5
 loop-again : tie.Need-loop-again Inv-loop μ-loop
 loop-again c = files-again (c .before .before .before .before .before .before .before .before .before .before .before .before .args .text .now) (c .before .before .before .before .before .before .before .before .before .before .before .before .args .first) (c .before .before .before .before .before .before .before .before .before .before .before .before .args .at) (c .before .before .before .before .before .before .before .before .before .before .before .before .args .out .now) (c .before .before .before .before .before .before .before .before .before .loop .p) (c .before .before .before .before .before .before .before .before .before .loop .offset) (c .before .before .before .before .before .before .before .before .before .loop .to) (c .before .before .before .before .before .before .before .before .before .loop .out) (c .before .before .before .before .before .before .before .before .before .loop .inv) (c .before .before .before .before .before .before .f .given .0 .0) (ap filePaper (sym (c .before .before .before .before .before .before .f .given .1)) ∙ c .before .before .before .before .before .before .before .before .file-at .ensures) _ _ (c .before .before .before .line .ensures)
 
--- src/files.rt:30:30
 enum-told : tie.Need-enum-told Inv-loop μ-loop
 enum-told c = search needs
 
--- src/files.rt:30:30
 same-length : tie.Need-same-length Inv-loop μ-loop
 same-length c = ran-length (files-done (c .before .before .before .before .before .before .args .text .now) (c .before .before .before .before .before .before .args .first) (c .before .before .before .before .before .before .args .at) (c .before .before .before .before .before .before .args .out .now) (c .before .before .before .loop .p) (c .before .before .before .loop .offset) (c .before .before .before .loop .to) (c .before .before .before .loop .out) (c .before .before .before .loop .inv) _ _ (ap filePaper (sym (c .enum-told .given .1)) ∙ c .before .before .file-at .ensures) (c .before .before .before .before .before .before .pre .0) (c .before .before .before .before .before .before .pre .1))
 
--- src/files.rt:30:30
 returns : tie.Need-returns Inv-loop μ-loop
 returns c = files-done (c .before .before .before .before .before .before .args .text .now) (c .before .before .before .before .before .before .args .first) (c .before .before .before .before .before .before .args .at) (c .before .before .before .before .before .before .args .out .now) (c .before .before .before .loop .p) (c .before .before .before .loop .offset) (c .before .before .before .loop .to) (c .before .before .before .loop .out) (c .before .before .before .loop .inv) _ _ (ap filePaper (sym (c .enum-told .given .1)) ∙ c .before .before .file-at .ensures)
 

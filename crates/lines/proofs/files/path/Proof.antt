@@ -4,20 +4,13 @@ use Rattle.lines.specs.Lines.{escaped}
 use Rattle.lines.proofs.Walking.{PathGoing, path-start, path-done, path-again, path-room, path-further}
 use Rattle.lines.proofs.Running.{ran-length}
 use Rattle.fields.specs.Looks.{stringPaper}
-use Prim.Native.Nat.{_-_, _≤_}
+use Prim.Native.Nat.{_-_}
 use lib.ListN.{length}
 use borrow.Author.Needs.{needs}
-use mathlib.Core.Path.{_≡_, refl, sym, ap, _∙_, subst}
+use mathlib.Core.Path.{sym, ap, _∙_}
 use native.Mathlib.Omega.{arith}
 use Rattle.lines.proofs.files.path.Statement.{statement}
 use Rattle.lines.proofs.files.path.Tie as tie
-use Rattle.lines.proofs.files.path.Reads as reads
-use Rattle.lines.proofs.files.path.Lts as lts
-use Rattle.fields.proofs.string_at.Reads as string-at-reads
-use Rattle.lines.proofs.files.past.Reads as past-reads
-use Rattle.lines.proofs.ink.byte.Reads as byte-reads
-use Rattle.lines.proofs.ink.escaped.Reads as escaped-reads
-use Rattle.walk.proofs.bytes.Reads as bytes-reads
 
 abbrev Inv-loop : tie.InvT-loop
 Inv-loop text first out₀ at p₀ to₀ mark₀ out p to mark = PathGoing text first at out₀ p mark to out
@@ -25,51 +18,39 @@ Inv-loop text first out₀ at p₀ to₀ mark₀ out p to mark = PathGoing text 
 abbrev μ-loop : tie.MeasureT-loop
 μ-loop text first out₀ at p₀ to₀ mark₀ out p to mark = length text - p
 
--- src/files.rt:54:5
 loop-holds : tie.Need-loop-holds Inv-loop μ-loop
 loop-holds c = path-start (c .before .before .args .text .now) (c .before .before .args .first) (c .before .before .args .at) (c .before .before .args .out .now)
 
--- src/files.rt:55:15
 string-at-requires : tie.Need-string-at-requires Inv-loop μ-loop
 string-at-requires c κs = search needs
 
--- src/files.rt:56:24
 enum-known-part : tie.Need-enum-known-part Inv-loop μ-loop
 enum-known-part c = search needs
 
--- src/files.rt:57:17
 byte-requires : tie.Need-byte-requires Inv-loop μ-loop
 byte-requires c κs = omega (arith, path-room (c .before .before .before .before .before .before .before .before .args .text .now) (c .before .before .before .before .before .before .before .before .args .first) (c .before .before .before .before .before .before .before .before .args .at) (c .before .before .before .before .before .before .before .before .args .out .now) (c .before .before .before .before .before .loop .p) (c .before .before .before .before .before .loop .mark) (c .before .before .before .before .before .loop .to) (c .before .before .before .before .before .loop .out) (c .before .before .before .before .before .loop .inv) (c .before .before .part .given .0 .0) (ap stringPaper (sym (c .before .before .part .given .1)) ∙ c .before .before .before .before .string-at .ensures) (c .before .before .before .before .before .before .before .before .pre .0) (c .before .before .before .before .before .before .before .before .pre .1), c .before .before .before .before .before .before .before .before .pre .2)
 
--- src/files.rt:58:44
 bytes-requires : tie.Need-bytes-requires Inv-loop μ-loop
 bytes-requires c κs = search needs
 
--- src/files.rt:58:17
 escaped-requires : tie.Need-escaped-requires Inv-loop μ-loop
 escaped-requires c κs = omega (arith, path-room (c .before .before .before .before .before .before .before .before .before .before .before .before .before .args .text .now) (c .before .before .before .before .before .before .before .before .before .before .before .before .before .args .first) (c .before .before .before .before .before .before .before .before .before .before .before .before .before .args .at) (c .before .before .before .before .before .before .before .before .before .before .before .before .before .args .out .now) (c .before .before .before .before .before .before .before .before .before .before .loop .p) (c .before .before .before .before .before .before .before .before .before .before .loop .mark) (c .before .before .before .before .before .before .before .before .before .before .loop .to) (c .before .before .before .before .before .before .before .before .before .before .loop .out) (c .before .before .before .before .before .before .before .before .before .before .loop .inv) (c .before .before .before .before .before .before .before .part .given .0 .0) (ap stringPaper (sym (c .before .before .before .before .before .before .before .part .given .1)) ∙ c .before .before .before .before .before .before .before .before .before .string-at .ensures) (c .before .before .before .before .before .before .before .before .before .before .before .before .before .pre .0) (c .before .before .before .before .before .before .before .before .before .before .before .before .before .pre .1), c .before .before .before .before .before .before .before .before .before .before .before .before .before .pre .2, c .before .before .before .before .byte .ensures .place, ap (λ (l : List ℕ). length (escaped l)) (c .bytes .ensures .0))
 
--- src/files.rt:60:17
 past-requires : tie.Need-past-requires Inv-loop μ-loop
 past-requires c κs = omega (arith, path-further (c .before .before .before .before .before .before .before .before .before .before .before .before .before .before .before .before .args .text .now) (c .before .before .before .before .before .before .before .before .before .before .before .before .before .before .before .before .args .first) (c .before .before .before .before .before .before .before .before .before .before .before .before .before .before .before .before .args .at) (c .before .before .before .before .before .before .before .before .before .before .before .before .before .before .before .before .args .out .now) (c .before .before .before .before .before .before .before .before .before .before .before .before .before .loop .p) (c .before .before .before .before .before .before .before .before .before .before .before .before .before .loop .mark) (c .before .before .before .before .before .before .before .before .before .before .before .before .before .loop .to) (c .before .before .before .before .before .before .before .before .before .before .before .before .before .loop .out) (c .before .before .before .before .before .before .before .before .before .before .before .before .before .loop .inv) (c .before .before .before .before .before .before .before .before .before .before .part .given .0 .0) (ap stringPaper (sym (c .before .before .before .before .before .before .before .before .before .before .part .given .1)) ∙ c .before .before .before .before .before .before .before .before .before .before .before .before .string-at .ensures) (c .before .before .before .before .before .before .before .before .before .before .before .before .before .before .before .before .pre .0) (c .before .before .before .before .before .before .before .before .before .before .before .before .before .before .before .before .pre .1) .1)
 
--- src/files.rt:54:5
 loop-less : tie.Need-loop-less Inv-loop μ-loop
 loop-less c = omega (arith, path-further (c .before .before .before .before .before .before .before .before .before .before .before .before .before .before .before .before .before .args .text .now) (c .before .before .before .before .before .before .before .before .before .before .before .before .before .before .before .before .before .args .first) (c .before .before .before .before .before .before .before .before .before .before .before .before .before .before .before .before .before .args .at) (c .before .before .before .before .before .before .before .before .before .before .before .before .before .before .before .before .before .args .out .now) (c .before .before .before .before .before .before .before .before .before .before .before .before .before .before .loop .p) (c .before .before .before .before .before .before .before .before .before .before .before .before .before .before .loop .mark) (c .before .before .before .before .before .before .before .before .before .before .before .before .before .before .loop .to) (c .before .before .before .before .before .before .before .before .before .before .before .before .before .before .loop .out) (c .before .before .before .before .before .before .before .before .before .before .before .before .before .before .loop .inv) (c .before .before .before .before .before .before .before .before .before .before .before .part .given .0 .0) (ap stringPaper (sym (c .before .before .before .before .before .before .before .before .before .before .before .part .given .1)) ∙ c .before .before .before .before .before .before .before .before .before .before .before .before .before .string-at .ensures) (c .before .before .before .before .before .before .before .before .before .before .before .before .before .before .before .before .before .pre .0) (c .before .before .before .before .before .before .before .before .before .before .before .before .before .before .before .before .before .pre .1) .0, path-further (c .before .before .before .before .before .before .before .before .before .before .before .before .before .before .before .before .before .args .text .now) (c .before .before .before .before .before .before .before .before .before .before .before .before .before .before .before .before .before .args .first) (c .before .before .before .before .before .before .before .before .before .before .before .before .before .before .before .before .before .args .at) (c .before .before .before .before .before .before .before .before .before .before .before .before .before .before .before .before .before .args .out .now) (c .before .before .before .before .before .before .before .before .before .before .before .before .before .before .loop .p) (c .before .before .before .before .before .before .before .before .before .before .before .before .before .before .loop .mark) (c .before .before .before .before .before .before .before .before .before .before .before .before .before .before .loop .to) (c .before .before .before .before .before .before .before .before .before .before .before .before .before .before .loop .out) (c .before .before .before .before .before .before .before .before .before .before .before .before .before .before .loop .inv) (c .before .before .before .before .before .before .before .before .before .before .before .part .given .0 .0) (ap stringPaper (sym (c .before .before .before .before .before .before .before .before .before .before .before .part .given .1)) ∙ c .before .before .before .before .before .before .before .before .before .before .before .before .before .string-at .ensures) (c .before .before .before .before .before .before .before .before .before .before .before .before .before .before .before .before .before .pre .0) (c .before .before .before .before .before .before .before .before .before .before .before .before .before .before .before .before .before .pre .1) .1, c .past .ensures)
 
--- src/files.rt:54:5
 loop-again : tie.Need-loop-again Inv-loop μ-loop
 loop-again c = path-again (c .before .before .before .before .before .before .before .before .before .before .before .before .before .before .before .before .before .args .text .now) (c .before .before .before .before .before .before .before .before .before .before .before .before .before .before .before .before .before .args .first) (c .before .before .before .before .before .before .before .before .before .before .before .before .before .before .before .before .before .args .at) (c .before .before .before .before .before .before .before .before .before .before .before .before .before .before .before .before .before .args .out .now) (c .before .before .before .before .before .before .before .before .before .before .before .before .before .before .loop .p) (c .before .before .before .before .before .before .before .before .before .before .before .before .before .before .loop .mark) (c .before .before .before .before .before .before .before .before .before .before .before .before .before .before .loop .to) (c .before .before .before .before .before .before .before .before .before .before .before .before .before .before .loop .out) (c .before .before .before .before .before .before .before .before .before .before .before .before .before .before .loop .inv) (c .before .before .before .before .before .before .before .before .before .before .before .part .given .0 .0) (ap stringPaper (sym (c .before .before .before .before .before .before .before .before .before .before .before .part .given .1)) ∙ c .before .before .before .before .before .before .before .before .before .before .before .before .before .string-at .ensures) _ (c .before .before .before .before .bytes .ensures .0) _ _ _ _ (c .before .before .before .before .before .before .before .before .byte .ensures) (c .before .before .before .escaped .ensures) _ (c .past .ensures)
 
--- src/files.rt:62:33
 enum-told : tie.Need-enum-told Inv-loop μ-loop
 enum-told c = search needs
 
--- src/files.rt:62:33
 same-length : tie.Need-same-length Inv-loop μ-loop
 same-length c = ran-length (path-done (c .before .before .before .before .before .before .args .text .now) (c .before .before .before .before .before .before .args .first) (c .before .before .before .before .before .before .args .at) (c .before .before .before .before .before .before .args .out .now) (c .before .before .before .loop .p) (c .before .before .before .loop .mark) (c .before .before .before .loop .to) (c .before .before .before .loop .out) (c .before .before .before .loop .inv) _ _ (ap stringPaper (sym (c .enum-told .given .1)) ∙ c .before .before .string-at .ensures) (c .before .before .before .before .before .before .pre .0) (c .before .before .before .before .before .before .pre .1))
 
--- src/files.rt:62:33
 returns : tie.Need-returns Inv-loop μ-loop
 returns c = path-done (c .before .before .before .before .before .before .args .text .now) (c .before .before .before .before .before .before .args .first) (c .before .before .before .before .before .before .args .at) (c .before .before .before .before .before .before .args .out .now) (c .before .before .before .loop .p) (c .before .before .before .loop .mark) (c .before .before .before .loop .to) (c .before .before .before .loop .out) (c .before .before .before .loop .inv) _ _ (ap stringPaper (sym (c .enum-told .given .1)) ∙ c .before .before .string-at .ensures)
 

@@ -1,6 +1,6 @@
 use Prim.Native.Nat.{ℕ, _<_, _/_}
 use native.Mathlib.Omega.{arith}
-use mathlib.Core.Path.{_≡_, refl, sym, ap, _∙_, subst}
+use mathlib.Core.Path.{sym, ap, _∙_}
 use mathlib.Core.List.{[], _∷_, _++_}
 use Rattle.scalar.specs.Written.{decimal}
 use Rattle.writer.proofs.Decimals.{decimal-one, decimal-last}
@@ -24,7 +24,6 @@ decimal-at t = and 1 decimal-kinds.ps (is 1 decimal-kinds.ps μ-decimal t) decim
 abbrev decimal-below : ℕ → In 1 decimal-kinds.ps
 decimal-below t = and 1 decimal-kinds.ps (falls 1 decimal-kinds.ps _<_ μ-decimal t) decimal-reads.Pre
 
--- src/ink.rt:42:30
 decimal-digit-requires : (t : ℕ) → decimal-lts.Need-digit-requires (
   digit-reads.Asked,
   digit-reads.Learnt,
@@ -35,7 +34,6 @@ decimal-digit-requires : (t : ℕ) → decimal-lts.Need-digit-requires (
 ) (decimal-at t) decimal-reads.Post
 decimal-digit-requires t c κs = omega arith
 
--- src/ink.rt:42:9
 decimal-byte-requires : (t : ℕ) → decimal-lts.Need-byte-requires (
   digit-reads.Asked,
   digit-reads.Learnt,
@@ -46,7 +44,6 @@ decimal-byte-requires : (t : ℕ) → decimal-lts.Need-byte-requires (
 ) (decimal-at t) decimal-reads.Post
 decimal-byte-requires t c κs = omega arith
 
--- src/ink.rt:42:9
 decimal-same-length : (t : ℕ) → decimal-lts.Need-same-length (
   digit-reads.Asked,
   digit-reads.Learnt,
@@ -57,7 +54,6 @@ decimal-same-length : (t : ℕ) → decimal-lts.Need-same-length (
 ) (decimal-at t) decimal-reads.Post
 decimal-same-length t c = ran-length (c .before .before .byte .ensures)
 
--- src/ink.rt:42:9
 decimal-returns : (t : ℕ) → decimal-lts.Need-returns (
   digit-reads.Asked,
   digit-reads.Learnt,
@@ -68,7 +64,6 @@ decimal-returns : (t : ℕ) → decimal-lts.Need-returns (
 ) (decimal-at t) decimal-reads.Post
 decimal-returns t c = ran-as (c .before .before .byte .ensures) (ap (λ (x : ℕ). x ∷ []) (c .before .before .before .digit .ensures) ∙ sym (decimal-one (c .before .before .before .before .before .before .before .args .n) (omega arith)))
 
--- src/ink.rt:44:9
 decimal-decimal-requires : (t : ℕ) → decimal-lts.Need-decimal-requires (
   digit-reads.Asked,
   digit-reads.Learnt,
@@ -79,7 +74,6 @@ decimal-decimal-requires : (t : ℕ) → decimal-lts.Need-decimal-requires (
 ) (decimal-at t) decimal-reads.Post
 decimal-decimal-requires t c κs = (omega arith, omega arith)
 
--- src/ink.rt:45:19
 decimal-digit-requires-2 : (t : ℕ) → decimal-lts.Need-digit-requires-2 (
   digit-reads.Asked,
   digit-reads.Learnt,
@@ -90,7 +84,6 @@ decimal-digit-requires-2 : (t : ℕ) → decimal-lts.Need-digit-requires-2 (
 ) (decimal-at t) decimal-reads.Post
 decimal-digit-requires-2 t c κs = omega arith
 
--- src/ink.rt:45:5
 decimal-byte-requires-2 : (t : ℕ) → decimal-lts.Need-byte-requires-2 (
   digit-reads.Asked,
   digit-reads.Learnt,
@@ -101,7 +94,6 @@ decimal-byte-requires-2 : (t : ℕ) → decimal-lts.Need-byte-requires-2 (
 ) (decimal-at t) decimal-reads.Post
 decimal-byte-requires-2 t c κs = omega (arith, c .before .before .before .before .decimal .ensures .place, digits-most (c .before .before .before .before .before .before .before .before .args .n / 10) (omega arith))
 
--- src/ink.rt:37:1
 decimal-same-length-2 : (t : ℕ) → decimal-lts.Need-same-length-2 (
   digit-reads.Asked,
   digit-reads.Learnt,
@@ -112,7 +104,6 @@ decimal-same-length-2 : (t : ℕ) → decimal-lts.Need-same-length-2 (
 ) (decimal-at t) decimal-reads.Post
 decimal-same-length-2 t c = ran-length (ran-then (c .before .before .before .before .before .before .before .decimal .ensures) (c .before .before .byte2 .ensures))
 
--- src/ink.rt:37:1
 decimal-returns-2 : (t : ℕ) → decimal-lts.Need-returns-2 (
   digit-reads.Asked,
   digit-reads.Learnt,

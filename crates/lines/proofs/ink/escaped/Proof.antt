@@ -1,15 +1,10 @@
-use Rattle.lines.proofs.Running.{Going, going-start, going-more, going-end, going-near, escaped-more, escaped-none, escaped-most, ran-length}
+use Rattle.lines.proofs.Running.{Going, going-start, going-more, going-end, going-near, escaped-more, escaped-none, ran-length}
 use Rattle.lines.specs.Lines.{escaped}
 use Prim.Native.Nat.{_-_, _≤_}
 use lib.ListN.{length, drop}
-use borrow.Author.Needs.{needs}
-use mathlib.Core.Path.{_≡_, refl, sym, ap, _∙_, subst}
 use native.Mathlib.Omega.{arith}
 use Rattle.lines.proofs.ink.escaped.Statement.{statement}
 use Rattle.lines.proofs.ink.escaped.Tie as tie
-use Rattle.lines.proofs.ink.escaped.Reads as reads
-use Rattle.lines.proofs.ink.escaped.Lts as lts
-use Rattle.lines.proofs.ink.one.Reads as one-reads
 
 abbrev Inv-loop : tie.InvT-loop
 Inv-loop out₀ at bytes to₀ i₀ out to i = (i ≤ length bytes) × Going (escaped bytes) at out₀ (escaped (drop i bytes)) to out
@@ -17,35 +12,27 @@ Inv-loop out₀ at bytes to₀ i₀ out to i = (i ≤ length bytes) × Going (es
 abbrev μ-loop : tie.MeasureT-loop
 μ-loop out₀ at bytes to₀ i₀ out to i = length bytes - i
 
--- src/ink.rt:64:5
 loop-holds : tie.Need-loop-holds Inv-loop μ-loop
 loop-holds c = (omega arith, going-start _ _ _)
 
--- src/ink.rt:65:27
 shared-slice-read-one : tie.Need-shared-slice-read-one Inv-loop μ-loop
 shared-slice-read-one c = omega arith
 
--- src/ink.rt:65:9
 one-requires : tie.Need-one-requires Inv-loop μ-loop
 one-requires c κs = omega (arith, going-near _ _ _ (c .before .before .before .loop .inv .1))
 
--- src/ink.rt:66:9
 add-i : tie.Need-add-i Inv-loop μ-loop
 add-i c = omega arith
 
--- src/ink.rt:64:5
 loop-less : tie.Need-loop-less Inv-loop μ-loop
 loop-less c = omega arith
 
--- src/ink.rt:64:5
 loop-again : tie.Need-loop-again Inv-loop μ-loop
 loop-again c = (omega arith, going-more _ _ _ (c .before .before .before .before .before .before .loop .inv .1) _ _ (escaped-more (c .before .before .before .before .before .before .before .before .before .args .bytes .now) (c .before .before .before .before .before .before .loop .i) (omega arith)) (c .before .before .one .ensures))
 
--- src/ink.rt:58:1
 same-length : tie.Need-same-length Inv-loop μ-loop
 same-length c = ran-length (going-end _ _ _ (c .before .loop .inv .1) (escaped-none (c .before .before .before .before .args .bytes .now) (c .before .loop .i) (omega arith)))
 
--- src/ink.rt:58:1
 returns : tie.Need-returns Inv-loop μ-loop
 returns c = going-end _ _ _ (c .before .loop .inv .1) (escaped-none (c .before .before .before .before .args .bytes .now) (c .before .loop .i) (omega arith))
 

@@ -2,18 +2,13 @@ use Rattle.lines.proofs.Running.{plain-low, plain-high, plain-in}
 use native.Mathlib.Omega.{arith}
 use Rattle.lines.proofs.ink.is_plain.Statement.{statement}
 use Rattle.lines.proofs.ink.is_plain.Tie as tie
-use Rattle.lines.proofs.ink.is_plain.Reads as reads
-use Rattle.lines.proofs.ink.is_plain.Lts as lts
 
--- src/ink.rt:87:9
 returns : tie.Need-returns
 returns c = plain-low (c .before .args .b) (omega arith)
 
--- src/ink.rt:90:9
 returns-2 : tie.Need-returns-2
 returns-2 c = plain-high (c .before .before .args .b) (omega arith) (omega arith)
 
--- src/ink.rt:83:1
 returns-3 : tie.Need-returns-3
 returns-3 c = plain-in (c .before .before .args .b) (omega arith) (omega arith)
 

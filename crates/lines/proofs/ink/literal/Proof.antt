@@ -1,14 +1,9 @@
 use native.Mathlib.Omega.{arith}
-use mathlib.Core.Path.{_≡_, refl, sym, ap, _∙_, subst}
-use Rattle.lines.proofs.Running.{ran-length, ran-then, ran-as, ran-out, Going, going-start, going-more, going-end, going-near, one-more, escaped-more, none-left, escaped-none, escape-plain, escape-other, hex-low, hex-high, escaped-most, digits-most}
-use borrow.Author.Needs.{needs}
+use Rattle.lines.proofs.Running.{ran-length, Going, going-start, going-more, going-end, going-near, one-more, none-left}
 use lib.ListN.{length, drop}
 use Prim.Native.Nat.{_-_, _≤_}
 use Rattle.lines.proofs.ink.literal.Statement.{statement}
 use Rattle.lines.proofs.ink.literal.Tie as tie
-use Rattle.lines.proofs.ink.literal.Reads as reads
-use Rattle.lines.proofs.ink.literal.Lts as lts
-use Rattle.lines.proofs.ink.byte.Reads as byte-reads
 
 abbrev Inv-loop : tie.InvT-loop
 Inv-loop out₀ at bytes to₀ i₀ out to i = (i ≤ length bytes) × Going bytes at out₀ (drop i bytes) to out
@@ -16,35 +11,27 @@ Inv-loop out₀ at bytes to₀ i₀ out to i = (i ≤ length bytes) × Going byt
 abbrev μ-loop : tie.MeasureT-loop
 μ-loop out₀ at bytes to₀ i₀ out to i = length bytes - i
 
--- src/ink.rt:29:5
 loop-holds : tie.Need-loop-holds Inv-loop μ-loop
 loop-holds c = (omega arith, going-start _ _ _)
 
--- src/ink.rt:30:28
 shared-slice-read-byte : tie.Need-shared-slice-read-byte Inv-loop μ-loop
 shared-slice-read-byte c = omega arith
 
--- src/ink.rt:30:9
 byte-requires : tie.Need-byte-requires Inv-loop μ-loop
 byte-requires c κs = omega (arith, going-near _ _ _ (c .before .before .before .loop .inv .1))
 
--- src/ink.rt:31:9
 add-i : tie.Need-add-i Inv-loop μ-loop
 add-i c = omega arith
 
--- src/ink.rt:29:5
 loop-less : tie.Need-loop-less Inv-loop μ-loop
 loop-less c = omega arith
 
--- src/ink.rt:29:5
 loop-again : tie.Need-loop-again Inv-loop μ-loop
 loop-again c = (omega arith, going-more _ _ _ (c .before .before .before .before .before .before .loop .inv .1) _ _ (one-more (c .before .before .before .before .before .before .before .before .before .args .bytes .now) (c .before .before .before .before .before .before .loop .i) (omega arith)) (c .before .before .byte .ensures))
 
--- src/ink.rt:23:1
 same-length : tie.Need-same-length Inv-loop μ-loop
 same-length c = ran-length (going-end _ _ _ (c .before .loop .inv .1) (none-left (c .before .before .before .before .args .bytes .now) (c .before .loop .i) (omega arith)))
 
--- src/ink.rt:23:1
 returns : tie.Need-returns Inv-loop μ-loop
 returns c = going-end _ _ _ (c .before .loop .inv .1) (none-left (c .before .before .before .before .args .bytes .now) (c .before .loop .i) (omega arith))
 

@@ -1,58 +1,39 @@
 use borrow.Author.Needs.{needs}
-use mathlib.Core.List.{List, [], _∷_}
-use Prim.Native.Nat.{ℕ}
 use Rattle.lines.proofs.Running.{ran-as, ran-then, escape-plain, escape-other}
-use mathlib.Core.Path.{_≡_, refl, sym, ap, _∙_, subst}
-use native.Mathlib.Omega.{arith}
+use mathlib.Core.Path.{sym, _∙_}
 use Rattle.lines.proofs.ink.one.Statement.{statement}
 use Rattle.lines.proofs.ink.one.Tie as tie
-use Rattle.lines.proofs.ink.one.Reads as reads
-use Rattle.lines.proofs.ink.one.Lts as lts
-use Rattle.lines.proofs.ink.byte.Reads as byte-reads
-use Rattle.lines.proofs.ink.hex.Reads as hex-reads
-use Rattle.lines.proofs.ink.is_plain.Reads as is-plain-reads
 
--- src/ink.rt:75:8
 is-plain-requires : tie.Need-is-plain-requires
 is-plain-requires c κs = search needs
 
--- src/ink.rt:76:9
 byte-requires : tie.Need-byte-requires
 byte-requires c κs = search needs
 
--- src/ink.rt:76:9
 same-length : tie.Need-same-length
 same-length c = search needs
 
--- src/ink.rt:76:9
 returns : tie.Need-returns
 returns c = ran-as (c .before .before .byte .ensures) (escape-plain _ (sym (c .before .before .before .before .before .is-plain .ensures) ∙ c .before .before .before .before .if1 .taken))
 
--- src/ink.rt:78:9
 byte-requires-2 : tie.Need-byte-requires-2
 byte-requires-2 c κs = search needs
 
--- src/ink.rt:79:31
 hex-requires : tie.Need-hex-requires
 hex-requires c κs = search needs
 
--- src/ink.rt:79:9
 byte-requires-3 : tie.Need-byte-requires-3
 byte-requires-3 c κs = search needs
 
--- src/ink.rt:80:20
 hex-requires-2 : tie.Need-hex-requires-2
 hex-requires-2 c κs = search needs
 
--- src/ink.rt:80:5
 byte-requires-4 : tie.Need-byte-requires-4
 byte-requires-4 c κs = search needs
 
--- src/ink.rt:71:1
 same-length-2 : tie.Need-same-length-2
 same-length-2 c = search needs
 
--- src/ink.rt:71:1
 returns-2 : tie.Need-returns-2
 returns-2 c = ran-as (ran-then (c .before .before .before .before .before .before .before .before .before .before .before .before .byte2 .ensures) (ran-then (c .before .before .before .before .before .before .before .byte3 .ensures) (c .before .before .byte4 .ensures))) (escape-other (c .before .before .before .before .before .before .before .before .before .before .before .before .before .before .before .before .before .args .b) (c .before .before .before .before .before .before .before .before .hex .result) (c .before .before .before .hex2 .result) (c .before .before .before .before .before .before .before .before .hex .ensures) (c .before .before .before .hex2 .ensures) (sym (c .before .before .before .before .before .before .before .before .before .before .before .before .before .before .before .is-plain .ensures) ∙ c .before .before .before .before .before .before .before .before .before .before .before .before .before .before .if1 .left))
 
