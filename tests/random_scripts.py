@@ -62,6 +62,8 @@ def random_value(rng, levels):
 def alter(rng, value):
     """The value with one part of it, found by walking down, replaced, left out or added to."""
     if isinstance(value, list) and value and rng.random() < 0.85:
+        if rng.random() < 0.1:
+            return []
         at = rng.randrange(len(value))
         return value[:at] + rng.choice([[alter(rng, value[at])]] * 6 + [[], [value[at]] * 2]) + value[at + 1 :]
     if isinstance(value, dict) and value and rng.random() < 0.85:
@@ -187,6 +189,12 @@ def random_torrent(rng, content=None):
     else:
         paths = [[random_name(rng) for _ in range(rng.randint(1, 3))] for _ in lengths]
         info[b"files"] = [{b"length": length, b"path": path} for length, path in zip(lengths, paths)]
+        if rng.random() < 0.04:
+            rng.choice(info[b"files"])[b"length"] = LARGEST_FILE + rng.choice([0, 1])
+        if rng.random() < 0.04:
+            rng.choice(info[b"files"])[b"path"] = []
+        if rng.random() < 0.04:
+            info[b"length"] = lengths[0]
     if rng.random() < 0.2:
         info[rng.choice([b"private", b"md5sum", b"a", b"nam", b"name.utf-8"])] = random_value(rng, 2)
     top = {b"announce": rng.choice([b"", b"http://yard/ann"]), b"info": info}
@@ -280,7 +288,10 @@ def random_content(rng):
     else:
         lengths = random_lengths(rng, piece_length)
     if rng.random() < 0.06:
-        lengths.append(rng.choice([LARGEST_FILE, LARGEST_FILE + 1, 2**63, 2**64 - 1, 16_384 * piece_length]))
+        lengths.append(rng.choice([LARGEST_FILE, LARGEST_FILE + 1, 2**63, 2**64 - 1]))
+    elif rng.random() < 0.1:
+        # The largest total, or a byte or two off.
+        lengths.append(max(0, 16_384 * piece_length - sum(lengths)) + rng.choice([-1, 0, 1, 2]))
     if rng.random() < 0.04:
         piece_length += rng.choice([1, -1, piece_length // 2, 2**32])
     return piece_length, lengths
@@ -333,8 +344,8 @@ def random_frame(rng):
     size = sizes.get(frame_id, 0 if frame_id < 4 else rng.randint(0, 9))
     if rng.random() < 0.15:
         size = max(0, size + rng.choice([-1, 1]))
-    if rng.random() < 0.03:
-        size = rng.choice([2047, 2048, 2049, 16_391, 16_392, 16_393])
+    if rng.random() < 0.03 or frame_id == 5 and rng.random() < 0.1:
+        size = rng.choice([2_047, 2_048, 2_049] if frame_id == 5 else [16_391, 16_392, 16_393])
     return bytes(4) if rng.random() < 0.08 else frame(frame_id, rng.randbytes(size))
 
 
