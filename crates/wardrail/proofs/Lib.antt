@@ -1,2 +1,4 @@
 -- Laws of what C is told.
 pub mod Said
+pub mod Wrote
+pub mod Told

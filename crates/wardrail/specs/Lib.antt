@@ -1,3 +1,8 @@
 pub mod Said
 pub mod Replies
 pub mod Torrents
+pub mod Mapping
+pub mod Frames
+pub mod Files
+pub mod Writers
+pub mod Peers

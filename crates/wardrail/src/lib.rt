@@ -6,8 +6,14 @@ ghost use Rattle.wardrail.specs.Said.{numberOf, detailOf};
 use bencode::Checked;
 use sha1::Hashed;
 
+mod files;
+mod frames;
+mod mapping;
+mod peers;
 mod replies;
+mod rows;
 mod torrents;
+mod writers;
 
 // Whether a text is one value that keeps the limits. `detail` becomes its count of values, or the refusal's place.
 #[no_mangle]

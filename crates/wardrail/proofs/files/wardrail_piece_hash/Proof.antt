@@ -1,0 +1,23 @@
+-- `wardrail_piece_hash` meets its contract. Assumes nothing.
+use Rattle.wardrail.specs.Files.{partDetail}
+use Rattle.wardrail.specs.Said.{numberOf}
+use mathlib.Core.Path.{ap, _∙_}
+use borrow.Author.Needs.{needs}
+use Rattle.wardrail.proofs.files.wardrail_piece_hash.Statement.{statement}
+use Rattle.wardrail.proofs.files.wardrail_piece_hash.Tie as tie
+
+piece-hash-requires : tie.Need-piece-hash-requires
+piece-hash-requires c κs = search needs
+
+hash-detail-requires : tie.Need-hash-detail-requires
+hash-detail-requires c κs = search needs
+
+hash-number-requires : tie.Need-hash-number-requires
+hash-number-requires c κs = search needs
+
+returns : tie.Need-returns
+returns c = (c .hash-number .ensures ∙ ap numberOf (c .before .before .piece-hash .ensures), c .before .hash-detail .ensures ∙ ap partDetail (c .before .before .piece-hash .ensures))
+
+pub wardrail-piece-hash-spec : {M : Type 1} → statement M
+wardrail-piece-hash-spec =
+    tie.close (tie.spec piece-hash-requires hash-detail-requires hash-number-requires returns)

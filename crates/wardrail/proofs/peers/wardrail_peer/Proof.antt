@@ -1,0 +1,23 @@
+-- `wardrail_peer` meets its contract. Assumes nothing.
+use Rattle.wardrail.specs.Peers.{peerDetail}
+use Rattle.wardrail.specs.Said.{numberOf}
+use mathlib.Core.Path.{ap, _∙_}
+use borrow.Author.Needs.{needs}
+use Rattle.wardrail.proofs.peers.wardrail_peer.Statement.{statement}
+use Rattle.wardrail.proofs.peers.wardrail_peer.Tie as tie
+
+peer-requires : tie.Need-peer-requires
+peer-requires c κs = search needs
+
+peer-detail-requires : tie.Need-peer-detail-requires
+peer-detail-requires c κs = search needs
+
+peer-number-requires : tie.Need-peer-number-requires
+peer-number-requires c κs = search needs
+
+returns : tie.Need-returns
+returns c = (c .peer-number .ensures ∙ ap numberOf (c .before .before .peer .ensures), c .before .peer-detail .ensures ∙ ap peerDetail (c .before .before .peer .ensures))
+
+pub wardrail-peer-spec : {M : Type 1} → statement M
+wardrail-peer-spec =
+    tie.close (tie.spec peer-requires peer-detail-requires peer-number-requires returns)

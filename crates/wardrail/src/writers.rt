@@ -1,0 +1,103 @@
+// Writers for C, each at the start of `out`. `detail` becomes how many bytes were written, or the refusal's place.
+// A refusal leaves `out` as it was, and what is past the written part stays.
+ghost use mathlib.Core.Path.{_≡_};
+ghost use mathlib.Core.List.{_∷_};
+ghost use Rattle.writer.specs.Put.{paper, putOf};
+ghost use Rattle.wire.specs.Message.{keepalive, encode};
+ghost use Rattle.wire.specs.Frames.{writeOf as frameOf};
+ghost use Rattle.wire.specs.Handshake.{handshake, zeros};
+ghost use Rattle.tracker.specs.Writing.{writeOf as replyTextOf};
+ghost use Rattle.authoring.specs.Writing.{fields, writeOf as torrentTextOf};
+ghost use Rattle.wardrail.specs.Said.{numberOf, detailOf};
+ghost use Rattle.wardrail.specs.Writers.{Wrote};
+use writer::Put;
+
+// A frame of any id and payload.
+#[no_mangle]
+pub extern "C" fn wardrail_write_frame(
+    id: u8,
+    payload: &[u8],
+    out: &mut [u8],
+    detail: &mut u64,
+) -> u64
+    ensures { λ r. ⌜ Wrote (frameOf (id ∷ now (payload .entry)) (now (out .entry))) r (now (detail .exit)) (now (out .exit)) ⌝ }
+{
+    let put = wire::write::raw(out, id, payload);
+    *detail = put_detail(put);
+    put_number(put)
+}
+
+#[no_mangle]
+pub extern "C" fn wardrail_write_keepalive(out: &mut [u8], detail: &mut u64) -> u64
+    ensures { λ r. ⌜ Wrote (putOf (encode keepalive) 0 (now (out .entry))) r (now (detail .exit)) (now (out .exit)) ⌝ }
+{
+    let put = wire::write::keepalive(out);
+    *detail = put_detail(put);
+    put_number(put)
+}
+
+// The handshake, its free bytes 0.
+#[no_mangle]
+pub extern "C" fn wardrail_write_handshake(
+    info: &[u8; 20],
+    peer: &[u8; 20],
+    out: &mut [u8],
+    detail: &mut u64,
+) -> u64
+    ensures { λ r. ⌜ Wrote (putOf (handshake zeros (now (info .entry)) (now (peer .entry))) 0 (now (out .entry))) r (now (detail .exit)) (now (out .exit)) ⌝ }
+{
+    let put = wire::write::handshake(out, info, peer);
+    *detail = put_detail(put);
+    put_number(put)
+}
+
+// A torrent of one file.
+#[no_mangle]
+pub extern "C" fn wardrail_write_torrent(
+    announce: &[u8],
+    name: &[u8],
+    piece_length: u64,
+    pieces: &[u8],
+    length: u64,
+    out: &mut [u8],
+    detail: &mut u64,
+) -> u64
+    ensures { λ r. ⌜ Wrote (torrentTextOf (fields (now (announce .entry)) (now (name .entry)) «piece_length» (now (pieces .entry)) length) (now (out .entry))) r (now (detail .exit)) (now (out .exit)) ⌝ }
+{
+    let put = authoring::write(out, announce, name, piece_length, pieces, length);
+    *detail = put_detail(put);
+    put_number(put)
+}
+
+// A compact reply.
+#[no_mangle]
+pub extern "C" fn wardrail_write_reply(
+    interval: u64,
+    peers: &[u8],
+    out: &mut [u8],
+    detail: &mut u64,
+) -> u64
+    ensures { λ r. ⌜ Wrote (replyTextOf interval (now (peers .entry)) (now (out .entry))) r (now (detail .exit)) (now (out .exit)) ⌝ }
+{
+    let put = tracker::writing::write(out, interval, peers);
+    *detail = put_detail(put);
+    put_number(put)
+}
+
+fn put_number(p: Put) -> u64
+    ensures { λ n. ⌜ n ≡ numberOf (paper p) ⌝ }
+{
+    match p {
+        Put::To(_) => 0,
+        Put::Refused(r) => r.number as u64,
+    }
+}
+
+fn put_detail(p: Put) -> u64
+    ensures { λ d. ⌜ d ≡ detailOf (paper p) ⌝ }
+{
+    match p {
+        Put::To(n) => n as u64,
+        Put::Refused(r) => r.place as u64,
+    }
+}
