@@ -4,3 +4,4 @@ pub mod Blocks
 pub mod Gaining
 pub mod Announcing
 pub mod Hearing
+pub mod Determined

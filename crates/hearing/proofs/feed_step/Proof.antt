@@ -34,7 +34,7 @@ refused-requires-2 c κs = search needs
 
 -- src/lib.rt:38:9
 returns-2 : tie.Need-returns-2
-returns-2 c = feed-past (c .before .before .before .before .before .before .before .args .h) (c .before .before .before .before .before .before .before .args .s) (c .before .before .before .before .before .before .before .args .rows .now) (c .before .before .before .before .before .before .before .args .holders .now) (c .before .before .before .before .before .before .before .args .n) (c .before .before .before .before .before .before .before .args .i) (c .before .before .before .before .before .before .before .args .bytes .now) (c .before .before .before .sizes-fit .result) (c .before .before .before .sizes-fit .ensures) (not-false (c .before .before .before .sizes-fit .result) (c .before .before .if1 .left)) (c .refused2 .result) (c .before .if2 .taken) (c .refused2 .ensures)
+returns-2 c = feed-past (c .before .before .before .before .before .before .before .args .h) (c .before .before .before .before .before .before .before .args .s) (c .before .before .before .before .before .before .before .args .rows .now) (c .before .before .before .before .before .before .before .args .holders .now) (c .before .before .before .before .before .before .before .args .n) (c .before .before .before .before .before .before .before .args .i) (c .before .before .before .before .before .before .before .args .bytes .now) (c .before .before .before .sizes-fit .result) (c .before .before .before .sizes-fit .ensures) (not-false (c .before .before .before .sizes-fit .result) (c .before .before .if1 .left)) (c .refused2 .result) (omega arith) (c .refused2 .ensures)
 
 -- src/lib.rt:41:9
 refused-requires-3 : tie.Need-refused-requires-3

@@ -1,3 +1,4 @@
+use native.Mathlib.Omega.{arith}
 use Rattle.hearing.proofs.Gaining.{many-over, many-none, many-past, many-full, many-not}
 use borrow.Author.Needs.{needs}
 use Rattle.hearing.proofs.news.too_many.Statement.{statement}
@@ -28,7 +29,7 @@ wide-requires-2 c κs = search needs
 
 -- src/news.rt:129:9
 returns-3 : tie.Need-returns-3
-returns-3 c = many-past (c .before .before .before .before .before .before .before .args .n) (c .before .before .before .before .before .before .before .args .h) (c .before .before .before .before .before .before .before .args .s) (c .before .before .before .before .before .before .before .args .news) (c .before .before .before .wide .ensures) (c .before .wide2 .ensures) (c .before .before .before .before .before .before .if1 .left) (c .before .before .before .before .if2 .left) (c .if3 .taken)
+returns-3 c = many-past (c .before .before .before .before .before .before .before .args .n) (c .before .before .before .before .before .before .before .args .h) (c .before .before .before .before .before .before .before .args .s) (c .before .before .before .before .before .before .before .args .news) (c .before .before .before .wide .ensures) (c .before .wide2 .ensures) (c .before .before .before .before .before .before .if1 .left) (c .before .before .before .before .if2 .left) (omega arith)
 
 -- src/news.rt:132:21
 wide-requires-3 : tie.Need-wide-requires-3
