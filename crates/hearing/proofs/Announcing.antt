@@ -1,7 +1,7 @@
 -- Frames that announce pieces, by the tests that the code makes. Assumes nothing.
 use mathlib.Core.Path.{_≡_, refl, sym, ap, ap₂, _∙_}
 use mathlib.Core.Logic.{_≢_}
-use mathlib.Core.Bool.{Bool, true, false, not, _&&_, _||_}
+use mathlib.Core.Bool.{Bool, true, false, not, _&&_}
 use mathlib.Core.List.{List}
 use Prim.Native.Nat.{ℕ, _+_, _*_, _-_, _/_, _%_, _^_, _≤_, _<_}
 use native.Mathlib.Omega.{arith}
@@ -14,7 +14,7 @@ use Rattle.refusal.specs.Numbers.{late, beyond, bitfield, spare, damaged}
 use Rattle.tables.specs.Counting.{bit, some, each}
 use Rattle.tables.specs.Rows.{digit, width, bitAt, hasIn, withBit, withBits}
 use Rattle.tables.specs.Seats.{spoken, holding, counted}
-use Rattle.tables.specs.Tables.{Turn, around, turn, refuse}
+use Rattle.tables.specs.Tables.{Turn, around, turn}
 use Rattle.tables.specs.Frames.{isNew, gain, overTop, announced, announce, haveOf, spareSet, bitfieldOf}
 use Rattle.tables.specs.declared.Head.{Head}
 use Rattle.tables.specs.declared.Seat.{Seat}

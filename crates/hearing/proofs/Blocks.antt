@@ -10,8 +10,8 @@ use Rattle.refusal.specs.Limits.{longestBlock}
 use Rattle.refusal.specs.Numbers.{beyond, outside}
 use Rattle.refusal.specs.Paper.{Outcome, taken}
 use Rattle.tables.specs.Seats.{spoken}
-use Rattle.tables.specs.Tables.{Said, serve, dropped, Turn, around, turn, says, refuse, paper}
-use Rattle.tables.specs.Frames.{passed, pieceSize, blockFits, blockOf, requested}
+use Rattle.tables.specs.Tables.{Said, serve, dropped, around, turn, paper}
+use Rattle.tables.specs.Frames.{pieceSize, blockFits, blockOf, requested}
 use Rattle.tables.specs.declared.Head.{Head}
 use Rattle.tables.specs.declared.Seat.{Seat}
 use Rattle.tables.specs.declared.Answer.{Answer}

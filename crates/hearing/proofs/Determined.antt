@@ -2,8 +2,7 @@
 use mathlib.Core.Path.{_≡_, sym, ap, subst, _∙_}
 use mathlib.Core.List.{List}
 use Prim.Native.Nat.{ℕ}
-use Rattle.refusal.specs.Paper.{Outcome}
-use Rattle.tables.specs.Tables.{Said, Around, around, Turn, turn, paper}
+use Rattle.tables.specs.Tables.{Around, around, Turn, turn, paper}
 use Rattle.tables.specs.Frames.{feedOf}
 use Rattle.tables.proofs.Keeping.{Unused, feed-keeps}
 use Rattle.tables.proofs.Telling.{turn-tells}

@@ -1,18 +1,18 @@
 -- A frame for a seat, by what it says and by the checks before it. Assumes nothing.
 use mathlib.Core.Path.{_≡_, refl, sym, ap, _∙_, subst}
-use mathlib.Core.Logic.{_⊎_, inl, inr}
+use mathlib.Core.Logic.{inl, inr}
 use mathlib.Core.Bool.{Bool, true, false, _&&_}
 use mathlib.Core.List.{List}
 use Prim.Native.Nat.{ℕ, _+_, _-_, _≤_, _<_}
 use native.Mathlib.Omega.{arith}
 use borrow.Author.Tests.{lt-ltb, le-ltb}
 use lib.Dec.{ltb}
-use lib.ListN.{length, getD, take, drop, length-take, length-drop}
+use lib.ListN.{length, getD, take, drop, length-drop}
 use lib.Seq.{length-take-le}
 use Rattle.refusal.specs.Numbers.{seat, sizes}
-use Rattle.refusal.specs.Paper.{Outcome, taken, refused}
+use Rattle.refusal.specs.Paper.{Outcome, taken}
 use Rattle.refusal.specs.declared.Refusal.{Refusal}
-use Rattle.wire.specs.Message.{Message, keepalive, choke, unchoke, interested, notInterested, have, bitfield, request, piece, cancel, other}
+use Rattle.wire.specs.Message.{Message}
 use Rattle.wire.specs.Frames.{least, Found, found, messageOf as messageBy, numberIn, readOf, message, meant, bytesAt, paper as read}
 use Rattle.wire.specs.Causes.{named, Cause}
 use Rattle.wire.specs.declared.Part.{Part}
@@ -23,11 +23,10 @@ use Rattle.wire.specs.declared.Read.the-variants.{Wait, Keepalive, Whole, Refus
 use Rattle.wire.proofs.Decided.{exactly}
 use Rattle.wire.proofs.Steps.{by-id, message-other}
 use Rattle.tables.specs.Seats.{spoken, theyChoke, theyWant}
-use Rattle.tables.specs.Tables.{Said, used, Around, Turn, around, turn, sizesFit, paper}
+use Rattle.tables.specs.Tables.{used, Turn, around, turn, sizesFit}
 use Rattle.tables.specs.Frames.{haveOf, bitfieldOf, blockOf, requested, messageOf, frameOf, feedOf}
 use Rattle.tables.specs.declared.Head.{Head}
 use Rattle.tables.specs.declared.Seat.{Seat}
-use Rattle.tables.specs.declared.Answer.{Answer}
 use Rattle.tables.specs.declared.Answer.the-variants as A
 use Rattle.tables.specs.declared.Stepped.{Stepped}
 use Rattle.tables.proofs.Cases.{pick-yes, pick-no}

@@ -1,8 +1,8 @@
 -- The passes over a bitfield: one turn more, turns over pieces that bring nothing, and what a whole pass comes to. Assumes nothing.
-use mathlib.Core.Path.{_≡_, refl, sym, ap, ap₂, _∙_}
+use mathlib.Core.Path.{_≡_, refl, sym, ap, _∙_}
 use mathlib.Core.Bool.{Bool, true, false, not, _&&_, _||_}
 use mathlib.Core.List.{List}
-use Prim.Native.Nat.{ℕ, zero, suc, _+_, _*_, _/_, _%_, _-_, _≤_, _<_, min}
+use Prim.Native.Nat.{ℕ, zero, suc, _+_, _*_, _/_, _%_, _-_, _≤_, _<_}
 use native.Mathlib.Omega.{arith}
 use native.Mathlib.Numerals.{add-one}
 use lib.Dec.{leb}
@@ -10,7 +10,7 @@ use lib.Bits.{bitOr}
 use lib.ListN.{length, getD, set}
 use borrow.Author.Tests.{leb-false, lt-leb, le-leb}
 use Rattle.tables.specs.Counting.{bit, count, some, each}
-use Rattle.tables.specs.Rows.{digit, width, bitAt, withBits}
+use Rattle.tables.specs.Rows.{digit, bitAt, withBits}
 use Rattle.tables.specs.Frames.{spareSet}
 use Rattle.tables.proofs.Cases.{same-or}
 use Rattle.tables.proofs.Counts.{bit-le, some-every}

@@ -1,10 +1,10 @@
 -- What the passes over a bitfield have found and left before piece or byte n: contracts of inner functions cite these. Assumes nothing: these are definitions.
 use mathlib.Core.Bool.{Bool, true, false, not, _&&_, _||_}
 use mathlib.Core.List.{List}
-use Prim.Native.Nat.{ℕ, zero, suc, _+_, _*_, _/_, _%_, _-_, min}
+use Prim.Native.Nat.{ℕ, zero, suc, _+_, _/_, _%_, _-_, min}
 use lib.Bits.{bitOr}
 use lib.Dec.{leb}
-use lib.ListN.{length, getD}
+use lib.ListN.{getD}
 use Rattle.tables.specs.Counting.{bit, some}
 use Rattle.tables.specs.Rows.{digit, bitAt}
 use Rattle.tables.proofs.Sweeps.{sweep}

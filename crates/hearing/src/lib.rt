@@ -52,7 +52,7 @@ pub fn feed_step(
     }
 }
 
-// A frame with an id. The others of these go by what it says.
+// A frame with an id, by what it says.
 fn frame_step(
     h: Head,
     s: Seat,

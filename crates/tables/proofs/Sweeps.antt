@@ -7,7 +7,7 @@ use native.Mathlib.Nat.{not-suc-le-zero}
 use native.Mathlib.Numerals.{add-one}
 use native.Mathlib.Omega.{arith}
 use lib.Bits.{bitOr, or-zero-r}
-use lib.ListN.{length, getD, set, take, drop, replicate, length-set, length-drop, length-replicate, getD-replicate}
+use lib.ListN.{length, getD, set, drop, replicate, length-set, length-drop, length-replicate, getD-replicate}
 use lib.Seq.{sets, length-sets, length-take-le, getD-take, getD-drop, getD-set-same, getD-set-other, set-getD, ext-getD}
 use Rattle.tables.specs.Counting.{eachFrom, each}
 use Rattle.tables.specs.Rows.{rowOf, orBytes, withBits, withoutBits}

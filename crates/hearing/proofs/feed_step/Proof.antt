@@ -1,106 +1,75 @@
-use mathlib.Core.Path.{_≡_, refl, sym, ap, _∙_}
-use Prim.Native.Nat.{ℕ, _+_, _*_, _-_, _/_, _%_, _≤_, _<_}
+-- `hearing::feed_step` meets its contract. Assumes nothing.
+use Prim.Native.Nat.{_-_, _/_}
 use native.Mathlib.Omega.{arith}
-use lib.ListN.{length}
 use borrow.Author.Tests.{not-true, not-false}
 use Rattle.hearing.proofs.Hearing.{feed-sizes, feed-past, feed-free, feed-wait, feed-refused, feed-keepalive, feed-whole, whole-inside, whole-sized}
 use borrow.Author.Needs.{needs}
 use Rattle.hearing.proofs.feed_step.Statement.{statement}
 use Rattle.hearing.proofs.feed_step.Tie as tie
-use Rattle.hearing.proofs.feed_step.Reads as reads
-use Rattle.hearing.proofs.feed_step.Lts as lts
-use Rattle.hearing.proofs.answer.passed.Reads as passed-reads
-use Rattle.hearing.proofs.answer.refused.Reads as refused-reads
-use Rattle.hearing.proofs.answer.waiting.Reads as waiting-reads
-use Rattle.hearing.proofs.frame_step.Reads as frame-step-reads
-use Rattle.tables.proofs.sizes.sizes_fit.Reads as sizes-fit-reads
-use Rattle.wire.proofs.read_frame.Reads as read-frame-reads
 
--- src/lib.rt:34:9
 sizes-fit-requires : tie.Need-sizes-fit-requires
 sizes-fit-requires c κs = search needs
 
--- src/lib.rt:35:9
 refused-requires : tie.Need-refused-requires
 refused-requires c κs = search needs
 
--- src/lib.rt:35:9
 returns : tie.Need-returns
 returns c = feed-sizes (c .before .before .before .before .before .before .args .h) (c .before .before .before .before .before .before .args .s) (c .before .before .before .before .before .before .args .rows .now) (c .before .before .before .before .before .before .args .holders .now) (c .before .before .before .before .before .before .args .n) (c .before .before .before .before .before .before .args .i) (c .before .before .before .before .before .before .args .bytes .now) (c .before .before .sizes-fit .result) (c .before .before .sizes-fit .ensures) (c .refused .result) (not-true (c .before .before .sizes-fit .result) (c .before .if1 .taken)) (c .refused .ensures)
 
--- src/lib.rt:38:9
 refused-requires-2 : tie.Need-refused-requires-2
 refused-requires-2 c κs = search needs
 
--- src/lib.rt:38:9
 returns-2 : tie.Need-returns-2
 returns-2 c = feed-past (c .before .before .before .before .before .before .before .args .h) (c .before .before .before .before .before .before .before .args .s) (c .before .before .before .before .before .before .before .args .rows .now) (c .before .before .before .before .before .before .before .args .holders .now) (c .before .before .before .before .before .before .before .args .n) (c .before .before .before .before .before .before .before .args .i) (c .before .before .before .before .before .before .before .args .bytes .now) (c .before .before .before .sizes-fit .result) (c .before .before .before .sizes-fit .ensures) (not-false (c .before .before .before .sizes-fit .result) (c .before .before .if1 .left)) (c .refused2 .result) (omega arith) (c .refused2 .ensures)
 
--- src/lib.rt:41:9
 refused-requires-3 : tie.Need-refused-requires-3
 refused-requires-3 c κs = search needs
 
--- src/lib.rt:41:9
 returns-3 : tie.Need-returns-3
 returns-3 c = feed-free (c .before .before .before .before .before .before .before .before .before .args .h) (c .before .before .before .before .before .before .before .before .before .args .s) (c .before .before .before .before .before .before .before .before .before .args .rows .now) (c .before .before .before .before .before .before .before .before .before .args .holders .now) (c .before .before .before .before .before .before .before .before .before .args .n) (c .before .before .before .before .before .before .before .before .before .args .i) (c .before .before .before .before .before .before .before .before .before .args .bytes .now) (c .before .before .before .before .before .sizes-fit .result) (c .before .before .before .before .before .sizes-fit .ensures) (not-false (c .before .before .before .before .before .sizes-fit .result) (c .before .before .before .before .if1 .left)) (c .refused3 .result) (not-true (c .before .before .before .before .before .before .before .before .before .args .s .taken) (c .before .if3 .taken)) (c .refused3 .ensures)
 
--- src/lib.rt:43:11
 read-frame-requires : tie.Need-read-frame-requires
 read-frame-requires c κs = search needs
 
--- src/lib.rt:44:23
 enum-told : tie.Need-enum-told
 enum-told c = search needs
 
--- src/lib.rt:44:23
 waiting-requires : tie.Need-waiting-requires
 waiting-requires c κs = search needs
 
--- src/lib.rt:45:23
 enum-known-r : tie.Need-enum-known-r
 enum-known-r c = search needs
 
--- src/lib.rt:45:29
 refused-requires-4 : tie.Need-refused-requires-4
 refused-requires-4 c κs = search needs
 
--- src/lib.rt:46:25
 enum-known-used : tie.Need-enum-known-used
 enum-known-used c = search needs
 
--- src/lib.rt:46:34
 passed-requires : tie.Need-passed-requires
 passed-requires c κs = search needs
 
--- src/lib.rt:47:21
 enum-known-f : tie.Need-enum-known-f
 enum-known-f c = search needs
 
--- src/lib.rt:47:33
 frame-step-requires : tie.Need-frame-step-requires
 frame-step-requires c κs = (whole-sized (c .before .before .before .before .before .before .before .before .before .before .before .before .before .before .args .h) (c .before .before .before .before .before .before .before .before .before .before .before .before .before .before .args .s) (c .before .before .before .before .before .before .before .before .before .before .before .before .before .before .args .rows .now) (c .before .before .before .before .before .before .before .before .before .before .before .before .before .before .args .holders .now) (c .before .before .before .before .before .before .before .before .before .before .before .before .before .before .args .n) (c .before .before .before .before .before .before .before .before .before .before .before .before .before .before .args .i) (c .before .before .before .before .before .before .before .before .before .before .before .before .before .before .args .bytes .now) (c .before .before .before .before .before .before .before .before .before .before .sizes-fit .result) (c .before .before .before .before .before .before .before .before .before .before .sizes-fit .ensures) (not-false (c .before .before .before .before .before .before .before .before .before .before .sizes-fit .result) (c .before .before .before .before .before .before .before .before .before .if1 .left)) (c .before .before .before .before .before .before .before .before .if2 .left) (not-false (c .before .before .before .before .before .before .before .before .before .before .before .before .before .before .args .s .taken) (c .before .before .before .before .before .before .if3 .left)) (c .before .before .before .before .before .read-frame .result) (c .before .before .before .before .before .read-frame .ensures), whole-inside (c .before .before .before .before .before .before .before .before .before .before .before .before .before .before .args .h) (c .before .before .before .before .before .before .before .before .before .before .before .before .before .before .args .s) (c .before .before .before .before .before .before .before .before .before .before .before .before .before .before .args .rows .now) (c .before .before .before .before .before .before .before .before .before .before .before .before .before .before .args .holders .now) (c .before .before .before .before .before .before .before .before .before .before .before .before .before .before .args .n) (c .before .before .before .before .before .before .before .before .before .before .before .before .before .before .args .i) (c .before .before .before .before .before .before .before .before .before .before .before .before .before .before .args .bytes .now) (c .before .before .before .before .before .before .before .before .before .before .sizes-fit .result) (c .before .before .before .before .before .before .before .before .before .before .sizes-fit .ensures) (not-false (c .before .before .before .before .before .before .before .before .before .before .sizes-fit .result) (c .before .before .before .before .before .before .before .before .before .if1 .left)) (c .before .before .before .before .before .before .before .before .if2 .left) (not-false (c .before .before .before .before .before .before .before .before .before .before .before .before .before .before .args .s .taken) (c .before .before .before .before .before .before .if3 .left)) (c .before .before .before .before .before .read-frame .result) (c .before .before .before .before .before .read-frame .ensures) _ _ (c .before .before .before .f .given .1))
 
--- src/lib.rt:21:1
 returns-4 : tie.Need-returns-4
 returns-4 c = feed-wait (c .before .before .before .before .before .before .before .before .before .before .before .before .args .h) (c .before .before .before .before .before .before .before .before .before .before .before .before .args .s) (c .before .before .before .before .before .before .before .before .before .before .before .before .args .rows .now) (c .before .before .before .before .before .before .before .before .before .before .before .before .args .holders .now) (c .before .before .before .before .before .before .before .before .before .before .before .before .args .n) (c .before .before .before .before .before .before .before .before .before .before .before .before .args .i) (c .before .before .before .before .before .before .before .before .before .before .before .before .args .bytes .now) (c .before .before .before .before .before .before .before .before .sizes-fit .result) (c .before .before .before .before .before .before .before .before .sizes-fit .ensures) (not-false (c .before .before .before .before .before .before .before .before .sizes-fit .result) (c .before .before .before .before .before .before .before .if1 .left)) (c .before .before .before .before .before .before .if2 .left) (not-false (c .before .before .before .before .before .before .before .before .before .before .before .before .args .s .taken) (c .before .before .before .before .if3 .left)) (c .before .before .before .read-frame .result) (c .before .before .before .read-frame .ensures) (c .waiting .result) (c .before .enum-told .given .1) (c .waiting .ensures)
 
--- src/lib.rt:21:1
 returns-5 : tie.Need-returns-5
 returns-5 c = feed-refused (c .before .before .before .before .before .before .before .before .before .before .before .before .before .args .h) (c .before .before .before .before .before .before .before .before .before .before .before .before .before .args .s) (c .before .before .before .before .before .before .before .before .before .before .before .before .before .args .rows .now) (c .before .before .before .before .before .before .before .before .before .before .before .before .before .args .holders .now) (c .before .before .before .before .before .before .before .before .before .before .before .before .before .args .n) (c .before .before .before .before .before .before .before .before .before .before .before .before .before .args .i) (c .before .before .before .before .before .before .before .before .before .before .before .before .before .args .bytes .now) (c .before .before .before .before .before .before .before .before .before .sizes-fit .result) (c .before .before .before .before .before .before .before .before .before .sizes-fit .ensures) (not-false (c .before .before .before .before .before .before .before .before .before .sizes-fit .result) (c .before .before .before .before .before .before .before .before .if1 .left)) (c .before .before .before .before .before .before .before .if2 .left) (not-false (c .before .before .before .before .before .before .before .before .before .before .before .before .before .args .s .taken) (c .before .before .before .before .before .if3 .left)) (c .before .before .before .before .read-frame .result) (c .before .before .before .before .read-frame .ensures) (c .refused4 .result) _ (c .before .before .r .given .1) (c .refused4 .ensures)
 
--- src/lib.rt:21:1
 returns-6 : tie.Need-returns-6
 returns-6 c = feed-keepalive (c .before .before .before .before .before .before .before .before .before .before .before .before .before .args .h) (c .before .before .before .before .before .before .before .before .before .before .before .before .before .args .s) (c .before .before .before .before .before .before .before .before .before .before .before .before .before .args .rows .now) (c .before .before .before .before .before .before .before .before .before .before .before .before .before .args .holders .now) (c .before .before .before .before .before .before .before .before .before .before .before .before .before .args .n) (c .before .before .before .before .before .before .before .before .before .before .before .before .before .args .i) (c .before .before .before .before .before .before .before .before .before .before .before .before .before .args .bytes .now) (c .before .before .before .before .before .before .before .before .before .sizes-fit .result) (c .before .before .before .before .before .before .before .before .before .sizes-fit .ensures) (not-false (c .before .before .before .before .before .before .before .before .before .sizes-fit .result) (c .before .before .before .before .before .before .before .before .if1 .left)) (c .before .before .before .before .before .before .before .if2 .left) (not-false (c .before .before .before .before .before .before .before .before .before .before .before .before .before .args .s .taken) (c .before .before .before .before .before .if3 .left)) (c .before .before .before .before .read-frame .result) (c .before .before .before .before .read-frame .ensures) (c .passed .result) _ (c .before .before .used .given .1) (c .passed .ensures)
 
--- src/lib.rt:21:1
 same-length : tie.Need-same-length
 same-length c = search needs
 
--- src/lib.rt:21:1
 same-length-2 : tie.Need-same-length-2
 same-length-2 c = search needs
 
--- src/lib.rt:21:1
 returns-7 : tie.Need-returns-7
 returns-7 c = feed-whole (c .before .before .before .before .before .before .before .before .before .before .before .before .before .before .before .before .before .before .before .args .h) (c .before .before .before .before .before .before .before .before .before .before .before .before .before .before .before .before .before .before .before .args .s) (c .before .before .before .before .before .before .before .before .before .before .before .before .before .before .before .before .before .before .before .args .rows .now) (c .before .before .before .before .before .before .before .before .before .before .before .before .before .before .before .before .before .before .before .args .holders .now) (c .before .before .before .before .before .before .before .before .before .before .before .before .before .before .before .before .before .before .before .args .n) (c .before .before .before .before .before .before .before .before .before .before .before .before .before .before .before .before .before .before .before .args .i) (c .before .before .before .before .before .before .before .before .before .before .before .before .before .before .before .before .before .before .before .args .bytes .now) (c .before .before .before .before .before .before .before .before .before .before .before .before .before .before .before .sizes-fit .result) (c .before .before .before .before .before .before .before .before .before .before .before .before .before .before .before .sizes-fit .ensures) (not-false (c .before .before .before .before .before .before .before .before .before .before .before .before .before .before .before .sizes-fit .result) (c .before .before .before .before .before .before .before .before .before .before .before .before .before .before .if1 .left)) (c .before .before .before .before .before .before .before .before .before .before .before .before .before .if2 .left) (not-false (c .before .before .before .before .before .before .before .before .before .before .before .before .before .before .before .before .before .before .before .args .s .taken) (c .before .before .before .before .before .before .before .before .before .before .before .if3 .left)) (c .before .before .before .before .before .before .before .before .before .before .read-frame .result) (c .before .before .before .before .before .before .before .before .before .before .read-frame .ensures) _ _ _ (c .before .before .before .before .before .before .before .before .f .given .1) (c .before .before .before .before .frame-step .ensures)
 

@@ -1,205 +1,149 @@
-use mathlib.Core.Path.{_≡_, refl, sym, ap, _∙_}
-use Prim.Native.Nat.{ℕ, _+_, _*_, _-_, _/_, _%_, _≤_, _<_}
+-- `hearing::frame_step` meets its contract. Assumes nothing.
+use mathlib.Core.Path.{refl}
+use Prim.Native.Nat.{_-_, _/_}
 use native.Mathlib.Omega.{arith}
-use lib.ListN.{length}
 use Rattle.tables.specs.Frames.{requested}
 use Rattle.tables.specs.Tables.{used}
 use Rattle.hearing.proofs.Hearing.{heard-choke, heard-unchoke, heard-interested, heard-not-interested, heard-other, said-have, part-in, said-bits, said-request, said-piece, said-cancel}
 use borrow.Author.Needs.{needs}
 use Rattle.hearing.proofs.frame_step.Statement.{statement}
 use Rattle.hearing.proofs.frame_step.Tie as tie
-use Rattle.hearing.proofs.frame_step.Reads as reads
-use Rattle.hearing.proofs.frame_step.Lts as lts
-use Rattle.hearing.proofs.answer.passed.Reads as passed-reads
-use Rattle.hearing.proofs.block.asked.Reads as asked-reads
-use Rattle.hearing.proofs.block.block_step.Reads as block-step-reads
-use Rattle.hearing.proofs.news.bitfield_step.Reads as bitfield-step-reads
-use Rattle.hearing.proofs.news.have_step.Reads as have-step-reads
-use Rattle.hearing.proofs.they_choke.Reads as they-choke-reads
-use Rattle.hearing.proofs.they_want.Reads as they-want-reads
-use Rattle.tables.proofs.sizes.wide.Reads as wide-reads
 
--- src/lib.rt:67:43
 enum-told : tie.Need-enum-told
 enum-told c = search needs
 
--- src/lib.rt:67:43
 they-choke-requires : tie.Need-they-choke-requires
 they-choke-requires c κs = search needs
 
--- src/lib.rt:67:25
 passed-requires : tie.Need-passed-requires
 passed-requires c κs = search needs
 
--- src/lib.rt:68:45
 enum-told-2 : tie.Need-enum-told-2
 enum-told-2 c = search needs
 
--- src/lib.rt:68:45
 they-choke-requires-2 : tie.Need-they-choke-requires-2
 they-choke-requires-2 c κs = search needs
 
--- src/lib.rt:68:27
 passed-requires-2 : tie.Need-passed-requires-2
 passed-requires-2 c κs = search needs
 
--- src/lib.rt:69:48
 enum-told-3 : tie.Need-enum-told-3
 enum-told-3 c = search needs
 
--- src/lib.rt:69:48
 they-want-requires : tie.Need-they-want-requires
 they-want-requires c κs = search needs
 
--- src/lib.rt:69:30
 passed-requires-3 : tie.Need-passed-requires-3
 passed-requires-3 c κs = search needs
 
--- src/lib.rt:70:51
 enum-told-4 : tie.Need-enum-told-4
 enum-told-4 c = search needs
 
--- src/lib.rt:70:51
 they-want-requires-2 : tie.Need-they-want-requires-2
 they-want-requires-2 c κs = search needs
 
--- src/lib.rt:70:33
 passed-requires-4 : tie.Need-passed-requires-4
 passed-requires-4 c κs = search needs
 
--- src/lib.rt:71:21
 enum-known-f : tie.Need-enum-known-f
 enum-known-f c = search needs
 
--- src/lib.rt:71:76
 wide-requires : tie.Need-wide-requires
 wide-requires c κs = search needs
 
--- src/lib.rt:71:27
 have-step-requires : tie.Need-have-step-requires
 have-step-requires c κs = search needs
 
--- src/lib.rt:72:25
 enum-known-f-2 : tie.Need-enum-known-f-2
 enum-known-f-2 c = search needs
 
--- src/lib.rt:74:23
 add-end : tie.Need-add-end
 add-end c = let l = part-in (c .before .before .before .before .before .before .before .args .h) (c .before .before .before .before .before .before .before .args .s) (c .before .before .before .before .before .before .before .args .rows .now) (c .before .before .before .before .before .before .before .args .holders .now) (c .before .before .before .before .before .before .before .args .n) (c .before .before .before .before .before .before .before .args .i) (c .before .before .before .before .before .before .before .args .used) (c .before .before .before .before .before .before .before .args .bytes .now) (c .before .before .before .before .before .before .before .args .f) _ (c .before .before .f2 .given .1) (c .before .before .before .before .before .before .before .pre .1) in omega arith
 
--- src/lib.rt:75:66
 sub-bitfield-step : tie.Need-sub-bitfield-step
 sub-bitfield-step c = search needs
 
--- src/lib.rt:75:66
 part-bitfield-step-start : tie.Need-part-bitfield-step-start
 part-bitfield-step-start c = search needs
 
--- src/lib.rt:75:66
 part-bitfield-step-end : tie.Need-part-bitfield-step-end
 part-bitfield-step-end c = let l = part-in (c .before .before .before .before .before .before .before .before .before .args .h) (c .before .before .before .before .before .before .before .before .before .args .s) (c .before .before .before .before .before .before .before .before .before .args .rows .now) (c .before .before .before .before .before .before .before .before .before .args .holders .now) (c .before .before .before .before .before .before .before .before .before .args .n) (c .before .before .before .before .before .before .before .before .before .args .i) (c .before .before .before .before .before .before .before .before .before .args .used) (c .before .before .before .before .before .before .before .before .before .args .bytes .now) (c .before .before .before .before .before .before .before .before .before .args .f) _ (c .before .before .before .before .f2 .given .1) (c .before .before .before .before .before .before .before .before .before .pre .1) in omega arith
 
--- src/lib.rt:75:13
 bitfield-step-requires : tie.Need-bitfield-step-requires
 bitfield-step-requires c κs = search needs
 
--- src/lib.rt:77:24
 enum-known-f-3 : tie.Need-enum-known-f-3
 enum-known-f-3 c = search needs
 
--- src/lib.rt:78:47
 wide-requires-2 : tie.Need-wide-requires-2
 wide-requires-2 c κs = search needs
 
--- src/lib.rt:78:58
 asked-requires : tie.Need-asked-requires
 asked-requires c κs = search needs
 
--- src/lib.rt:78:13
 block-step-requires : tie.Need-block-step-requires
 block-step-requires c κs = search needs
 
--- src/lib.rt:80:22
 enum-known-f-4 : tie.Need-enum-known-f-4
 enum-known-f-4 c = search needs
 
--- src/lib.rt:81:13
 block-step-requires-2 : tie.Need-block-step-requires-2
 block-step-requires-2 c κs = search needs
 
--- src/lib.rt:83:23
 enum-known-f-5 : tie.Need-enum-known-f-5
 enum-known-f-5 c = search needs
 
--- src/lib.rt:84:47
 wide-requires-3 : tie.Need-wide-requires-3
 wide-requires-3 c κs = search needs
 
--- src/lib.rt:84:13
 block-step-requires-3 : tie.Need-block-step-requires-3
 block-step-requires-3 c κs = search needs
 
--- src/lib.rt:86:31
 enum-told-5 : tie.Need-enum-told-5
 enum-told-5 c = search needs
 
--- src/lib.rt:86:31
 passed-requires-5 : tie.Need-passed-requires-5
 passed-requires-5 c κs = search needs
 
--- src/lib.rt:52:1
 returns : tie.Need-returns
 returns c = heard-choke (c .before .before .before .before .before .before .before .args .h) (c .before .before .before .before .before .before .before .args .s) (c .before .before .before .before .before .before .before .args .rows .now) (c .before .before .before .before .before .before .before .args .holders .now) (c .before .before .before .before .before .before .before .args .n) (c .before .before .before .before .before .before .before .args .i) (c .before .before .before .before .before .before .before .args .used) (c .before .before .before .before .before .before .before .args .bytes .now) (c .before .before .before .before .before .before .before .args .f) (c .before .they-choke .result) (c .passed .result) (c .passed .ensures) (c .before .before .enum-told .given .1) (c .before .they-choke .ensures)
 
--- src/lib.rt:52:1
 returns-2 : tie.Need-returns-2
 returns-2 c = heard-unchoke (c .before .before .before .before .before .before .before .args .h) (c .before .before .before .before .before .before .before .args .s) (c .before .before .before .before .before .before .before .args .rows .now) (c .before .before .before .before .before .before .before .args .holders .now) (c .before .before .before .before .before .before .before .args .n) (c .before .before .before .before .before .before .before .args .i) (c .before .before .before .before .before .before .before .args .used) (c .before .before .before .before .before .before .before .args .bytes .now) (c .before .before .before .before .before .before .before .args .f) (c .before .they-choke2 .result) (c .passed2 .result) (c .passed2 .ensures) (c .before .before .enum-told2 .given .1) (c .before .they-choke2 .ensures)
 
--- src/lib.rt:52:1
 returns-3 : tie.Need-returns-3
 returns-3 c = heard-interested (c .before .before .before .before .before .before .before .args .h) (c .before .before .before .before .before .before .before .args .s) (c .before .before .before .before .before .before .before .args .rows .now) (c .before .before .before .before .before .before .before .args .holders .now) (c .before .before .before .before .before .before .before .args .n) (c .before .before .before .before .before .before .before .args .i) (c .before .before .before .before .before .before .before .args .used) (c .before .before .before .before .before .before .before .args .bytes .now) (c .before .before .before .before .before .before .before .args .f) (c .before .they-want .result) (c .passed3 .result) (c .passed3 .ensures) (c .before .before .enum-told3 .given .1) (c .before .they-want .ensures)
 
--- src/lib.rt:52:1
 returns-4 : tie.Need-returns-4
 returns-4 c = heard-not-interested (c .before .before .before .before .before .before .before .args .h) (c .before .before .before .before .before .before .before .args .s) (c .before .before .before .before .before .before .before .args .rows .now) (c .before .before .before .before .before .before .before .args .holders .now) (c .before .before .before .before .before .before .before .args .n) (c .before .before .before .before .before .before .before .args .i) (c .before .before .before .before .before .before .before .args .used) (c .before .before .before .before .before .before .before .args .bytes .now) (c .before .before .before .before .before .before .before .args .f) (c .before .they-want2 .result) (c .passed4 .result) (c .passed4 .ensures) (c .before .before .enum-told4 .given .1) (c .before .they-want2 .ensures)
 
--- src/lib.rt:52:1
 same-length : tie.Need-same-length
 same-length c = search needs
 
--- src/lib.rt:52:1
 same-length-2 : tie.Need-same-length-2
 same-length-2 c = search needs
 
--- src/lib.rt:52:1
 returns-5 : tie.Need-returns-5
 returns-5 c = said-have (c .before .before .before .before .before .before .before .before .before .before .before .before .before .before .args .h) (c .before .before .before .before .before .before .before .before .before .before .before .before .before .before .args .s) (c .before .before .before .before .before .before .before .before .before .before .before .before .before .before .args .rows .now) (c .before .before .before .before .before .before .before .before .before .before .before .before .before .before .args .holders .now) (c .before .before .before .before .before .before .before .before .before .before .before .before .before .before .args .n) (c .before .before .before .before .before .before .before .before .before .before .before .before .before .before .args .i) (c .before .before .before .before .before .before .before .before .before .before .before .before .before .before .args .used) (c .before .before .before .before .before .before .before .before .before .before .before .before .before .before .args .bytes .now) (c .before .before .before .before .before .before .before .before .before .before .before .before .before .before .args .f) _ _ (c .before .before .before .before .before .wide .result) (c .before .before .before .before .before .before .before .before .before .f .given .1) (c .before .before .before .before .before .wide .ensures) (c .before .before .before .before .have-step .ensures)
 
--- src/lib.rt:52:1
 same-length-3 : tie.Need-same-length-3
 same-length-3 c = search needs
 
--- src/lib.rt:52:1
 same-length-4 : tie.Need-same-length-4
 same-length-4 c = search needs
 
--- src/lib.rt:52:1
 returns-6 : tie.Need-returns-6
 returns-6 c = said-bits (c .before .before .before .before .before .before .before .before .before .before .before .before .before .before .before .args .h) (c .before .before .before .before .before .before .before .before .before .before .before .before .before .before .before .args .s) (c .before .before .before .before .before .before .before .before .before .before .before .before .before .before .before .args .rows .now) (c .before .before .before .before .before .before .before .before .before .before .before .before .before .before .before .args .holders .now) (c .before .before .before .before .before .before .before .before .before .before .before .before .before .before .before .args .n) (c .before .before .before .before .before .before .before .before .before .before .before .before .before .before .before .args .i) (c .before .before .before .before .before .before .before .before .before .before .before .before .before .before .before .args .used) (c .before .before .before .before .before .before .before .before .before .before .before .before .before .before .before .args .bytes .now) (c .before .before .before .before .before .before .before .before .before .before .before .before .before .before .before .args .f) _ _ (c .before .before .before .before .before .before .before .before .before .before .f2 .given .1) (c .before .before .before .before .bitfield-step .ensures)
 
--- src/lib.rt:52:1
 returns-7 : tie.Need-returns-7
 returns-7 c = said-request (c .before .before .before .before .before .before .before .before .before .args .h) (c .before .before .before .before .before .before .before .before .before .args .s) (c .before .before .before .before .before .before .before .before .before .args .rows .now) (c .before .before .before .before .before .before .before .before .before .args .holders .now) (c .before .before .before .before .before .before .before .before .before .args .n) (c .before .before .before .before .before .before .before .before .before .args .i) (c .before .before .before .before .before .before .before .before .before .args .used) (c .before .before .before .before .before .before .before .before .before .args .bytes .now) (c .before .before .before .before .before .before .before .before .before .args .f) _ _ _ _ (c .before .before .wide2 .result) (c .before .before .before .before .f3 .given .1) (c .before .before .wide2 .ensures) (c .block-step .ensures (c .before .before .before .before .before .before .before .before .before .args .rows .now) (c .before .before .before .before .before .before .before .before .before .args .holders .now) (requested (c .before .before .before .before .before .before .before .before .before .args .used) (c .before .before .before .before .before .before .before .before .before .args .s)) (c .before .asked .ensures))
 
--- src/lib.rt:52:1
 returns-8 : tie.Need-returns-8
 returns-8 c = said-piece (c .before .before .before .before .before .before .before .args .h) (c .before .before .before .before .before .before .before .args .s) (c .before .before .before .before .before .before .before .args .rows .now) (c .before .before .before .before .before .before .before .args .holders .now) (c .before .before .before .before .before .before .before .args .n) (c .before .before .before .before .before .before .before .args .i) (c .before .before .before .before .before .before .before .args .used) (c .before .before .before .before .before .before .before .args .bytes .now) (c .before .before .before .before .before .before .before .args .f) _ _ _ _ (c .before .before .f4 .given .1) (c .before .before .before .before .before .before .before .pre .1) (c .block-step2 .ensures (c .before .before .before .before .before .before .before .args .rows .now) (c .before .before .before .before .before .before .before .args .holders .now) (used (c .before .before .before .before .before .before .before .args .used)) refl)
 
--- src/lib.rt:52:1
 returns-9 : tie.Need-returns-9
 returns-9 c = said-cancel (c .before .before .before .before .before .before .before .before .args .h) (c .before .before .before .before .before .before .before .before .args .s) (c .before .before .before .before .before .before .before .before .args .rows .now) (c .before .before .before .before .before .before .before .before .args .holders .now) (c .before .before .before .before .before .before .before .before .args .n) (c .before .before .before .before .before .before .before .before .args .i) (c .before .before .before .before .before .before .before .before .args .used) (c .before .before .before .before .before .before .before .before .args .bytes .now) (c .before .before .before .before .before .before .before .before .args .f) _ _ _ _ (c .before .wide3 .result) (c .before .before .before .f5 .given .1) (c .before .wide3 .ensures) (c .block-step3 .ensures (c .before .before .before .before .before .before .before .before .args .rows .now) (c .before .before .before .before .before .before .before .before .args .holders .now) (used (c .before .before .before .before .before .before .before .before .args .used)) refl)
 
--- src/lib.rt:52:1
 returns-10 : tie.Need-returns-10
 returns-10 c = heard-other (c .before .before .before .before .before .before .args .h) (c .before .before .before .before .before .before .args .s) (c .before .before .before .before .before .before .args .rows .now) (c .before .before .before .before .before .before .args .holders .now) (c .before .before .before .before .before .before .args .n) (c .before .before .before .before .before .before .args .i) (c .before .before .before .before .before .before .args .used) (c .before .before .before .before .before .before .args .bytes .now) (c .before .before .before .before .before .before .args .f) (c .before .before .before .before .before .before .args .s) (c .passed5 .result) (c .passed5 .ensures) _ _ (c .before .enum-told5 .given .1) refl
 

@@ -1,24 +1,18 @@
-use mathlib.Core.Path.{_≡_, refl, sym, ap, _∙_}
+-- `hearing::answer::passed` meets its contract. Assumes nothing.
+use mathlib.Core.Path.{ap, _∙_}
 use Rattle.tables.specs.declared.Seat.{Seat}
 use Rattle.tables.specs.declared.Answer.the-variants.{Taken}
 use Rattle.hearing.specs.Steps.{stepped}
 use borrow.Author.Needs.{needs}
 use Rattle.hearing.proofs.answer.passed.Statement.{statement}
 use Rattle.hearing.proofs.answer.passed.Tie as tie
-use Rattle.hearing.proofs.answer.passed.Reads as reads
-use Rattle.hearing.proofs.answer.passed.Lts as lts
-use Rattle.hearing.proofs.answer.spoken.Reads as spoken-reads
-use Rattle.hearing.proofs.answer.taken.Reads as taken-reads
 
--- src/answer.rt:44:14
 spoken-requires : tie.Need-spoken-requires
 spoken-requires c κs = search needs
 
--- src/answer.rt:44:5
 taken-requires : tie.Need-taken-requires
 taken-requires c κs = search needs
 
--- src/answer.rt:41:1
 returns : tie.Need-returns
 returns c = c .taken .ensures ∙ ap (λ (t : Seat). stepped (c .before .before .args .h) t (Taken (c .before .before .args .used))) (c .before .spoken .ensures)
 

@@ -1,19 +1,14 @@
+-- `hearing::block::asked` meets its contract. Assumes nothing.
 use Rattle.hearing.proofs.Blocks.{asked-choking, asked-served, asked-idle}
-use borrow.Author.Needs.{needs}
 use Rattle.hearing.proofs.block.asked.Statement.{statement}
 use Rattle.hearing.proofs.block.asked.Tie as tie
-use Rattle.hearing.proofs.block.asked.Reads as reads
-use Rattle.hearing.proofs.block.asked.Lts as lts
 
--- src/block.rt:36:9
 returns : tie.Need-returns
 returns c = asked-choking (c .before .args .used) (c .before .args .s) (c .if1 .taken)
 
--- src/block.rt:39:9
 returns-2 : tie.Need-returns-2
 returns-2 c = asked-served (c .before .before .args .used) (c .before .before .args .s) (c .before .if1 .left) (c .if2 .taken)
 
--- src/block.rt:32:1
 returns-3 : tie.Need-returns-3
 returns-3 c = asked-idle (c .before .before .args .used) (c .before .before .args .s) (c .if2 .left)
 

@@ -1,4 +1,5 @@
-use mathlib.Core.Path.{_≡_, refl, sym, ap, _∙_}
+-- `hearing::block::block_step` meets its contract. Assumes nothing.
+use mathlib.Core.Path.{ap}
 use borrow.Author.Tests.{not-true, not-false}
 use Rattle.tables.specs.declared.Seat.{Seat}
 use Rattle.hearing.specs.Steps.{stepped}
@@ -6,37 +7,25 @@ use Rattle.hearing.proofs.Blocks.{block-beyond, block-outside, block-th
 use borrow.Author.Needs.{needs}
 use Rattle.hearing.proofs.block.block_step.Statement.{statement}
 use Rattle.hearing.proofs.block.block_step.Tie as tie
-use Rattle.hearing.proofs.block.block_step.Reads as reads
-use Rattle.hearing.proofs.block.block_step.Lts as lts
-use Rattle.hearing.proofs.answer.refused.Reads as refused-reads
-use Rattle.hearing.proofs.answer.spoken.Reads as spoken-reads
-use Rattle.hearing.proofs.block.lies_within.Reads as lies-within-reads
 
--- src/block.rt:19:9
 refused-requires : tie.Need-refused-requires
 refused-requires c κs = search needs
 
--- src/block.rt:19:9
 returns : tie.Need-returns
 returns c = λ rows holders said e. block-beyond (c .before .before .before .args .h) (c .before .before .before .args .s) (c .before .before .before .args .p) (c .before .before .before .args .begin) (c .before .before .before .args .len) (c .refused .result) rows holders said (c .before .if1 .taken) (c .refused .ensures)
 
--- src/block.rt:21:9
 lies-within-requires : tie.Need-lies-within-requires
 lies-within-requires c κs = search needs
 
--- src/block.rt:22:9
 refused-requires-2 : tie.Need-refused-requires-2
 refused-requires-2 c κs = search needs
 
--- src/block.rt:22:9
 returns-2 : tie.Need-returns-2
 returns-2 c = λ rows holders said e. block-outside (c .before .before .before .before .before .args .h) (c .before .before .before .before .before .args .s) (c .before .before .before .before .before .args .p) (c .before .before .before .before .before .args .begin) (c .before .before .before .before .before .args .len) (c .refused2 .result) rows holders said (c .before .before .lies-within .result) (c .before .before .before .if1 .left) (c .before .before .lies-within .ensures) (not-true (c .before .before .lies-within .result) (c .before .if2 .taken)) (c .refused2 .ensures)
 
--- src/block.rt:26:15
 spoken-requires : tie.Need-spoken-requires
 spoken-requires c κs = search needs
 
--- src/block.rt:15:1
 returns-3 : tie.Need-returns-3
 returns-3 c = λ rows holders said e. block-there (c .before .before .before .before .before .args .h) (c .before .before .before .before .before .args .s) (c .before .before .before .before .before .args .p) (c .before .before .before .before .before .args .begin) (c .before .before .before .before .before .args .len) _ rows holders said (c .before .before .lies-within .result) (c .before .before .before .before .before .args .a) (c .before .before .before .if1 .left) (c .before .before .lies-within .ensures) (not-false (c .before .before .lies-within .result) (c .before .if2 .left)) (ap (λ (t : Seat). stepped (c .before .before .before .before .before .args .h) t (c .before .before .before .before .before .args .a)) (c .spoken .ensures)) e
 

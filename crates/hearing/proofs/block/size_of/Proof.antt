@@ -1,36 +1,27 @@
+-- `hearing::block::size_of` meets its contract. Assumes nothing.
 use Rattle.hearing.proofs.Blocks.{size-last, size-other}
 use borrow.Author.Needs.{needs}
 use Rattle.hearing.proofs.block.size_of.Statement.{statement}
 use Rattle.hearing.proofs.block.size_of.Tie as tie
-use Rattle.hearing.proofs.block.size_of.Reads as reads
-use Rattle.hearing.proofs.block.size_of.Lts as lts
-use Rattle.tables.proofs.sizes.wide.Reads as wide-reads
 
--- src/block.rt:61:8
 wide-requires : tie.Need-wide-requires
 wide-requires c κs = search needs
 
--- src/block.rt:61:8
 add-if1 : tie.Need-add-if1
 add-if1 c = search needs
 
--- src/block.rt:61:23
 wide-requires-2 : tie.Need-wide-requires-2
 wide-requires-2 c κs = search needs
 
--- src/block.rt:62:9
 wide-requires-3 : tie.Need-wide-requires-3
 wide-requires-3 c κs = search needs
 
--- src/block.rt:62:9
 returns : tie.Need-returns
 returns c = size-last (c .before .before .before .before .args .h) (c .before .before .before .before .args .p) (c .before .before .before .wide .ensures) (c .before .before .wide2 .ensures) (c .before .if1 .taken) (c .wide3 .ensures)
 
--- src/block.rt:64:5
 wide-requires-4 : tie.Need-wide-requires-4
 wide-requires-4 c κs = search needs
 
--- src/block.rt:58:1
 returns-2 : tie.Need-returns-2
 returns-2 c = size-other (c .before .before .before .before .args .h) (c .before .before .before .before .args .p) (c .before .before .before .wide .ensures) (c .before .before .wide2 .ensures) (c .before .if1 .left) (c .wide4 .ensures)
 

@@ -1,82 +1,57 @@
-use mathlib.Core.Path.{_≡_, refl, sym, ap, _∙_}
-use Prim.Native.Nat.{ℕ, _+_, _*_, _-_, _/_, _%_, _≤_, _<_}
+-- `hearing::news::add_step` meets its contract. Assumes nothing.
+use mathlib.Core.Path.{sym, _∙_}
+use Prim.Native.Nat.{_-_, _/_}
 use native.Mathlib.Omega.{arith}
-use lib.ListN.{length}
 use Rattle.hearing.proofs.Announcing.{row-fits, news-few, bits-bad, bits-good}
 use borrow.Author.Needs.{needs}
 use Rattle.hearing.proofs.news.add_step.Statement.{statement}
 use Rattle.hearing.proofs.news.add_step.Tie as tie
-use Rattle.hearing.proofs.news.add_step.Reads as reads
-use Rattle.hearing.proofs.news.add_step.Lts as lts
-use Rattle.hearing.proofs.answer.refused.Reads as refused-reads
-use Rattle.hearing.proofs.news.gain.Reads as gain-reads
-use Rattle.hearing.proofs.news.too_many.Reads as too-many-reads
-use Rattle.hearing.proofs.row.check_row.Reads as check-row-reads
-use Rattle.hearing.proofs.row.merge_row.Reads as merge-row-reads
-use Rattle.hearing.proofs.row.raise_row.Reads as raise-row-reads
-use Rattle.tables.proofs.sizes.wide.Reads as wide-reads
 
--- src/news.rt:93:9
 wide-requires : tie.Need-wide-requires
 wide-requires c κs = search needs
 
--- src/news.rt:94:14
 add-w : tie.Need-add-w
 add-w c = search needs
 
--- src/news.rt:95:14
 mul-at : tie.Need-mul-at
 mul-at c = let f = row-fits (c .before .before .before .before .args .h) (c .before .before .before .before .args .s) (c .before .before .before .before .args .rows .now) (c .before .before .before .before .args .holders .now) (c .before .before .before .before .args .n) (c .before .before .before .before .args .i) (c .before .before .before .before .args .used) (c .before .before .before .before .args .said .now) (c .before .before .before .before .pre .0) (c .wide .result) (c .wide .ensures) in omega arith
 
--- src/news.rt:96:64
 cast-check-row : tie.Need-cast-check-row
 cast-check-row c = search needs
 
--- src/news.rt:96:9
 check-row-requires : tie.Need-check-row-requires
 check-row-requires c κs = (row-fits (c .before .before .before .before .before .before .args .h) (c .before .before .before .before .before .before .args .s) (c .before .before .before .before .before .before .args .rows .now) (c .before .before .before .before .before .before .args .holders .now) (c .before .before .before .before .before .before .args .n) (c .before .before .before .before .before .before .args .i) (c .before .before .before .before .before .before .args .used) (c .before .before .before .before .before .before .args .said .now) (c .before .before .before .before .before .before .pre .0) (c .before .before .wide .result) (c .before .before .wide .ensures), omega (arith, c .before .before .before .before .before .before .pre .1, c .before .before .wide .ensures), omega (arith, c .before .before .before .before .before .before .pre .0 .counts, c .before .before .wide .ensures), omega (arith, c .before .before .before .before .before .before .pre .0 .few, c .before .before .wide .ensures))
 
--- src/news.rt:97:8
 too-many-requires : tie.Need-too-many-requires
 too-many-requires c κs = news-few (c .before .before .before .before .before .before .before .args .h) (c .before .before .before .before .before .before .before .args .s) (c .before .before .before .before .before .before .before .args .rows .now) (c .before .before .before .before .before .before .before .args .holders .now) (c .before .before .before .before .before .before .before .args .n) (c .before .before .before .before .before .before .before .args .i) (c .before .before .before .before .before .before .before .args .used) (c .before .before .before .before .before .before .before .args .said .now) (c .before .before .before .before .before .before .before .pre .0) (c .before .before .before .wide .result) (c .before .before .before .wide .ensures) (c .check-row .result) (c .check-row .ensures)
 
--- src/news.rt:98:9
 refused-requires : tie.Need-refused-requires
 refused-requires c κs = search needs
 
--- src/news.rt:98:9
 same-length : tie.Need-same-length
 same-length c = search needs
 
--- src/news.rt:98:9
 same-length-2 : tie.Need-same-length-2
 same-length-2 c = search needs
 
--- src/news.rt:98:9
 returns : tie.Need-returns
 returns c = bits-bad (c .before .before .before .before .before .before .before .before .before .before .args .h) (c .before .before .before .before .before .before .before .before .before .before .args .s) (c .before .before .before .before .before .before .before .before .before .before .args .rows .now) (c .before .before .before .before .before .before .before .before .before .before .args .holders .now) (c .before .before .before .before .before .before .before .before .before .before .args .n) (c .before .before .before .before .before .before .before .before .before .before .args .i) (c .before .before .before .before .before .before .before .before .before .before .args .used) (c .before .before .before .before .before .before .before .before .before .before .args .said .now) (c .before .before .before .before .before .before .before .before .before .before .pre .0) (c .before .before .before .before .before .before .wide .result) (c .before .before .before .before .before .before .wide .ensures) (c .before .before .before .check-row .result) (c .before .before .before .check-row .ensures) (c .before .before .too-many .result) (c .refused .result) (c .before .before .too-many .ensures) (c .before .if1 .taken) (c .refused .ensures)
 
--- src/news.rt:100:5
 raise-row-requires : tie.Need-raise-row-requires
 raise-row-requires c κs = (row-fits (c .before .before .before .before .before .before .before .before .before .before .before .args .h) (c .before .before .before .before .before .before .before .before .before .before .before .args .s) (c .before .before .before .before .before .before .before .before .before .before .before .args .rows .now) (c .before .before .before .before .before .before .before .before .before .before .before .args .holders .now) (c .before .before .before .before .before .before .before .before .before .before .before .args .n) (c .before .before .before .before .before .before .before .before .before .before .before .args .i) (c .before .before .before .before .before .before .before .before .before .before .before .args .used) (c .before .before .before .before .before .before .before .before .before .before .before .args .said .now) (c .before .before .before .before .before .before .before .before .before .before .before .pre .0) (c .before .before .before .before .before .before .before .wide .result) (c .before .before .before .before .before .before .before .wide .ensures), omega (arith, c .before .before .before .before .before .before .before .before .before .before .before .pre .1, c .before .before .before .before .before .before .before .wide .ensures), omega (arith, c .before .before .before .before .before .before .before .before .before .before .before .pre .0 .counts, c .before .before .before .before .before .before .before .wide .ensures), omega (arith, c .before .before .before .before .before .before .before .before .before .before .before .pre .0 .few, c .before .before .before .before .before .before .before .wide .ensures))
 
--- src/news.rt:101:5
 merge-row-requires : tie.Need-merge-row-requires
 merge-row-requires c κs = (row-fits (c .before .before .before .before .before .before .before .before .before .before .before .before .before .before .before .args .h) (c .before .before .before .before .before .before .before .before .before .before .before .before .before .before .before .args .s) (c .before .before .before .before .before .before .before .before .before .before .before .before .before .before .before .args .rows .now) (c .before .before .before .before .before .before .before .before .before .before .before .before .before .before .before .args .holders .now) (c .before .before .before .before .before .before .before .before .before .before .before .before .before .before .before .args .n) (c .before .before .before .before .before .before .before .before .before .before .before .before .before .before .before .args .i) (c .before .before .before .before .before .before .before .before .before .before .before .before .before .before .before .args .used) (c .before .before .before .before .before .before .before .before .before .before .before .before .before .before .before .args .said .now) (c .before .before .before .before .before .before .before .before .before .before .before .before .before .before .before .pre .0) (c .before .before .before .before .before .before .before .before .before .before .before .wide .result) (c .before .before .before .before .before .before .before .before .before .before .before .wide .ensures), omega (arith, c .before .before .before .before .before .before .before .before .before .before .before .before .before .before .before .pre .1, c .before .before .before .before .before .before .before .before .before .before .before .wide .ensures))
 
--- src/news.rt:102:5
 gain-requires : tie.Need-gain-requires
 gain-requires c κs = (c .before .before .before .before .before .before .before .before .before .before .before .before .before .before .before .before .before .before .pre .0 .seats, c .before .before .before .before .before .before .before .before .before .before .before .before .before .before .before .before .before .before .pre .0 .few, news-few (c .before .before .before .before .before .before .before .before .before .before .before .before .before .before .before .before .before .before .args .h) (c .before .before .before .before .before .before .before .before .before .before .before .before .before .before .before .before .before .before .args .s) (c .before .before .before .before .before .before .before .before .before .before .before .before .before .before .before .before .before .before .args .rows .now) (c .before .before .before .before .before .before .before .before .before .before .before .before .before .before .before .before .before .before .args .holders .now) (c .before .before .before .before .before .before .before .before .before .before .before .before .before .before .before .before .before .before .args .n) (c .before .before .before .before .before .before .before .before .before .before .before .before .before .before .before .before .before .before .args .i) (c .before .before .before .before .before .before .before .before .before .before .before .before .before .before .before .before .before .before .args .used) (c .before .before .before .before .before .before .before .before .before .before .before .before .before .before .before .before .before .before .args .said .now) (c .before .before .before .before .before .before .before .before .before .before .before .before .before .before .before .before .before .before .pre .0) (c .before .before .before .before .before .before .before .before .before .before .before .before .before .before .wide .result) (c .before .before .before .before .before .before .before .before .before .before .before .before .before .before .wide .ensures) (c .before .before .before .before .before .before .before .before .before .before .before .check-row .result) (c .before .before .before .before .before .before .before .before .before .before .before .check-row .ensures), sym (c .before .before .before .before .before .before .before .before .before .before .too-many .ensures) ∙ c .before .before .before .before .before .before .before .before .before .if1 .left)
 
--- src/news.rt:80:1
 same-length-3 : tie.Need-same-length-3
 same-length-3 c = search needs
 
--- src/news.rt:80:1
 same-length-4 : tie.Need-same-length-4
 same-length-4 c = search needs
 
--- src/news.rt:80:1
 returns-2 : tie.Need-returns-2
 returns-2 c = bits-good (c .before .before .before .before .before .before .before .before .before .before .before .before .before .before .before .before .before .before .before .args .h) (c .before .before .before .before .before .before .before .before .before .before .before .before .before .before .before .before .before .before .before .args .s) (c .before .before .before .before .before .before .before .before .before .before .before .before .before .before .before .before .before .before .before .args .rows .now) (c .before .before .before .before .before .before .before .before .before .before .before .before .before .before .before .before .before .before .before .args .holders .now) (c .before .before .before .before .before .before .before .before .before .before .before .before .before .before .before .before .before .before .before .args .n) (c .before .before .before .before .before .before .before .before .before .before .before .before .before .before .before .before .before .before .before .args .i) (c .before .before .before .before .before .before .before .before .before .before .before .before .before .before .before .before .before .before .before .args .used) (c .before .before .before .before .before .before .before .before .before .before .before .before .before .before .before .before .before .before .before .args .said .now) (c .before .before .before .before .before .before .before .before .before .before .before .before .before .before .before .before .before .before .before .pre .0) (c .before .before .before .before .before .before .before .before .before .before .before .before .before .before .before .wide .result) (c .before .before .before .before .before .before .before .before .before .before .before .before .before .before .before .wide .ensures) (c .before .before .before .before .before .before .before .before .before .before .before .before .check-row .result) (c .before .before .before .before .before .before .before .before .before .before .before .before .check-row .ensures) (c .before .before .before .before .before .before .before .before .before .before .before .too-many .result) (c .gain .result) _ _ (c .before .before .before .before .before .before .before .before .before .before .before .too-many .ensures) (c .before .before .before .before .before .before .before .before .before .before .if1 .left) (c .gain .ensures) (c .before .before .before .merge-row .ensures) (c .before .before .before .before .before .before .before .raise-row .ensures)
 

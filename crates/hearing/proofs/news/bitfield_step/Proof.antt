@@ -1,65 +1,46 @@
-use mathlib.Core.Path.{_≡_, refl, sym, ap, _∙_}
+-- `hearing::news::bitfield_step` meets its contract. Assumes nothing.
 use borrow.Author.Tests.{not-true, not-false}
 use Rattle.hearing.proofs.Announcing.{bits-late, bits-length, bits-spare, bits-added}
 use borrow.Author.Needs.{needs}
 use Rattle.hearing.proofs.news.bitfield_step.Statement.{statement}
 use Rattle.hearing.proofs.news.bitfield_step.Tie as tie
-use Rattle.hearing.proofs.news.bitfield_step.Reads as reads
-use Rattle.hearing.proofs.news.bitfield_step.Lts as lts
-use Rattle.hearing.proofs.answer.refused.Reads as refused-reads
-use Rattle.hearing.proofs.news.add_step.Reads as add-step-reads
-use Rattle.hearing.proofs.row.spare_set.Reads as spare-set-reads
-use Rattle.tables.proofs.sizes.wide.Reads as wide-reads
 
--- src/news.rt:67:9
 refused-requires : tie.Need-refused-requires
 refused-requires c κs = search needs
 
--- src/news.rt:67:9
 returns : tie.Need-returns
 returns c = bits-late (c .before .before .before .before .before .before .args .h) (c .before .before .before .before .before .before .args .s) (c .before .before .before .before .before .before .args .rows .now) (c .before .before .before .before .before .before .args .holders .now) (c .before .before .before .before .before .before .args .n) (c .before .before .before .before .before .before .args .i) (c .before .before .before .before .before .before .args .used) (c .before .before .before .before .before .before .args .said .now) (c .refused .result) (not-true (c .before .before .before .before .before .before .args .s .fresh) (c .before .if1 .taken)) (c .refused .ensures)
 
--- src/news.rt:69:9
 wide-requires : tie.Need-wide-requires
 wide-requires c κs = search needs
 
--- src/news.rt:70:23
 add-if2 : tie.Need-add-if2
 add-if2 c = search needs
 
--- src/news.rt:71:9
 refused-requires-2 : tie.Need-refused-requires-2
 refused-requires-2 c κs = search needs
 
--- src/news.rt:71:9
 returns-2 : tie.Need-returns-2
 returns-2 c = bits-length (c .before .before .before .before .before .before .before .before .args .h) (c .before .before .before .before .before .before .before .before .args .s) (c .before .before .before .before .before .before .before .before .args .rows .now) (c .before .before .before .before .before .before .before .before .args .holders .now) (c .before .before .before .before .before .before .before .before .args .n) (c .before .before .before .before .before .before .before .before .args .i) (c .before .before .before .before .before .before .before .before .args .used) (c .before .before .before .before .before .before .before .before .args .said .now) (not-false (c .before .before .before .before .before .before .before .before .args .s .fresh) (c .before .before .before .if1 .left)) (c .before .before .wide .result) (c .before .before .wide .ensures) (c .refused2 .result) (c .before .if2 .taken) (c .refused2 .ensures)
 
--- src/news.rt:73:8
 spare-set-requires : tie.Need-spare-set-requires
 spare-set-requires c κs = search needs
 
--- src/news.rt:74:9
 refused-requires-3 : tie.Need-refused-requires-3
 refused-requires-3 c κs = search needs
 
--- src/news.rt:74:9
 returns-3 : tie.Need-returns-3
 returns-3 c = bits-spare (c .before .before .before .before .before .before .before .before .before .before .args .h) (c .before .before .before .before .before .before .before .before .before .before .args .s) (c .before .before .before .before .before .before .before .before .before .before .args .rows .now) (c .before .before .before .before .before .before .before .before .before .before .args .holders .now) (c .before .before .before .before .before .before .before .before .before .before .args .n) (c .before .before .before .before .before .before .before .before .before .before .args .i) (c .before .before .before .before .before .before .before .before .before .before .args .used) (c .before .before .before .before .before .before .before .before .before .before .args .said .now) (not-false (c .before .before .before .before .before .before .before .before .before .before .args .s .fresh) (c .before .before .before .before .before .if1 .left)) (c .before .before .before .before .wide .result) (c .before .before .before .before .wide .ensures) (c .before .before .before .if2 .left) (c .before .before .spare-set .result) (c .before .before .spare-set .ensures) (c .refused3 .result) (c .before .if3 .taken) (c .refused3 .ensures)
 
--- src/news.rt:76:5
 add-step-requires : tie.Need-add-step-requires
 add-step-requires c κs = search needs
 
--- src/news.rt:53:1
 same-length : tie.Need-same-length
 same-length c = search needs
 
--- src/news.rt:53:1
 same-length-2 : tie.Need-same-length-2
 same-length-2 c = search needs
 
--- src/news.rt:53:1
 returns-4 : tie.Need-returns-4
 returns-4 c = bits-added (c .before .before .before .before .before .before .before .before .before .before .before .before .before .before .before .before .args .h) (c .before .before .before .before .before .before .before .before .before .before .before .before .before .before .before .before .args .s) (c .before .before .before .before .before .before .before .before .before .before .before .before .before .before .before .before .args .rows .now) (c .before .before .before .before .before .before .before .before .before .before .before .before .before .before .before .before .args .holders .now) (c .before .before .before .before .before .before .before .before .before .before .before .before .before .before .before .before .args .n) (c .before .before .before .before .before .before .before .before .before .before .before .before .before .before .before .before .args .i) (c .before .before .before .before .before .before .before .before .before .before .before .before .before .before .before .before .args .used) (c .before .before .before .before .before .before .before .before .before .before .before .before .before .before .before .before .args .said .now) (not-false (c .before .before .before .before .before .before .before .before .before .before .before .before .before .before .before .before .args .s .fresh) (c .before .before .before .before .before .before .before .before .before .before .before .if1 .left)) (c .before .before .before .before .before .before .before .before .before .before .wide .result) (c .before .before .before .before .before .before .before .before .before .before .wide .ensures) (c .before .before .before .before .before .before .before .before .before .if2 .left) (c .before .before .before .before .before .before .before .before .spare-set .result) (c .before .before .before .before .before .before .before .before .spare-set .ensures) _ (c .before .before .before .before .before .before .before .if3 .left) (c .before .before .before .before .add-step .ensures)
 

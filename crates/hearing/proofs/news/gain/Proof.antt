@@ -1,54 +1,39 @@
-use mathlib.Core.Path.{_≡_, refl, sym, ap, _∙_}
-use Prim.Native.Nat.{ℕ, _+_, _*_, _-_, _/_, _%_, _≤_, _<_}
+-- `hearing::news::gain` meets its contract. Assumes nothing.
+use mathlib.Core.Path.{sym, _∙_}
+use Prim.Native.Nat.{_-_, _/_}
 use native.Mathlib.Omega.{arith}
 use Rattle.hearing.proofs.Gaining.{room-sum, room-complete, gained-full, gained-part}
 use borrow.Author.Needs.{needs}
 use Rattle.hearing.proofs.news.gain.Statement.{statement}
 use Rattle.hearing.proofs.news.gain.Tie as tie
-use Rattle.hearing.proofs.news.gain.Reads as reads
-use Rattle.hearing.proofs.news.gain.Lts as lts
-use Rattle.hearing.proofs.answer.spoken.Reads as spoken-reads
-use Rattle.hearing.proofs.answer.taken.Reads as taken-reads
-use Rattle.hearing.proofs.news.completes.Reads as completes-reads
-use Rattle.tables.proofs.sizes.wide.Reads as wide-reads
 
--- src/news.rt:142:15
 wide-requires : tie.Need-wide-requires
 wide-requires c κs = search needs
 
--- src/news.rt:142:15
 add-sum : tie.Need-add-sum
 add-sum c = search needs
 
--- src/news.rt:143:9
 spoken-requires : tie.Need-spoken-requires
 spoken-requires c κs = search needs
 
--- src/news.rt:144:14
 cast-t : tie.Need-cast-t
 cast-t c = omega (arith, c .before .before .wide .ensures, room-sum (c .before .before .before .args .n) (c .before .before .before .args .h) (c .before .before .before .args .s) (c .before .before .before .args .news) (c .before .before .before .pre .3) 4294967295 (omega arith) (omega arith))
 
--- src/news.rt:145:8
 completes-requires : tie.Need-completes-requires
 completes-requires c κs = search needs
 
--- src/news.rt:147:22
 add-g : tie.Need-add-g
 add-g c = omega (arith, room-complete (c .before .before .before .before .before .before .args .n) (c .before .before .before .before .before .before .args .h) (c .before .before .before .before .before .before .args .s) (c .before .before .before .before .before .before .args .news) (c .before .before .before .before .before .before .pre .3) (sym (c .before .before .completes .ensures) ∙ c .before .if1 .taken))
 
--- src/news.rt:148:9
 taken-requires : tie.Need-taken-requires
 taken-requires c κs = search needs
 
--- src/news.rt:148:9
 returns : tie.Need-returns
 returns c = gained-full (c .before .before .before .before .before .before .before .args .h) (c .before .before .before .before .before .before .before .args .s) (c .before .before .before .before .before .before .before .args .news) (c .before .before .before .before .before .before .wide .ensures) (c .before .before .before .before .spoken .ensures) (c .before .before .before .completes .ensures) (c .before .before .if1 .taken) (c .taken .ensures)
 
--- src/news.rt:150:5
 taken-requires-2 : tie.Need-taken-requires-2
 taken-requires-2 c κs = search needs
 
--- src/news.rt:138:1
 returns-2 : tie.Need-returns-2
 returns-2 c = gained-part (c .before .before .before .before .before .before .args .h) (c .before .before .before .before .before .before .args .s) (c .before .before .before .before .before .before .args .news) (c .before .before .before .before .before .wide .ensures) (c .before .before .before .spoken .ensures) (c .before .before .completes .ensures) (c .before .if1 .left) (c .taken2 .ensures)
 

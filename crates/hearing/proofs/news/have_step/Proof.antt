@@ -1,122 +1,87 @@
-use mathlib.Core.Path.{_≡_, refl, sym, ap, _∙_}
-use Prim.Native.Nat.{ℕ, _+_, _*_, _-_, _/_, _%_, _≤_, _<_}
+-- `hearing::news::have_step` meets its contract. Assumes nothing.
+use mathlib.Core.Path.{sym, ap, _∙_}
+use Prim.Native.Nat.{_+_, _*_, _-_, _/_, _<_}
 use native.Mathlib.Omega.{arith}
 use lib.ListN.{length}
-use borrow.Author.Tests.{not-true, not-false}
 use Rattle.tables.proofs.Digits.{row-byte}
 use Rattle.hearing.specs.declared.row.News.{News}
 use Rattle.hearing.proofs.Announcing.{have-beyond, have-had, have-bad, have-good, count-room}
 use borrow.Author.Needs.{needs}
 use Rattle.hearing.proofs.news.have_step.Statement.{statement}
 use Rattle.hearing.proofs.news.have_step.Tie as tie
-use Rattle.hearing.proofs.news.have_step.Reads as reads
-use Rattle.hearing.proofs.news.have_step.Lts as lts
-use Rattle.hearing.proofs.answer.passed.Reads as passed-reads
-use Rattle.hearing.proofs.answer.refused.Reads as refused-reads
-use Rattle.hearing.proofs.news.gain.Reads as gain-reads
-use Rattle.hearing.proofs.news.one_more.Reads as one-more-reads
-use Rattle.hearing.proofs.news.too_many.Reads as too-many-reads
-use Rattle.tables.proofs.bits.bit_of.Reads as bit-of-reads
-use Rattle.tables.proofs.bits.mask.Reads as mask-reads
-use Rattle.tables.proofs.sizes.wide.Reads as wide-reads
 
--- src/news.rt:33:9
 wide-requires : tie.Need-wide-requires
 wide-requires c κs = search needs
 
--- src/news.rt:35:9
 refused-requires : tie.Need-refused-requires
 refused-requires c κs = search needs
 
--- src/news.rt:35:9
 returns : tie.Need-returns
 returns c = have-beyond (c .before .before .before .before .before .args .h) (c .before .before .before .before .before .args .s) (c .before .before .before .before .before .args .rows .now) (c .before .before .before .before .before .args .holders .now) (c .before .before .before .before .before .args .n) (c .before .before .before .before .before .args .i) (c .before .before .before .before .before .args .used) (c .before .before .before .before .before .args .p) (c .refused .result) (c .before .before .wide .result) (c .before .before .wide .ensures) (c .before .if1 .taken) (c .refused .ensures)
 
--- src/news.rt:37:20
 add-at : tie.Need-add-at
 add-at c = search needs
 
--- src/news.rt:37:14
 mul-at : tie.Need-mul-at
 mul-at c = let f : c .before .before .before .before .args .i * ((c .before .wide .result + 7) / 8) + c .before .before .before .before .args .p / 8 < length (c .before .before .before .before .args .rows .now) = rw (c .before .before .before .before .pre .row, c .before .wide .ensures) (row-byte (c .before .before .before .before .args .i) (c .before .before .before .before .args .n) (c .before .before .before .before .args .h .pieces) (c .before .before .before .before .args .p) (c .before .before .before .before .pre .seat) (omega arith)) in omega arith
 
--- src/news.rt:37:14
 add-at-2 : tie.Need-add-at-2
 add-at-2 c = let f : c .before .before .before .before .args .i * ((c .before .wide .result + 7) / 8) + c .before .before .before .before .args .p / 8 < length (c .before .before .before .before .args .rows .now) = rw (c .before .before .before .before .pre .row, c .before .wide .ensures) (row-byte (c .before .before .before .before .args .i) (c .before .before .before .before .args .n) (c .before .before .before .before .args .h .pieces) (c .before .before .before .before .args .p) (c .before .before .before .before .pre .seat) (omega arith)) in omega arith
 
--- src/news.rt:38:15
 slice-read-had : tie.Need-slice-read-had
 slice-read-had c = let f : c .before .before .before .before .before .args .i * ((c .before .before .wide .result + 7) / 8) + c .before .before .before .before .before .args .p / 8 < length (c .before .before .before .before .before .args .rows .now) = rw (c .before .before .before .before .before .pre .row, c .before .before .wide .ensures) (row-byte (c .before .before .before .before .before .args .i) (c .before .before .before .before .before .args .n) (c .before .before .before .before .before .args .h .pieces) (c .before .before .before .before .before .args .p) (c .before .before .before .before .before .pre .seat) (omega arith)) in omega arith
 
--- src/news.rt:39:8
 bit-of-requires : tie.Need-bit-of-requires
 bit-of-requires c κs = search needs
 
--- src/news.rt:40:9
 passed-requires : tie.Need-passed-requires
 passed-requires c κs = search needs
 
--- src/news.rt:40:9
 returns-2 : tie.Need-returns-2
 returns-2 c = have-had (c .before .before .before .before .before .before .before .before .args .h) (c .before .before .before .before .before .before .before .before .args .s) (c .before .before .before .before .before .before .before .before .args .rows .now) (c .before .before .before .before .before .before .before .before .args .holders .now) (c .before .before .before .before .before .before .before .before .args .n) (c .before .before .before .before .before .before .before .before .args .i) (c .before .before .before .before .before .before .before .before .args .used) (c .before .before .before .before .before .before .before .before .args .p) (c .before .before .before .before .before .wide .result) (c .before .before .before .before .before .wide .ensures) (c .before .before .before .before .if1 .left) (c .before .before .before .before .before .before .before .before .pre) (c .before .before .bit-of .result) (c .before .before .bit-of .ensures) (c .before .if2 .taken) (c .passed .result) (c .passed .ensures)
 
--- src/news.rt:42:17
 mul-count : tie.Need-mul-count
 mul-count c = search needs
 
--- src/news.rt:42:17
 slice-read-count : tie.Need-slice-read-count
 slice-read-count c = search needs
 
--- src/news.rt:43:9
 one-more-requires : tie.Need-one-more-requires
 one-more-requires c κs = search needs
 
--- src/news.rt:44:8
 too-many-requires : tie.Need-too-many-requires
 too-many-requires c κs = omega (arith, ap (λ (x : News). x .added) (c .one-more .ensures))
 
--- src/news.rt:45:9
 refused-requires-2 : tie.Need-refused-requires-2
 refused-requires-2 c κs = search needs
 
--- src/news.rt:45:9
 returns-3 : tie.Need-returns-3
 returns-3 c = have-bad (c .before .before .before .before .before .before .before .before .before .before .before .before .args .h) (c .before .before .before .before .before .before .before .before .before .before .before .before .args .s) (c .before .before .before .before .before .before .before .before .before .before .before .before .args .rows .now) (c .before .before .before .before .before .before .before .before .before .before .before .before .args .holders .now) (c .before .before .before .before .before .before .before .before .before .before .before .before .args .n) (c .before .before .before .before .before .before .before .before .before .before .before .before .args .i) (c .before .before .before .before .before .before .before .before .before .before .before .before .args .used) (c .before .before .before .before .before .before .before .before .before .before .before .before .args .p) (c .before .before .before .before .before .before .before .before .before .wide .result) (c .before .before .before .before .before .before .before .before .before .wide .ensures) (c .before .before .before .before .before .before .before .before .if1 .left) (c .before .before .before .before .before .before .before .before .before .before .before .before .pre) (c .before .before .before .before .before .before .bit-of .result) (c .before .before .before .before .before .before .bit-of .ensures) (c .before .before .before .before .before .if2 .left) (c .before .before .before .one-more .result) (c .before .before .before .one-more .ensures) (c .before .before .too-many .result) (c .refused2 .result) (c .before .before .too-many .ensures) (c .before .if3 .taken) (c .refused2 .ensures)
 
--- src/news.rt:47:18
 add-holders : tie.Need-add-holders
 add-holders c = omega (arith, c .before .before .before .before .before .before .before .before .before .before .before .pre .seats, count-room (c .before .before .before .before .before .before .before .before .before .before .before .args .h) (c .before .before .before .before .before .before .before .before .before .before .before .args .s) (c .before .before .before .before .before .before .before .before .before .before .before .args .rows .now) (c .before .before .before .before .before .before .before .before .before .before .before .args .holders .now) (c .before .before .before .before .before .before .before .before .before .before .before .args .n) (c .before .before .before .before .before .before .before .before .before .before .before .args .i) (c .before .before .before .before .before .before .before .before .before .before .before .args .used) (c .before .before .before .before .before .before .before .before .before .before .before .args .p) (c .before .before .before .before .before .before .before .before .wide .result) (c .before .before .before .before .before .before .before .before .wide .ensures) (c .before .before .before .before .before .before .before .if1 .left) (c .before .before .before .before .before .before .before .before .before .before .before .pre) (c .before .before .before .before .before .bit-of .result) (c .before .before .before .before .before .bit-of .ensures) (c .before .before .before .before .if2 .left) (c .before .before .one-more .result) (c .before .before .one-more .ensures) (c .before .too-many .result) (c .before .too-many .ensures) (c .if3 .left))
 
--- src/news.rt:47:5
 mul-holders : tie.Need-mul-holders
 mul-holders c = search needs
 
--- src/news.rt:47:5
 slice-write-holders : tie.Need-slice-write-holders
 slice-write-holders c = search needs
 
--- src/news.rt:48:22
 mask-requires : tie.Need-mask-requires
 mask-requires c κs = search needs
 
--- src/news.rt:48:5
 slice-write-rows : tie.Need-slice-write-rows
 slice-write-rows c = let f : c .before .before .before .before .before .before .before .before .before .before .before .before .args .i * ((c .before .before .before .before .before .before .before .before .before .wide .result + 7) / 8) + c .before .before .before .before .before .before .before .before .before .before .before .before .args .p / 8 < length (c .before .before .before .before .before .before .before .before .before .before .before .before .args .rows .now) = rw (c .before .before .before .before .before .before .before .before .before .before .before .before .pre .row, c .before .before .before .before .before .before .before .before .before .wide .ensures) (row-byte (c .before .before .before .before .before .before .before .before .before .before .before .before .args .i) (c .before .before .before .before .before .before .before .before .before .before .before .before .args .n) (c .before .before .before .before .before .before .before .before .before .before .before .before .args .h .pieces) (c .before .before .before .before .before .before .before .before .before .before .before .before .args .p) (c .before .before .before .before .before .before .before .before .before .before .before .before .pre .seat) (omega arith)) in omega arith
 
--- src/news.rt:49:5
 gain-requires : tie.Need-gain-requires
 gain-requires c κs = (c .before .before .before .before .before .before .before .before .before .before .before .before .pre .seats, c .before .before .before .before .before .before .before .before .before .before .before .before .pre .few, omega (arith, ap (λ (x : News). x .added) (c .before .before .before .one-more .ensures)), sym (c .before .before .too-many .ensures) ∙ c .before .if3 .left)
 
--- src/news.rt:20:1
 same-length : tie.Need-same-length
 same-length c = search needs
 
--- src/news.rt:20:1
 same-length-2 : tie.Need-same-length-2
 same-length-2 c = search needs
 
--- src/news.rt:20:1
 returns-4 : tie.Need-returns-4
 returns-4 c = have-good (c .before .before .before .before .before .before .before .before .before .before .before .before .before .args .h) (c .before .before .before .before .before .before .before .before .before .before .before .before .before .args .s) (c .before .before .before .before .before .before .before .before .before .before .before .before .before .args .rows .now) (c .before .before .before .before .before .before .before .before .before .before .before .before .before .args .holders .now) (c .before .before .before .before .before .before .before .before .before .before .before .before .before .args .n) (c .before .before .before .before .before .before .before .before .before .before .before .before .before .args .i) (c .before .before .before .before .before .before .before .before .before .before .before .before .before .args .used) (c .before .before .before .before .before .before .before .before .before .before .before .before .before .args .p) (c .before .before .before .before .before .before .before .before .before .before .wide .result) (c .before .before .before .before .before .before .before .before .before .before .wide .ensures) (c .before .before .before .before .before .before .before .before .before .if1 .left) (c .before .before .before .before .before .before .before .before .before .before .before .before .before .pre) (c .before .before .before .before .before .before .before .bit-of .result) (c .before .before .before .before .before .before .before .bit-of .ensures) (c .before .before .before .before .before .before .if2 .left) (c .before .before .before .before .one-more .result) (c .before .before .before .before .one-more .ensures) (c .before .before .before .too-many .result) (c .gain .result) (c .before .mask .result) (c .before .before .before .too-many .ensures) (c .before .before .if3 .left) (c .gain .ensures) (c .before .mask .ensures)
 

@@ -1,47 +1,36 @@
+-- `hearing::news::too_many` meets its contract. Assumes nothing.
 use native.Mathlib.Omega.{arith}
 use Rattle.hearing.proofs.Gaining.{many-over, many-none, many-past, many-full, many-not}
 use borrow.Author.Needs.{needs}
 use Rattle.hearing.proofs.news.too_many.Statement.{statement}
 use Rattle.hearing.proofs.news.too_many.Tie as tie
-use Rattle.hearing.proofs.news.too_many.Reads as reads
-use Rattle.hearing.proofs.news.too_many.Lts as lts
-use Rattle.tables.proofs.sizes.wide.Reads as wide-reads
 
--- src/news.rt:121:9
 returns : tie.Need-returns
 returns c = many-over (c .before .args .n) (c .before .args .h) (c .before .args .s) (c .before .args .news) (c .if1 .taken)
 
--- src/news.rt:124:9
 returns-2 : tie.Need-returns-2
 returns-2 c = many-none (c .before .before .before .args .n) (c .before .before .before .args .h) (c .before .before .before .args .s) (c .before .before .before .args .news) (c .before .before .if1 .left) (c .if2 .taken)
 
--- src/news.rt:126:15
 wide-requires : tie.Need-wide-requires
 wide-requires c κs = search needs
 
--- src/news.rt:126:15
 add-sum : tie.Need-add-sum
 add-sum c = search needs
 
--- src/news.rt:127:9
 wide-requires-2 : tie.Need-wide-requires-2
 wide-requires-2 c κs = search needs
 
--- src/news.rt:129:9
 returns-3 : tie.Need-returns-3
 returns-3 c = many-past (c .before .before .before .before .before .before .before .args .n) (c .before .before .before .before .before .before .before .args .h) (c .before .before .before .before .before .before .before .args .s) (c .before .before .before .before .before .before .before .args .news) (c .before .before .before .wide .ensures) (c .before .wide2 .ensures) (c .before .before .before .before .before .before .if1 .left) (c .before .before .before .before .if2 .left) (omega arith)
 
--- src/news.rt:132:21
 wide-requires-3 : tie.Need-wide-requires-3
 wide-requires-3 c κs = search needs
 
--- src/news.rt:132:9
 returns-4 : tie.Need-returns-4
 returns-4 c = many-full (c .before .before .before .before .before .before .before .before .before .args .n) (c .before .before .before .before .before .before .before .before .before .args .h) (c .before .before .before .before .before .before .before .before .before .args .s) (c .before .before .before .before .before .before .before .before .before .args .news) (c .before .before .before .before .before .wide .ensures) (c .before .before .before .wide2 .ensures) (c .before .before .before .before .before .before .before .before .if1 .left) (c .before .before .before .before .before .before .if2 .left) (c .before .if4 .taken) (c .wide3 .ensures)
 
--- src/news.rt:116:1
 returns-5 : tie.Need-returns-5
-returns-5 c = many-not (c .before .before .before .before .before .before .before .before .args .n) (c .before .before .before .before .before .before .before .before .args .h) (c .before .before .before .before .before .before .before .before .args .s) (c .before .before .before .before .before .before .before .before .args .news) (c .before .before .before .before .wide .ensures) (c .before .before .wide2 .ensures) (c .before .before .before .before .before .before .before .if1 .left) (c .before .before .before .before .before .if2 .left) (c .before .if3 .left) (c .if4 .left)
+returns-5 c = many-not (c .before .before .before .before .before .before .before .before .args .n) (c .before .before .before .before .before .before .before .before .args .h) (c .before .before .before .before .before .before .before .before .args .s) (c .before .before .before .before .before .before .before .before .args .news) (c .before .before .before .before .wide .ensures) (c .before .before .wide2 .ensures) (c .before .before .before .before .before .before .before .if1 .left) (c .before .before .before .before .before .if2 .left) (omega arith) (c .if4 .left)
 
 pub too-many-spec : {M : Type 1} → statement M
 too-many-spec =

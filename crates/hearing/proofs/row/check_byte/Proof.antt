@@ -1,5 +1,6 @@
-use mathlib.Core.Path.{_≡_, refl, sym, ap, _∙_}
-use Prim.Native.Nat.{ℕ, _+_, _*_, _-_, _/_, _%_, _≤_, _<_}
+-- `hearing::row::check_byte` meets its contract. Assumes nothing.
+use mathlib.Core.Path.{_≡_, sym, ap, _∙_}
+use Prim.Native.Nat.{_-_, _/_, _≤_}
 use native.Mathlib.Omega.{arith}
 use Rattle.hearing.proofs.Passing.{nothing-new, checked-skip, checked-le, checked-turn}
 use Rattle.hearing.specs.Passes.{checked}
@@ -7,10 +8,6 @@ use Rattle.hearing.specs.declared.row.News.{News}
 use borrow.Author.Needs.{needs}
 use Rattle.hearing.proofs.row.check_byte.Statement.{statement}
 use Rattle.hearing.proofs.row.check_byte.Tie as tie
-use Rattle.hearing.proofs.row.check_byte.Reads as reads
-use Rattle.hearing.proofs.row.check_byte.Lts as lts
-use Rattle.hearing.proofs.row.note.Reads as note-reads
-use Rattle.tables.proofs.bits.bit_of.Reads as bit-of-reads
 
 abbrev Inv-loop : tie.InvT-loop
 Inv-loop rows said holders at p end top had says news₀ q₀ news q = (p ≤ q) × (q ≤ end) × (news ≡ checked rows at said holders top q)
@@ -18,59 +15,45 @@ Inv-loop rows said holders at p end top had says news₀ q₀ news q = (p ≤ q)
 abbrev μ-loop : tie.MeasureT-loop
 μ-loop rows said holders at p end top had says news₀ q₀ news q = end - q
 
--- src/row.rt:102:20
 add-had : tie.Need-add-had Inv-loop μ-loop
 add-had c = search needs
 
--- src/row.rt:102:15
 shared-slice-read-had : tie.Need-shared-slice-read-had Inv-loop μ-loop
 shared-slice-read-had c = search needs
 
--- src/row.rt:103:16
 shared-slice-read-says : tie.Need-shared-slice-read-says Inv-loop μ-loop
 shared-slice-read-says c = search needs
 
--- src/row.rt:105:9
 returns : tie.Need-returns Inv-loop μ-loop
 returns c = c .before .before .before .before .before .before .pre .7 ∙ sym (checked-skip (c .before .before .before .before .before .before .args .rows .now) (c .before .before .before .before .before .before .args .at) (c .before .before .before .before .before .before .args .said .now) (c .before .before .before .before .before .before .args .holders .now) (c .before .before .before .before .before .before .args .top) (c .before .before .before .before .before .before .args .p) (c .before .before .before .before .before .before .args .end) (c .before .before .before .before .before .before .pre .3) (λ q l m. nothing-new (c .before .before .before .before .before .before .args .rows .now) (c .before .before .before .before .before .before .args .at) (c .before .before .before .before .before .before .args .said .now) q (c .before .before .before .before .before .before .args .p / 8) (omega arith) (c .if1 .taken)))
 
--- src/row.rt:109:5
 loop-holds : tie.Need-loop-holds Inv-loop μ-loop
 loop-holds c = search needs
 
--- src/row.rt:110:13
 bit-of-requires : tie.Need-bit-of-requires Inv-loop μ-loop
 bit-of-requires c κs = search needs
 
--- src/row.rt:111:13
 bit-of-requires-2 : tie.Need-bit-of-requires-2 Inv-loop μ-loop
 bit-of-requires-2 c κs = search needs
 
--- src/row.rt:112:44
 mul-note : tie.Need-mul-note Inv-loop μ-loop
 mul-note c = search needs
 
--- src/row.rt:112:44
 shared-slice-read-note : tie.Need-shared-slice-read-note Inv-loop μ-loop
 shared-slice-read-note c = search needs
 
--- src/row.rt:112:9
 note-requires : tie.Need-note-requires Inv-loop μ-loop
 note-requires c κs = omega (arith, ap (λ (x : News). x .added) (c .before .before .before .before .loop .inv .2), checked-le (c .before .before .before .before .before .before .before .before .before .before .before .args .rows .now) (c .before .before .before .before .before .before .before .before .before .before .before .args .at) (c .before .before .before .before .before .before .before .before .before .before .before .args .said .now) (c .before .before .before .before .before .before .before .before .before .before .before .args .holders .now) (c .before .before .before .before .before .before .before .before .before .before .before .args .top) (c .before .before .before .before .loop .q))
 
--- src/row.rt:113:9
 add-q : tie.Need-add-q Inv-loop μ-loop
 add-q c = search needs
 
--- src/row.rt:109:5
 loop-less : tie.Need-loop-less Inv-loop μ-loop
 loop-less c = search needs
 
--- src/row.rt:109:5
 loop-again : tie.Need-loop-again Inv-loop μ-loop
 loop-again c = (search needs, search needs, checked-turn (c .before .before .before .before .before .before .before .before .before .before .before .before .args .rows .now) (c .before .before .before .before .before .before .before .before .before .before .before .before .args .at) (c .before .before .before .before .before .before .before .before .before .before .before .before .args .said .now) (c .before .before .before .before .before .before .before .before .before .before .before .before .args .holders .now) (c .before .before .before .before .before .before .before .before .before .before .before .before .args .top) (c .before .before .before .before .before .before .before .before .before .before .before .before .args .p / 8) (c .before .before .before .before .before .loop .q) _ _ _ _ (omega arith) (c .before .before .before .before .before .loop .inv .2) (c .before .before .before .bit-of .ensures) (c .before .before .bit-of2 .ensures) (c .note .ensures))
 
--- src/row.rt:88:1
 returns-2 : tie.Need-returns-2 Inv-loop μ-loop
 returns-2 c = let e : c .before .loop .q ≡ c .before .before .before .before .before .before .before .before .args .end = omega arith in c .before .loop .inv .2 ∙ ap (checked (c .before .before .before .before .before .before .before .before .args .rows .now) (c .before .before .before .before .before .before .before .before .args .at) (c .before .before .before .before .before .before .before .before .args .said .now) (c .before .before .before .before .before .before .before .before .args .holders .now) (c .before .before .before .before .before .before .before .before .args .top)) e
 

@@ -1,15 +1,12 @@
-use mathlib.Core.Path.{_≡_, refl, sym, ap, _∙_}
-use Prim.Native.Nat.{ℕ, _+_, _*_, _-_, _/_, _%_, _≤_, _<_}
+-- `hearing::row::check_row` meets its contract. Assumes nothing.
+use mathlib.Core.Path.{_≡_, refl, ap, _∙_}
+use Prim.Native.Nat.{_-_, _/_, _%_, _≤_, _<_}
 use native.Mathlib.Omega.{arith}
 use Rattle.hearing.proofs.Passing.{checked-start}
 use Rattle.hearing.specs.Passes.{checked}
 use borrow.Author.Needs.{needs}
 use Rattle.hearing.proofs.row.check_row.Statement.{statement}
 use Rattle.hearing.proofs.row.check_row.Tie as tie
-use Rattle.hearing.proofs.row.check_row.Reads as reads
-use Rattle.hearing.proofs.row.check_row.Lts as lts
-use Rattle.hearing.proofs.row.check_byte.Reads as check-byte-reads
-use Rattle.hearing.proofs.row.end_of.Reads as end-of-reads
 
 abbrev Inv-loop : tie.InvT-loop
 Inv-loop rows said holders at pieces top news₀ p₀ news p = (p ≤ pieces) × (p < pieces → p % 8 ≡ 0) × (news ≡ checked rows at said holders top p)
@@ -17,27 +14,21 @@ Inv-loop rows said holders at pieces top news₀ p₀ news p = (p ≤ pieces) ×
 abbrev μ-loop : tie.MeasureT-loop
 μ-loop rows said holders at pieces top news₀ p₀ news p = pieces - p
 
--- src/row.rt:27:5
 loop-holds : tie.Need-loop-holds Inv-loop μ-loop
 loop-holds c = (search needs, (λ l. refl), checked-start (c .before .before .before .args .rows .now) (c .before .before .before .args .at) (c .before .before .before .args .said .now) (c .before .before .before .args .holders .now) (c .before .before .before .args .top))
 
--- src/row.rt:28:13
 end-of-requires : tie.Need-end-of-requires Inv-loop μ-loop
 end-of-requires c κs = (search needs, c .before .loop .inv .1 (c .loop-test .taken), search needs)
 
--- src/row.rt:29:9
 check-byte-requires : tie.Need-check-byte-requires Inv-loop μ-loop
 check-byte-requires c κs = (omega arith, omega arith, omega (arith, c .before .before .before .before .before .before .pre .2), search needs, search needs, c .before .before .loop .inv .1 (c .before .loop-test .taken), omega arith, c .before .before .loop .inv .2)
 
--- src/row.rt:27:5
 loop-less : tie.Need-loop-less Inv-loop μ-loop
 loop-less c = search needs
 
--- src/row.rt:27:5
 loop-again : tie.Need-loop-again Inv-loop μ-loop
 loop-again c = (search needs, c .before .end-of .ensures .3, c .check-byte .ensures)
 
--- src/row.rt:18:1
 returns : tie.Need-returns Inv-loop μ-loop
 returns c = let e : c .before .loop .p ≡ c .before .before .before .before .before .args .pieces = omega arith in c .before .loop .inv .2 ∙ ap (checked (c .before .before .before .before .before .args .rows .now) (c .before .before .before .before .before .args .at) (c .before .before .before .before .before .args .said .now) (c .before .before .before .before .before .args .holders .now) (c .before .before .before .before .before .args .top)) e
 

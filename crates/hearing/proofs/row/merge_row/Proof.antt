@@ -1,5 +1,6 @@
-use mathlib.Core.Path.{_≡_, refl, sym, ap, _∙_}
-use Prim.Native.Nat.{ℕ, _+_, _*_, _-_, _/_, _%_, _≤_, _<_}
+-- `hearing::row::merge_row` meets its contract. Assumes nothing.
+use mathlib.Core.Path.{_≡_, refl, ap, _∙_}
+use Prim.Native.Nat.{ℕ, _-_, _/_, _≤_}
 use native.Mathlib.Omega.{arith}
 use lib.ListN.{length}
 use Rattle.hearing.proofs.Passing.{merged-start, merged-next}
@@ -7,8 +8,6 @@ use Rattle.hearing.specs.Passes.{merged}
 use borrow.Author.Needs.{needs}
 use Rattle.hearing.proofs.row.merge_row.Statement.{statement}
 use Rattle.hearing.proofs.row.merge_row.Tie as tie
-use Rattle.hearing.proofs.row.merge_row.Reads as reads
-use Rattle.hearing.proofs.row.merge_row.Lts as lts
 
 abbrev Inv-loop : tie.InvT-loop
 Inv-loop rows₀ said at n k₀ rows k = (k ≤ n) × (length rows ≡ length rows₀) × (rows ≡ merged at said k rows₀)
@@ -16,47 +15,36 @@ Inv-loop rows₀ said at n k₀ rows k = (k ≤ n) × (length rows ≡ length ro
 abbrev μ-loop : tie.MeasureT-loop
 μ-loop rows₀ said at n k₀ rows k = n - k
 
--- src/row.rt:54:5
 loop-holds : tie.Need-loop-holds Inv-loop μ-loop
 loop-holds c = (search needs, refl, merged-start (c .args .at) (c .args .said .now) (c .args .rows .now))
 
--- src/row.rt:55:29
 add-rows : tie.Need-add-rows Inv-loop μ-loop
 add-rows c = search needs
 
--- src/row.rt:55:24
 slice-read-rows : tie.Need-slice-read-rows Inv-loop μ-loop
 slice-read-rows c = search needs
 
--- src/row.rt:55:39
 shared-slice-read-rows : tie.Need-shared-slice-read-rows Inv-loop μ-loop
 shared-slice-read-rows c = search needs
 
--- src/row.rt:55:14
 add-rows-2 : tie.Need-add-rows-2 Inv-loop μ-loop
 add-rows-2 c = search needs
 
--- src/row.rt:55:9
 slice-write-rows : tie.Need-slice-write-rows Inv-loop μ-loop
 slice-write-rows c = search needs
 
--- src/row.rt:56:9
 add-k : tie.Need-add-k Inv-loop μ-loop
 add-k c = search needs
 
--- src/row.rt:54:5
 loop-less : tie.Need-loop-less Inv-loop μ-loop
 loop-less c = search needs
 
--- src/row.rt:54:5
 loop-again : tie.Need-loop-again Inv-loop μ-loop
 loop-again c = (search needs, search needs, rw merged-next (cc))
 
--- src/row.rt:49:1
 same-length : tie.Need-same-length Inv-loop μ-loop
 same-length c = search needs
 
--- src/row.rt:49:1
 returns : tie.Need-returns Inv-loop μ-loop
 returns c = let e : c .before .loop .k ≡ c .before .before .args .n = omega arith in c .before .loop .inv .2 ∙ ap (λ (x : ℕ). merged (c .before .before .args .at) (c .before .before .args .said .now) x (c .before .before .args .rows .now)) e
 

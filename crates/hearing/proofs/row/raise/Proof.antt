@@ -1,27 +1,21 @@
+-- `hearing::row::raise` meets its contract. Assumes nothing.
 use Rattle.hearing.proofs.Passing.{up-had, up-silent, up-top, up-more}
 use borrow.Author.Needs.{needs}
 use Rattle.hearing.proofs.row.raise.Statement.{statement}
 use Rattle.hearing.proofs.row.raise.Tie as tie
-use Rattle.hearing.proofs.row.raise.Reads as reads
-use Rattle.hearing.proofs.row.raise.Lts as lts
 
--- src/row.rt:157:9
 returns : tie.Need-returns
 returns c = up-had (c .before .args .count) (c .before .args .had) (c .before .args .says) (c .if1 .taken)
 
--- src/row.rt:161:13
 returns-2 : tie.Need-returns-2
 returns-2 c = up-top (c .before .before .before .args .count) (c .before .before .before .args .had) (c .before .before .before .args .says) (c .before .before .if1 .left) (c .before .if2 .taken) (c .if3 .taken)
 
--- src/row.rt:163:16
 add-result : tie.Need-add-result
 add-result c = search needs
 
--- src/row.rt:163:9
 returns-3 : tie.Need-returns-3
 returns-3 c = up-more (c .before .before .before .args .count) (c .before .before .before .args .had) (c .before .before .before .args .says) (c .before .before .if1 .left) (c .before .if2 .taken) (c .if3 .left)
 
--- src/row.rt:153:1
 returns-4 : tie.Need-returns-4
 returns-4 c = up-silent (c .before .before .args .count) (c .before .before .args .had) (c .before .before .args .says) (c .if2 .left)
 

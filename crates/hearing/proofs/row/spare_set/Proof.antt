@@ -1,5 +1,6 @@
-use mathlib.Core.Path.{_≡_, refl, sym, ap, _∙_}
-use Prim.Native.Nat.{ℕ, _+_, _*_, _-_, _/_, _%_, _≤_, _<_}
+-- `hearing::row::spare_set` meets its contract. Assumes nothing.
+use mathlib.Core.Path.{_≡_, ap, _∙_}
+use Prim.Native.Nat.{_*_, _-_, _/_, _≤_}
 use native.Mathlib.Omega.{arith}
 use lib.ListN.{length}
 use Rattle.hearing.proofs.Passing.{spare-start, spare-turn, spare-is}
@@ -7,10 +8,6 @@ use Rattle.hearing.specs.Passes.{spareBelow}
 use borrow.Author.Needs.{needs}
 use Rattle.hearing.proofs.row.spare_set.Statement.{statement}
 use Rattle.hearing.proofs.row.spare_set.Tie as tie
-use Rattle.hearing.proofs.row.spare_set.Reads as reads
-use Rattle.hearing.proofs.row.spare_set.Lts as lts
-use Rattle.hearing.proofs.row.either.Reads as either-reads
-use Rattle.tables.proofs.bits.bit_of.Reads as bit-of-reads
 
 abbrev Inv-loop : tie.InvT-loop
 Inv-loop said pieces end found₀ p₀ found p = (pieces ≤ p) × (p ≤ end) × (found ≡ spareBelow pieces said p)
@@ -18,39 +15,30 @@ Inv-loop said pieces end found₀ p₀ found p = (pieces ≤ p) × (p ≤ end) �
 abbrev μ-loop : tie.MeasureT-loop
 μ-loop said pieces end found₀ p₀ found p = end - p
 
--- src/row.rt:65:15
 mul-end : tie.Need-mul-end Inv-loop μ-loop
 mul-end c = search needs
 
--- src/row.rt:68:5
 loop-holds : tie.Need-loop-holds Inv-loop μ-loop
-loop-holds c = (search needs, search needs, spare-start (c .before .args .pieces) (c .before .args .said .now) (c .before .args .pieces) (omega arith))
+loop-holds c = (search needs, search needs, spare-start (c .before .args .pieces) (c .before .args .said .now) _ (omega arith))
 
--- src/row.rt:69:17
 shared-slice-read-b : tie.Need-shared-slice-read-b Inv-loop μ-loop
 shared-slice-read-b c = search needs
 
--- src/row.rt:70:31
 bit-of-requires : tie.Need-bit-of-requires Inv-loop μ-loop
 bit-of-requires c κs = search needs
 
--- src/row.rt:70:9
 either-requires : tie.Need-either-requires Inv-loop μ-loop
 either-requires c κs = search needs
 
--- src/row.rt:71:9
 add-p : tie.Need-add-p Inv-loop μ-loop
 add-p c = search needs
 
--- src/row.rt:68:5
 loop-less : tie.Need-loop-less Inv-loop μ-loop
 loop-less c = search needs
 
--- src/row.rt:68:5
 loop-again : tie.Need-loop-again Inv-loop μ-loop
 loop-again c = (search needs, search needs, spare-turn (c .before .before .before .before .before .before .args .pieces) (c .before .before .before .before .before .before .args .said .now) (c .before .before .before .before .loop .p) _ _ _ (omega arith) (c .before .before .before .before .loop .inv .2) (c .before .bit-of .ensures) (c .either .ensures))
 
--- src/row.rt:61:1
 returns : tie.Need-returns Inv-loop μ-loop
 returns c = let e : c .before .loop .p ≡ 8 * length (c .before .before .before .args .said .now) = omega arith in c .before .loop .inv .2 ∙ ap (spareBelow (c .before .before .before .args .pieces) (c .before .before .before .args .said .now)) e ∙ spare-is (c .before .before .before .args .pieces) (c .before .before .before .args .said .now)
 

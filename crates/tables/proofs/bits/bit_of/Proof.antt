@@ -1,24 +1,19 @@
+-- `tables::bits::bit_of` meets its contract. Assumes nothing.
 use Prim.Native.Nat.{_-_, _%_}
 use Rattle.tables.proofs.Digits.{digit-shift}
 use borrow.Author.Needs.{needs}
 use Rattle.tables.proofs.bits.bit_of.Statement.{statement}
 use Rattle.tables.proofs.bits.bit_of.Tie as tie
-use Rattle.tables.proofs.bits.bit_of.Reads as reads
-use Rattle.tables.proofs.bits.bit_of.Lts as lts
 
--- src/bits.rt:10:12
 sub-result : tie.Need-sub-result
 sub-result c = search needs
 
--- src/bits.rt:10:12
 cast-result : tie.Need-cast-result
 cast-result c = search needs
 
--- src/bits.rt:10:6
 shr-result : tie.Need-shr-result
 shr-result c = search needs
 
--- src/bits.rt:7:1
 returns : tie.Need-returns
 returns c = digit-shift (7 - c .args .p % 8) (c .args .b)
 

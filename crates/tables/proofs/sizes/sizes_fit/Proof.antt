@@ -1,4 +1,5 @@
-use mathlib.Core.Path.{_≡_, sym, _∙_}
+-- `tables::sizes::sizes_fit` meets its contract. Assumes nothing.
+use mathlib.Core.Path.{sym, _∙_}
 use Prim.Native.Nat.{_+_, _/_}
 use native.Mathlib.Nat.{mul-le-mul-right}
 use native.Mathlib.Omega.{arith}
@@ -7,64 +8,46 @@ use Rattle.tables.proofs.Sizing.{none, many, no-seat, many-seats, other
 use borrow.Author.Needs.{needs}
 use Rattle.tables.proofs.sizes.sizes_fit.Statement.{statement}
 use Rattle.tables.proofs.sizes.sizes_fit.Tie as tie
-use Rattle.tables.proofs.sizes.sizes_fit.Reads as reads
-use Rattle.tables.proofs.sizes.sizes_fit.Lts as lts
-use Rattle.blocks.proofs.rules.legal_piece_length.Reads as legal-piece-length-reads
-use Rattle.tables.proofs.sizes.wide.Reads as wide-reads
 
--- src/sizes.rt:15:9
 wide-requires : tie.Need-wide-requires
 wide-requires c κs = search needs
 
--- src/sizes.rt:17:9
 returns : tie.Need-returns
 returns c = none (c .before .before .args .h) (c .before .before .args .n) (c .before .before .args .rows) (c .before .before .args .holders) (c .before .wide .result) (c .before .wide .ensures) (c .if1 .taken)
 
--- src/sizes.rt:20:9
 returns-2 : tie.Need-returns-2
 returns-2 c = many (c .before .before .before .args .h) (c .before .before .before .args .n) (c .before .before .before .args .rows) (c .before .before .before .args .holders) (c .before .before .wide .result) (c .before .before .wide .ensures) (c .if2 .taken)
 
--- src/sizes.rt:23:9
 returns-3 : tie.Need-returns-3
 returns-3 c = no-seat (c .before .before .before .before .args .h) (c .before .before .before .before .args .n) (c .before .before .before .before .args .rows) (c .before .before .before .before .args .holders) (c .before .before .before .wide .result) (c .before .before .before .wide .ensures) (c .if3 .taken)
 
--- src/sizes.rt:26:9
 returns-4 : tie.Need-returns-4
 returns-4 c = many-seats (c .before .before .before .before .before .args .h) (c .before .before .before .before .before .args .n) (c .before .before .before .before .before .args .rows) (c .before .before .before .before .before .args .holders) (c .before .before .before .before .wide .result) (c .before .before .before .before .wide .ensures) (c .if4 .taken)
 
--- src/sizes.rt:28:35
 cast-legal-piece-length : tie.Need-cast-legal-piece-length
 cast-legal-piece-length c = search needs
 
--- src/sizes.rt:28:9
 legal-piece-length-requires : tie.Need-legal-piece-length-requires
 legal-piece-length-requires c κs = search needs
 
--- src/sizes.rt:29:9
 returns-5 : tie.Need-returns-5
 returns-5 c = other-length (c .before .before .before .before .before .before .before .before .args .h) (c .before .before .before .before .before .before .before .before .args .n) (c .before .before .before .before .before .before .before .before .args .rows) (c .before .before .before .before .before .before .before .before .args .holders) (c .before .before .before .before .before .before .before .wide .result) (c .before .before .before .before .before .before .before .wide .ensures) (sym (c .before .legal-piece-length .ensures) ∙ not-true (c .before .legal-piece-length .result) (c .if5 .taken))
 
--- src/sizes.rt:32:9
 returns-6 : tie.Need-returns-6
 returns-6 c = no-last (c .before .before .before .before .before .before .before .before .before .before .args .h) (c .before .before .before .before .before .before .before .before .before .before .args .n) (c .before .before .before .before .before .before .before .before .before .before .args .rows) (c .before .before .before .before .before .before .before .before .before .before .args .holders) (c .before .before .before .before .before .before .before .before .before .wide .result) (c .before .before .before .before .before .before .before .before .before .wide .ensures) (c .if6 .taken)
 
--- src/sizes.rt:35:9
 returns-7 : tie.Need-returns-7
 returns-7 c = long-last (c .before .before .before .before .before .before .before .before .before .before .before .before .args .h) (c .before .before .before .before .before .before .before .before .before .before .before .before .args .n) (c .before .before .before .before .before .before .before .before .before .before .before .before .args .rows) (c .before .before .before .before .before .before .before .before .before .before .before .before .args .holders) (c .before .before .before .before .before .before .before .before .before .before .before .wide .result) (c .before .before .before .before .before .before .before .before .before .before .before .wide .ensures) (c .if7 .taken)
 
--- src/sizes.rt:37:22
 add-if8 : tie.Need-add-if8
 add-if8 c = search needs
 
--- src/sizes.rt:37:16
 mul-if8 : tie.Need-mul-if8
 mul-if8 c = omega (arith, mul-le-mul-right ((c .before .before .before .before .before .before .before .before .before .before .before .wide .result + 7) / 8) (c .before .before .before .before .before .before .before .if4 .left))
 
--- src/sizes.rt:38:9
 returns-8 : tie.Need-returns-8
 returns-8 c = other-rows (c .before .before .before .before .before .before .before .before .before .before .before .before .before .args .h) (c .before .before .before .before .before .before .before .before .before .before .before .before .before .args .n) (c .before .before .before .before .before .before .before .before .before .before .before .before .before .args .rows) (c .before .before .before .before .before .before .before .before .before .before .before .before .before .args .holders) (c .before .before .before .before .before .before .before .before .before .before .before .before .wide .result) (c .before .before .before .before .before .before .before .before .before .before .before .before .wide .ensures) (c .if8 .taken)
 
--- src/sizes.rt:12:1
 returns-9 : tie.Need-returns-9
 returns-9 c = by-holders (c .before .before .before .before .before .before .before .before .before .before .before .before .before .args .h) (c .before .before .before .before .before .before .before .before .before .before .before .before .before .args .n) (c .before .before .before .before .before .before .before .before .before .before .before .before .before .args .rows) (c .before .before .before .before .before .before .before .before .before .before .before .before .before .args .holders) (c .before .before .before .before .before .before .before .before .before .before .before .before .wide .result) (c .before .before .before .before .before .before .before .before .before .before .before .before .wide .ensures) (c .before .before .before .before .before .before .before .before .before .before .before .if1 .left) (c .before .before .before .before .before .before .before .before .before .before .if2 .left) (c .before .before .before .before .before .before .before .before .before .if3 .left) (c .before .before .before .before .before .before .before .before .if4 .left) (sym (c .before .before .before .before .before .before .legal-piece-length .ensures) ∙ not-false (c .before .before .before .before .before .before .legal-piece-length .result) (c .before .before .before .before .before .if5 .left)) (c .before .before .before .if6 .left) (c .before .if7 .left) (c .if8 .left)
 
