@@ -2,3 +2,4 @@
 pub mod Said
 pub mod Wrote
 pub mod Told
+pub mod Parted

@@ -1,10 +1,12 @@
--- What the calls on blocks, frames, files and entries say to C is determined. Assumes nothing.
-use mathlib.Core.Path.{_≡_, sym, _∙_}
+-- What the calls on blocks, frames, files and entries say to C is determined, and a refused block leaves the output. Assumes nothing.
+use mathlib.Core.Path.{_≡_, refl, sym, ap, _∙_}
 use mathlib.Core.List.{List}
 use Prim.Native.Nat.{ℕ}
-use Rattle.refusal.specs.Paper.{Outcome, then}
+use Rattle.refusal.specs.Paper.{Outcome, taken, refused, then}
 use Rattle.blocks.specs.Spans.{joined}
-use Rattle.blocks.specs.Answers.{blockOf, byteOf, sizeOf, written}
+use Rattle.blocks.specs.Answers.{Left, left, blockOf, byteOf, sizeOf, written}
+use Rattle.blocks.specs.declared.Parts.the-variants.{Refused}
+use Rattle.blocks.proofs.Determined.{block-refusal-keeps}
 use Rattle.wire.specs.Frames.{readOf}
 use Rattle.wire.specs.Handshake.{shakeOf}
 use Rattle.contents.specs.Files.{entryOf}
@@ -38,6 +40,18 @@ module _ (ns : List ℕ) (pl r t : ℕ) where
 
   pub block-determined : (p o n : ℕ) (out : List ℕ) (d d′ : ℕ) (after after′ : List ℕ) → Blocked p o n out r d after → Blocked p o n out t d′ after′ → (r ≡ t) × (d ≡ d′) × (after ≡ after′)
   block-determined p o n out d d′ after after′ e g = (e .0 ∙ sym (g .0), e .1 ∙ sym (g .1), e .2 ∙ sym (g .2))
+
+  -- an answer other than 0 leaves the output as it was
+  pub block-keeps : (p o n : ℕ) (out : List ℕ) (d : ℕ) (after : List ℕ) → Blocked p o n out r d after → (r ≡ 0 → ⊥) → after ≡ out
+  block-keeps p o n out d after e h = go (now .answer) refl
+    where
+      now : Left
+      now = written (blockOf (joined ns) pl p o n) out
+
+      go : (a : Outcome ℕ) → now .answer ≡ a → after ≡ out
+      go (taken m) f = absurd (h (e .0 ∙ ap numberOf f))
+      go (refused k q) f =
+          e .2 ∙ block-refusal-keeps (joined ns) pl p o n out (Refused (record { number = k; place = q })) (now .out) (ap (λ (x : Outcome ℕ). left x (now .out)) (sym f)) k q refl
 
 module _ (s : List ℕ) (r t : ℕ) (d d′ : List ℕ) where
   pub frame-determined : Tells frameDetail (readOf s) r d → Tells frameDetail (readOf s) t d′ → (r ≡ t) × (d ≡ d′)

@@ -6,3 +6,4 @@ pub mod Frames
 pub mod Files
 pub mod Writers
 pub mod Peers
+pub mod Hashing

@@ -8,6 +8,7 @@ use sha1::Hashed;
 
 mod files;
 mod frames;
+mod hashing;
 mod mapping;
 mod peers;
 mod replies;

@@ -1,0 +1,16 @@
+-- A message so far as C holds it: six words, the hash value and how many bytes there are, and the 64 bytes after its whole blocks. Assumes nothing: these are definitions.
+use mathlib.Core.List.{List, [], _∷_}
+use Prim.Native.Nat.{ℕ}
+use lib.ListN.{getD}
+use Rattle.sha1.specs.declared.stream.Stream.{Stream}
+
+abbrev pub wordsOf : Stream → List ℕ
+wordsOf s = s .hash .a ∷ s .hash .b ∷ s .hash .c ∷ s .hash .d ∷ s .hash .e ∷ s .length ∷ []
+
+abbrev pub stateOf : List ℕ → List ℕ → Stream
+stateOf w tail =
+    record {
+      hash = record { a = getD w 0 0; b = getD w 1 0; c = getD w 2 0; d = getD w 3 0; e = getD w 4 0 };
+      tail = tail;
+      length = getD w 5 0;
+    }
