@@ -1,6 +1,6 @@
 """Writes the walks of `yard`'s calls: the contracts of their callees, and how each call's contract follows from them.
 
-Run in the repository: python3 tools/calls.py [NAME ..].
+Run in the repository: python3 tools/calls.py [NAME ..]; then rt fmt.
 """
 import os, sys
 sys.path.insert(0, os.path.dirname(os.path.abspath(__file__)))

@@ -1,6 +1,6 @@
 """Writes the walks of `scans`' three passes over all seats: a `while` over the seats that calls a covered step.
 
-Run in the repository: python3 tools/passes.py. Of the step a walk knows the contract alone, and no field of a seat is named.
+Run in the repository: python3 tools/passes.py; then rt fmt. Of the step a walk knows the contract alone, and no field of a seat is named.
 A pass reads the seats or writes them, may carry a value along, and may lend a slice of numbers to each step.
 """
 import os, sys
