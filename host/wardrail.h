@@ -78,6 +78,11 @@ uint64_t wardrail_info_hash(const uint8_t *text, size_t text_count, uint8_t dige
  * [1] its length, [2] where its path begins, [3] 1 for a single file, whose path is the name at [2], and else 0. */
 uint64_t wardrail_file(const uint8_t *text, size_t text_count, size_t number, uint64_t detail[4]);
 
+/* The file of many at an offset, to walk all files in one pass: first [11] of wardrail_torrent and 1, then [2] of the answer
+ * before, as many times as there are files. On 0: [0] its length, [1] where its path begins, [2] the next offset. Any text
+ * and offset is answered: 1 to 7, 10, 11, 13. */
+uint64_t wardrail_file_at(const uint8_t *text, size_t text_count, size_t at, uint64_t detail[3]);
+
 /* The element of a path at an offset: first the path of wardrail_file, then [3] of the answer before, until [0] is 0.
  * On 0: [0] 1, [1] the part of the element, [3] the next offset; or [0] 0 at the path's end, [3] the offset past it.
  * Any text and offset is answered: 1 to 7, 10 for another kind, 13 for what may not be a name. */
@@ -155,6 +160,11 @@ uint64_t wardrail_write_handshake(const uint8_t info[20], const uint8_t peer[20]
 uint64_t wardrail_write_torrent(const uint8_t *announce, size_t announce_count, const uint8_t *name, size_t name_count,
                                 uint64_t piece_length, const uint8_t *pieces, size_t pieces_count, uint64_t length,
                                 uint8_t *out, size_t out_count, uint64_t *detail);
+
+/* How many bytes that torrent has: 13, 11, 12, 8. */
+uint64_t wardrail_torrent_size(const uint8_t *announce, size_t announce_count, const uint8_t *name, size_t name_count,
+                               uint64_t piece_length, const uint8_t *pieces, size_t pieces_count, uint64_t length,
+                               uint64_t *detail);
 
 /* A compact reply: 11, 15, 8, 37. `peers` has six bytes for each entry. */
 uint64_t wardrail_write_reply(uint64_t interval, const uint8_t *peers, size_t peers_count, uint8_t *out, size_t out_count,

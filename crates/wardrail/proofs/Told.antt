@@ -9,6 +9,9 @@ use Rattle.blocks.specs.declared.Parts.the-variants.{Refused}
 use Rattle.blocks.proofs.Determined.{block-refusal-keeps}
 use Rattle.wire.specs.Frames.{readOf}
 use Rattle.wire.specs.Handshake.{shakeOf}
+use Rattle.metainfo.specs.Reading.{fileAt}
+use Rattle.authoring.specs.Writing.{Fields}
+use Rattle.authoring.specs.Writing.{sizeOf as textSizeOf}
 use Rattle.contents.specs.Files.{entryOf}
 use Rattle.contents.specs.Paths.{elementOf}
 use Rattle.contents.specs.Pieces.{hashOf, checkOf}
@@ -16,7 +19,7 @@ use Rattle.tracker.specs.Reply.{replyOf, nthOf}
 use Rattle.wardrail.specs.Said.{numberOf, detailOf}
 use Rattle.wardrail.specs.Mapping.{spotDetail}
 use Rattle.wardrail.specs.Frames.{frameDetail, shakeDetail}
-use Rattle.wardrail.specs.Files.{fileDetail, elementDetail, partDetail, yesDetail}
+use Rattle.wardrail.specs.Files.{fileDetail, walkedDetail, elementDetail, partDetail, yesDetail}
 use Rattle.wardrail.specs.Peers.{peerDetail}
 
 -- the number r is answered and d is left in the detail, as f tells of the outcome x
@@ -63,6 +66,9 @@ module _ (s : List ℕ) (r t : ℕ) (d d′ : List ℕ) where
   pub file-determined : (n : ℕ) → Tells fileDetail (entryOf s n) r d → Tells fileDetail (entryOf s n) t d′ → (r ≡ t) × (d ≡ d′)
   file-determined n = same fileDetail (entryOf s n) r t d d′
 
+  pub walked-determined : (p : ℕ) → Tells walkedDetail (fileAt s p) r d → Tells walkedDetail (fileAt s p) t d′ → (r ≡ t) × (d ≡ d′)
+  walked-determined p = same walkedDetail (fileAt s p) r t d d′
+
   pub element-determined : (p : ℕ) → Tells elementDetail (elementOf s p) r d → Tells elementDetail (elementOf s p) t d′ → (r ≡ t) × (d ≡ d′)
   element-determined p = same elementDetail (elementOf s p) r t d d′
 
@@ -75,3 +81,7 @@ module _ (s : List ℕ) (r t : ℕ) (d d′ : List ℕ) where
 -- of whether the bytes m are piece n
 pub check-determined : (s : List ℕ) (n : ℕ) (m : List ℕ) (r t d d′ : ℕ) → Tells yesDetail (checkOf s n m) r d → Tells yesDetail (checkOf s n m) t d′ → (r ≡ t) × (d ≡ d′)
 check-determined s n m = same yesDetail (checkOf s n m)
+
+-- of how many bytes a torrent to be written needs
+pub text-size-determined : (f : Fields) (r t d d′ : ℕ) → Tells detailOf (textSizeOf f) r d → Tells detailOf (textSizeOf f) t d′ → (r ≡ t) × (d ≡ d′)
+text-size-determined f = same detailOf (textSizeOf f)

@@ -4,6 +4,7 @@ use mathlib.Core.List.{List, [], _∷_}
 use Prim.Native.Nat.{ℕ}
 use Rattle.refusal.specs.Paper.{Outcome, taken, refused}
 use Rattle.walk.specs.declared.Part.{Part}
+use Rattle.metainfo.specs.declared.File.{File}
 use Rattle.contents.specs.declared.Entry.{Entry}
 use Rattle.contents.specs.Paths.{Step, element, done}
 
@@ -11,6 +12,11 @@ use Rattle.contents.specs.Paths.{Step, element, done}
 abbrev pub fileDetail : Outcome Entry → List ℕ
 fileDetail (taken e) = e .offset .0 ∷ e .length ∷ e .path ∷ cond (e .single) 1 0 ∷ []
 fileDetail (refused n p) = p ∷ 0 ∷ 0 ∷ 0 ∷ []
+
+-- its length, the place of its path, and the place past it, where the next file stands
+abbrev pub walkedDetail : Outcome File → List ℕ
+walkedDetail (taken f) = f .length ∷ f .path ∷ f .next ∷ []
+walkedDetail (refused n p) = p ∷ 0 ∷ 0 ∷ []
 
 -- 1, an element's first byte and length, and the place of the next; or 0 and the place past the path
 abbrev pub elementDetail : Outcome Step → List ℕ

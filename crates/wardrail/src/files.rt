@@ -2,13 +2,16 @@
 ghost use mathlib.Core.Path.{_≡_};
 ghost use mathlib.Core.Bool.{cond};
 ghost use mathlib.Core.List.{[], _∷_};
+ghost use Rattle.metainfo.specs.Reading.{fileAt};
+ghost use Rattle.metainfo.specs.Reading.{filePaper as filedPaper};
 ghost use Rattle.contents.specs.Files.{filePaper, entryOf};
 ghost use Rattle.contents.specs.Paths.{elementPaper, elementOf};
 ghost use Rattle.contents.specs.Pieces.{hashPaper, hashOf, checkPaper, checkOf};
 ghost use Rattle.wardrail.specs.Said.{numberOf};
-ghost use Rattle.wardrail.specs.Files.{fileDetail, elementDetail, partDetail, yesDetail};
+ghost use Rattle.wardrail.specs.Files.{fileDetail, walkedDetail, elementDetail, partDetail, yesDetail};
 use crate::rows::flag;
 use crate::rows::four;
+use crate::rows::three;
 use crate::rows::two;
 use blocks::PieceNumber;
 use contents::Checked;
@@ -16,6 +19,7 @@ use contents::Element;
 use contents::Entry;
 use contents::Found;
 use contents::Hash;
+use metainfo::Filed;
 
 // File number `number` of a torrent. `detail` becomes where it starts in the joined content, its length, the place of its
 // path's first element, and 1 for a single file, whose name begins at that place, or else 0; or the refusal's place.
@@ -27,6 +31,18 @@ pub extern "C" fn wardrail_file(text: &[u8], number: usize, detail: &mut [u64; 4
     let d = file_detail(found);
     *detail = d;
     file_number(found)
+}
+
+// The file of many at a place, to walk all of them in one pass. `detail` becomes its length, the place of its path's first
+// element, and the place past it, where the next stands; or the refusal's place.
+#[no_mangle]
+pub extern "C" fn wardrail_file_at(text: &[u8], at: usize, detail: &mut [u64; 3]) -> u64
+    ensures { λ r. ⌜ (r ≡ numberOf (fileAt (now (text .entry)) at)) × (now (detail .exit) ≡ walkedDetail (fileAt (now (text .entry)) at)) ⌝ }
+{
+    let filed = metainfo::file_at(text, at);
+    let d = filed_detail(filed);
+    *detail = d;
+    filed_number(filed)
 }
 
 // The element of a path at a place. `detail` becomes 1, its first byte and length, and the place of the next; or 0, 0, 0
@@ -89,6 +105,24 @@ fn entry_words(e: Entry) -> [u64; 4]
     ensures { λ d. ⌜ d ≡ e .offset .0 ∷ e .length ∷ e .path ∷ cond (e .single) 1 0 ∷ [] ⌝ }
 {
     [e.offset.0, e.length, e.path as u64, flag(e.single)]
+}
+
+fn filed_number(f: Filed) -> u64
+    ensures { λ n. ⌜ n ≡ numberOf (filedPaper f) ⌝ }
+{
+    match f {
+        Filed::Is(_) => 0,
+        Filed::Not(r) => r.number as u64,
+    }
+}
+
+fn filed_detail(f: Filed) -> [u64; 3]
+    ensures { λ d. ⌜ d ≡ walkedDetail (filedPaper f) ⌝ }
+{
+    match f {
+        Filed::Is(x) => three(x.length, x.path as u64, x.next as u64),
+        Filed::Not(r) => three(r.place as u64, 0, 0),
+    }
 }
 
 fn element_number(e: Element) -> u64

@@ -9,6 +9,12 @@ pub fn two(a: u64, b: u64) -> [u64; 2]
     [a, b]
 }
 
+pub fn three(a: u64, b: u64, c: u64) -> [u64; 3]
+    ensures { λ r. ⌜ r ≡ a ∷ b ∷ c ∷ [] ⌝ }
+{
+    [a, b, c]
+}
+
 pub fn four(a: u64, b: u64, c: u64, d: u64) -> [u64; 4]
     ensures { λ r. ⌜ r ≡ a ∷ b ∷ c ∷ d ∷ [] ⌝ }
 {

@@ -7,9 +7,11 @@ ghost use Rattle.wire.specs.Message.{keepalive, encode};
 ghost use Rattle.wire.specs.Frames.{writeOf as frameOf};
 ghost use Rattle.wire.specs.Handshake.{handshake, zeros};
 ghost use Rattle.tracker.specs.Writing.{writeOf as replyTextOf};
-ghost use Rattle.authoring.specs.Writing.{fields, writeOf as torrentTextOf};
+ghost use Rattle.authoring.specs.Writing.{fields, sizeOf, writeOf as torrentTextOf};
+ghost use Rattle.authoring.specs.Writing.{paper as sizedPaper};
 ghost use Rattle.wardrail.specs.Said.{numberOf, detailOf};
 ghost use Rattle.wardrail.specs.Writers.{Wrote};
+use authoring::Sized;
 use writer::Put;
 
 // A frame of any id and payload.
@@ -69,6 +71,23 @@ pub extern "C" fn wardrail_write_torrent(
     put_number(put)
 }
 
+// How many bytes of output that torrent needs.
+#[no_mangle]
+pub extern "C" fn wardrail_torrent_size(
+    announce: &[u8],
+    name: &[u8],
+    piece_length: u64,
+    pieces: &[u8],
+    length: u64,
+    detail: &mut u64,
+) -> u64
+    ensures { λ r. ⌜ (r ≡ numberOf (sizeOf (fields (now (announce .entry)) (now (name .entry)) «piece_length» (now (pieces .entry)) length))) × (now (detail .exit) ≡ detailOf (sizeOf (fields (now (announce .entry)) (now (name .entry)) «piece_length» (now (pieces .entry)) length))) ⌝ }
+{
+    let sized = authoring::size(announce, name, piece_length, pieces, length);
+    *detail = sized_detail(sized);
+    sized_number(sized)
+}
+
 // A compact reply.
 #[no_mangle]
 pub extern "C" fn wardrail_write_reply(
@@ -99,5 +118,23 @@ fn put_detail(p: Put) -> u64
     match p {
         Put::To(n) => n as u64,
         Put::Refused(r) => r.place as u64,
+    }
+}
+
+fn sized_number(s: Sized) -> u64
+    ensures { λ n. ⌜ n ≡ numberOf (sizedPaper s) ⌝ }
+{
+    match s {
+        Sized::Bytes(_) => 0,
+        Sized::Refused(r) => r.number as u64,
+    }
+}
+
+fn sized_detail(s: Sized) -> u64
+    ensures { λ d. ⌜ d ≡ detailOf (sizedPaper s) ⌝ }
+{
+    match s {
+        Sized::Bytes(n) => n as u64,
+        Sized::Refused(r) => r.place as u64,
     }
 }
