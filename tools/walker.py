@@ -96,7 +96,7 @@ class Thin:
         law = f'uint-lawful 𝓤 H A W {W_[t]}' if t in W_ else 'bool-lawful 𝓤 H A W' if t=='bool' else 'nothing-lawful 𝓤 H A W' if t=='unit' else f"{s.L(t)}.lawful T-{t}.the-type L-{t}.the-laws 𝓤 H A W{' tt' if t in s.en else ''}"
         return f'({law} .typed {r} _ {i} .0)'
     def header(s): return HEADER.replace('Rattle.KIT.', s.P(s.kit, ''))
-    def type_uses(s, t): c = s.owner.get(t, s.cr); return f'use {s.S(c, "declared." + t)}.{{{t}}}\nuse {s.P(c, t)} as T-{t}\nuse {s.P(c, t)}.Laws as L-{t}'
+    def type_uses(s, t): c, *m = s.owner.get(t, s.cr).split('::'); at = '.'.join([*m, t]); return f'use {s.S(c, "declared." + at)}.{{{t}}}\nuse {s.P(c, at)} as T-{t}\nuse {s.P(c, at)}.Laws as L-{t}'
     def stay(s, p, J): return {'val':f'stay-none (λ _. {s.row(p[2])}) yes','mref':f'stay-ref ({J.get(p[0])} ∷ []) tt (plain (λ _. {s.row(p[2])}))','mslice':f'stay-slice ({J.get(p[0])} ∷ []) tt (plain (λ _. {s.row(p[2])}))','slice':f'stay-none-slice ({J.get(p[0])} ∷ []) tt (plain (λ _. {s.row(p[2])})) yes'}[p[1]]
     def goes(s, p, J, n): return {'val':f'goes-none 𝓤 H A W {n} (λ _. {s.row(p[2])}) yes (λ κs x f. refl)','mref':f'goes-ref 𝓤 H A W {n} {J.get(p[0])} tt (plain (λ _. {s.row(p[2])}))','mslice':f'goes-slice 𝓤 H A W {n} {J.get(p[0])} tt (plain (λ _. {s.row(p[2])}))','slice':f'goes-none-slice 𝓤 H A W {n} ({J.get(p[0])} ∷ []) tt (plain (λ _. {s.row(p[2])})) yes'}[p[1]]
 
@@ -130,7 +130,7 @@ class Thin:
         A(s.header()); A(s.uses)
         for t in used: A(s.type_uses(t))
         for k,c in enumerate(callees): A(f'use {mod(c)} as c{k}\nuse {mod(c)}.Symbol as c{k}-def\nuse {mod(c)}.Symbol.{{name as #{key(c)}}}\nuse {mod(c)}.Met as c{k}-thm')
-        A(f'use Rattle.{cr}.proofs.{fn}.Key.{{name as #{cr}·{dash(fn)}}}\nuse Rattle.{cr}.proofs.{fn} as f\nuse Rattle.{cr}.proofs.{fn}.Statement as stated\nuse Rattle.{cr}.proofs.{fn}.Code as code\n')
+        me = f'{cr}::{fn}'; A(f'use {mod(me)}.Key.{{name as #{key(me)}}}\nuse {mod(me)} as f\nuse {mod(me)}.Statement as stated\nuse {mod(me)}.Code as code\n')
         for t in used: A(f'abbrev R-{t} : RattleType\nR-{t} = T-{t}.the-row\n')
         A('abbrev stayed : Stays (f.ended .signature .params) (f.ended .kept)\nstayed = '+tup([s.stay(p, J) for p in ps])+'\n')
         for t in used:
@@ -357,11 +357,11 @@ f-meets : {{M : Type 1}} (𝓤 : URA M) (H : Heap 𝓤) (A : Atoms 𝓤) → Giv
 f-meets 𝓤 H A W mem run 𝓣 {kv} = walk-meets 𝓤 H A f.ended stayed W {tup([s.goes(p, J, n) for p in ps])} (f.clauses {X})
     (WpFn 𝓤 H (𝓣 .C) (𝓣 .Λ) code.function) (WpFn-mono 𝓤 H (W .laws) 𝓣 code.function) (f-walks 𝓤 H A W mem run (𝓣 .C) (𝓣 .Λ) (fmOf 𝓤 H (W .laws) 𝓣) {kv})
 
-pub {dash(fn)}-spec : {{M : Type 1}} → stated.statement M
+pub {dash(fn.split('::')[-1])}-spec : {{M : Type 1}} → stated.statement M
 unfolding code.routine tablesOf
-{dash(fn)}-spec 𝓤 H 𝓜 𝓖 𝓡 =
+{dash(fn.split('::')[-1])}-spec 𝓤 H 𝓜 𝓖 𝓡 =
     entered 𝓤 H (tripleOf 𝓤 H (𝓖 .A) f.signature (f.spec 𝓤 H (𝓖 .A) (𝓜 .mem) (𝓡 .run)))
-    (tables 𝓤 H 𝓜 𝓡 code.env .C) (tables 𝓤 H 𝓜 𝓡 code.env .Λ) #{cr}·{dash(fn)} code.function (code.unfolded 𝓤 H 𝓜 𝓡)
+    (tables 𝓤 H 𝓜 𝓡 code.env .C) (tables 𝓤 H 𝓜 𝓡 code.env .Λ) #{key(me)} code.function (code.unfolded 𝓤 H 𝓜 𝓡)
     (f-meets 𝓤 H (𝓖 .A) (givenOf 𝓤 H 𝓜 𝓖) (𝓜 .mem) (𝓡 .run) (tablesOf 𝓤 H 𝓜 (tables 𝓤 H 𝓜 𝓡 code.env))''')
         for k,c in enumerate(callees): A(f"    (cited 𝓤 H (K{k} 𝓤 H (𝓖 .A) (𝓜 .mem) (𝓡 .run)) 𝓜 𝓡 code.env #{key(c)} c{k}-def.routine code.calls-{key(c)} (c{k}-thm.met 𝓤 H 𝓜 𝓖 𝓡))"+(')' if k==len(callees)-1 else ''))
-        d = f'{ROOT}/crates/{cr}/proofs/{fn}'; os.makedirs(d, exist_ok=True); open(d+'/Proof.antt','w').write('\n'.join(o)+'\n')
+        d = f"{ROOT}/crates/{cr}/proofs/{fn.replace('::', '/')}"; os.makedirs(d, exist_ok=True); open(d+'/Proof.antt','w').write('\n'.join(o)+'\n')

@@ -3,3 +3,4 @@ pub mod Said
 pub mod Wrote
 pub mod Told
 pub mod Parted
+pub mod Heard

@@ -7,3 +7,4 @@ pub mod Files
 pub mod Writers
 pub mod Peers
 pub mod Hashing
+pub mod Yards

@@ -15,6 +15,7 @@ mod replies;
 mod rows;
 mod torrents;
 mod writers;
+mod yards;
 
 // Whether a text is one value that keeps the limits. `detail` becomes its count of values, or the refusal's place.
 #[no_mangle]

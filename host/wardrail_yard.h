@@ -1,0 +1,95 @@
+/* wardrail_yard.h: the yard's calls of libwardrail.a. wardrail.h says what every call answers and what a caller owes.
+ *
+ * THE TABLES are the caller's: a head, S seats, S rows of P / 8 bytes rounded up, high bit first, and P holder counts. Every call
+ * takes all four and keeps nothing. Any content is answered; a flag of a seat is 0 or 1. Each call first refuses tables whose sizes
+ * don't fit (38).
+ *
+ * A call answers 0, the number of the refusal, or WARDRAIL_YARD_WAIT where more bytes are needed. On the latter two nothing that
+ * is lent changes. */
+#ifndef WARDRAIL_YARD_H
+#define WARDRAIL_YARD_H
+
+#include "wardrail.h"
+
+#include <stdbool.h>
+
+#ifdef __cplusplus
+extern "C" {
+#endif
+
+enum { WARDRAIL_YARD_WAIT = 255 };
+
+struct wardrail_head {
+    uint32_t pieces, piece_length, last_length; /* P, and the lengths of a piece and of the last one */
+    uint32_t taken, complete;                   /* seats taken, seats that hold every piece */
+};
+WARDRAIL_ASSERT(sizeof(struct wardrail_head) == 20, "five words");
+WARDRAIL_ASSERT(offsetof(struct wardrail_head, complete) == 16, "five words");
+
+struct wardrail_seat {
+    bool taken, fresh;                   /* fresh: its truck has not said anything yet */
+    bool am_choking, am_interested;      /* our marks */
+    bool peer_choking, peer_interested;  /* the truck's */
+    uint32_t held;                       /* how many pieces */
+};
+WARDRAIL_ASSERT(sizeof(bool) == 1, "a flag is a byte");
+WARDRAIL_ASSERT(sizeof(struct wardrail_seat) == 12, "six flags and a word");
+WARDRAIL_ASSERT(offsetof(struct wardrail_seat, held) == 8, "six flags and a word");
+
+/* What a call says beside its number. What it does not have is 0. */
+struct wardrail_told {
+    uint64_t value;   /* said at the call below */
+    uint64_t request; /* of a frame: 1 for a request to be served, 2 for one to be dropped */
+    uint64_t total;   /* of a page: how many trucks of the whole yard lack a piece */
+    uint64_t next;    /* of a page: the next missing seat that is not listed, or S */
+};
+WARDRAIL_ASSERT(sizeof(struct wardrail_told) == 32, "four numbers");
+
+#define WARDRAIL_TABLES                                                                                         \
+    struct wardrail_head *head, struct wardrail_seat *seats, size_t seats_count, uint8_t *rows, size_t rows_count, \
+        uint16_t *holders, size_t holders_count
+/* the same where seats, rows and holder counts are only looked at; the head then stays too */
+#define WARDRAIL_TABLES_READ                                                                                    \
+    struct wardrail_head *head, const struct wardrail_seat *seats, size_t seats_count, const uint8_t *rows,     \
+        size_t rows_count, const uint16_t *holders, size_t holders_count
+
+/* Starts a yard: sets the sizes and makes the rest 0. 38. */
+uint64_t wardrail_yard_start(WARDRAIL_TABLES, uint32_t pieces, uint32_t piece_length, uint32_t last_length);
+
+/* A truck takes the lowest free seat, which becomes `value`. 38, 35, 39. */
+uint64_t wardrail_yard_sit(WARDRAIL_TABLES, struct wardrail_told *told);
+
+/* The truck of a seat leaves. 38, 36, 39. */
+uint64_t wardrail_yard_leave(WARDRAIL_TABLES, size_t seat);
+
+/* The first frame of what came in from the truck of a seat: `value` becomes how many bytes it used. 38, 36, the frame's 20 and 21,
+ * then by its id 30 to 34 and 39. */
+uint64_t wardrail_yard_feed(WARDRAIL_TABLES, size_t seat, const uint8_t *bytes, size_t bytes_count, struct wardrail_told *told);
+
+/* Our own choke and interest: sets the mark, and writes the 5 bytes of the frame to the start of `frame`. 38, 36, 37. */
+uint64_t wardrail_yard_choke(struct wardrail_head *head, struct wardrail_seat *seats, size_t seats_count, const uint8_t *rows,
+                             size_t rows_count, const uint16_t *holders, size_t holders_count, size_t seat, bool on,
+                             uint8_t *frame, size_t frame_count);
+uint64_t wardrail_yard_interest(struct wardrail_head *head, struct wardrail_seat *seats, size_t seats_count, const uint8_t *rows,
+                                size_t rows_count, const uint16_t *holders, size_t holders_count, size_t seat, bool on,
+                                uint8_t *frame, size_t frame_count);
+
+/* The missing list from seat `first` on: as many seats as fit go to the start of `page`, `value` becomes how many. 38, 36. */
+uint64_t wardrail_yard_missing(WARDRAIL_TABLES_READ, size_t first, uint32_t *page, size_t page_count, struct wardrail_told *told);
+
+/* The smallest number among the pieces with fewest holders becomes `value`. 38. */
+uint64_t wardrail_yard_scarcest(WARDRAIL_TABLES_READ, struct wardrail_told *told);
+
+/* The record of a seat, free or taken, becomes `seen`. 38, 36. */
+uint64_t wardrail_yard_look(WARDRAIL_TABLES_READ, size_t seat, struct wardrail_seat *seen);
+
+/* `value` becomes 1 where a seat's row has a piece, and else 0. 38, 36, 31. */
+uint64_t wardrail_yard_has(WARDRAIL_TABLES_READ, size_t seat, size_t piece, struct wardrail_told *told);
+
+/* How many trucks hold a piece becomes `value`. 38, 31. */
+uint64_t wardrail_yard_count(WARDRAIL_TABLES_READ, size_t piece, struct wardrail_told *told);
+
+#ifdef __cplusplus
+}
+#endif
+#endif

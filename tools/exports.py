@@ -1,0 +1,72 @@
+"""Writes the walks of `wardrail`'s exports of the yard: each over the contract of `yard`'s own call.
+
+Run in the repository: python3 tools/exports.py [NAME ..].
+"""
+import os, sys
+sys.path.insert(0, os.path.dirname(os.path.abspath(__file__)))
+from walker import Thin
+
+val = lambda n, t: (n, 'val', t)
+HEAD, HEAD_MUT = val('head', 'Head'), ('head', 'mref', 'Head')
+SEATS, SEATS_MUT = ('seats', 'slice', 'Seat'), ('seats', 'mslice', 'Seat')
+ROWS, ROWS_MUT = ('rows', 'slice', 'u8'), ('rows', 'mslice', 'u8')
+HOLDERS, HOLDERS_MUT = ('holders', 'slice', 'u16'), ('holders', 'mslice', 'u16')
+SEAT, PIECE, ON, FRAME, PAGE = val('seat', 'usize'), val('piece', 'usize'), val('on', 'bool'), ('sheet', 'mslice', 'u8'), ('page', 'mslice', 'u32')
+TOLD, SEEN = ('told', 'mref', 'Told'), ('seen', 'mref', 'Seat')
+# name: how the tables are lent, what else is, the call's words, what is told, and what is written into
+CALLS = {
+    'start': ([SEATS_MUT, ROWS_MUT, HOLDERS_MUT], [val('pieces', 'u32'), val('lengths', 'u32'), val('last', 'u32')], '(Step.start {pieces} {lengths} {last})', None, None),
+    'sit': ([SEATS_MUT, ROWS_MUT, HOLDERS], [], 'Step.sit', TOLD, None),
+    'leave': ([SEATS_MUT, ROWS_MUT, HOLDERS_MUT], [SEAT], '(Step.leave {seat})', None, None),
+    'feed': ([SEATS_MUT, ROWS_MUT, HOLDERS_MUT], [SEAT, ('bytes', 'slice', 'u8')], '(Step.feed {seat} {bytes})', TOLD, None),
+    'choke': ([SEATS_MUT, ROWS, HOLDERS], [SEAT, ON, FRAME], '(Step.choke {seat} {on} (length {sheet}))', None, 'sheet'),
+    'interest': ([SEATS_MUT, ROWS, HOLDERS], [SEAT, ON, FRAME], '(Step.interest {seat} {on} (length {sheet}))', None, 'sheet'),
+    'missing': ([SEATS, ROWS, HOLDERS], [val('first', 'usize'), PAGE], '(Step.missing {first} (length {page}))', TOLD, 'page'),
+    'scarcest': ([SEATS, ROWS, HOLDERS], [], 'Step.scarcest', TOLD, None),
+    'look': ([SEATS, ROWS, HOLDERS], [SEAT], '(Step.look {seat})', SEEN, None),
+    'has': ([SEATS, ROWS, HOLDERS], [SEAT, PIECE], '(Step.has {seat} {piece})', TOLD, None),
+    'count': ([SEATS, ROWS, HOLDERS], [PIECE], '(Step.count {piece})', TOLD, None),
+}
+
+# the contract of `yard`'s call: `out` of all tables, or the answer alone where the tables are only looked at
+def ensures(tables, words, written):
+    changes = tables[0][1] == 'mslice'
+    def said(r, v, z):
+        yard = f"(yardOf {v['head']} {v['seats']} {v['rows']} {v['holders']})"
+        call = words.format(**v)
+        now = lambda p: z[p[0]] if p[1] == 'mslice' else v[p[0]]
+        if changes: fact = f"out {r} ({z['head']}) {' '.join('(' + now(p) + ')' for p in tables)} ≡ Step.step {call} {yard}"
+        else: fact = f"paper {r} ≡ Step.step {call} {yard} .answer"
+        if not written: return fact
+        return f"({fact}) × ({z[written]} ≡ sets {v[written]} 0 (Step.written {call} {yard}))"
+    return said
+
+fns = {
+    'wardrail::yards::code': dict(params=[val('a', 'Answer')], result='u64', ensures=lambda r, v, z: f"{r} ≡ codeOf (paper {v['a']})"),
+    'wardrail::yards::tell': dict(params=[val('a', 'Answer'), val('was', 'Told')], result='Told', ensures=lambda r, v, z: f"{r} ≡ toldOf (paper {v['a']}) {v['was']}"),
+    'wardrail::yards::shown': dict(params=[val('a', 'Answer'), val('was', 'Seat')], result='Seat', ensures=lambda r, v, z: f"{r} ≡ shownOf (paper {v['a']}) {v['was']}"),
+}
+TOLD_BY = {'told': 'toldOf', 'seen': 'shownOf'}
+says = {}
+for name, (tables, more, words, told, written) in CALLS.items():
+    changes = tables[0][1] == 'mslice'
+    fns[f'yard::{name}'] = dict(params=[HEAD_MUT if changes else HEAD, *tables, *more], result='Answer', ensures=ensures(tables, words, written))
+    fns[f'wardrail::yards::wardrail_yard_{name}'] = dict(params=[HEAD_MUT, *tables, *more] + ([told] if told else []), result='u64')
+    whole, answer = ('Out', 'x .answer') if changes else ('Outcome Said', 'x')
+    first = 'e1 .0' if written else 'e1'
+    follows = lambda f: f"ap (λ (x : {whole}). {f}) ({first})"
+    parts = [f"{'e3' if told else 'e2'} ∙ {follows(f'codeOf ({answer})')}"]
+    if told: parts.append(f"e2 ∙ {follows(TOLD_BY[told[0]] + f' ({answer}) ' + told[0])}")
+    if written: parts.append('e1 .1')
+    parts.append(follows('x .yard') if changes else 'refl')
+    says[name] = ', '.join(parts)
+SPECS = '''use Rattle.refusal.specs.Paper.{Outcome}
+use Rattle.tables.specs.Tables.{Said, Out, paper, out, yardOf}
+use Rattle.tables.specs.Step as Step
+use Rattle.wardrail.specs.Yards.{codeOf, toldOf, shownOf}
+use lib.Seq.{sets}
+'''
+owner = dict.fromkeys(['Head', 'Seat', 'Answer'], 'tables') | {'Told': 'wardrail::yards'}
+structs = dict.fromkeys(['Head', 'Seat', 'Told'])
+for name in sys.argv[1:] or says:
+    Thin('wardrail', structs, {'Answer'}, fns, SPECS, owner, 'scans').gen(f'yards::wardrail_yard_{name}', says[name])
