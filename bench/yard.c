@@ -1,5 +1,5 @@
 /* Times the yard's calls beside the same calls in plain C, at 2,000 seats and 16,384 pieces. The plain ones check what document 01
- * asks for (sizes aside) and keep the same tables. It prints nanoseconds for a call, and ours over theirs. */
+ * asks for and keep the same tables. It prints nanoseconds for a call, and ours over theirs. */
 #define _POSIX_C_SOURCE 200809L
 #include "../host/wardrail_yard.h"
 
@@ -21,9 +21,24 @@ static struct yard ours, theirs;
 
 static uint32_t word(const uint8_t *b) { return (uint32_t)b[0] << 24 | (uint32_t)b[1] << 16 | (uint32_t)b[2] << 8 | b[3]; }
 
+#define OUT_OF_LINE __attribute__((noinline, noclone))
+
+/* how many elements are lent, as the library is told for each call */
+struct lent {
+    size_t seats, rows, holders;
+};
+
+static bool fit(const struct yard *y, const struct lent *n) {
+    const struct wardrail_head *h = &y->head;
+    return h->pieces >= 1 && h->pieces <= 16384 && n->seats >= 1 && n->seats <= 2000 && h->piece_length >= 16384 && h->piece_length <= 16777216 &&
+           !(h->piece_length & (h->piece_length - 1)) && h->last_length >= 1 && h->last_length <= h->piece_length &&
+           n->rows == n->seats * ((h->pieces + 7) / 8) && n->holders == h->pieces;
+}
+
 /* ---- plain C; each gives 0 or the refusal's number, and is kept out of line as a library's call is */
 
-__attribute__((noinline)) static int plain_have(struct yard *y, size_t seat, const uint8_t *b, size_t count) {
+OUT_OF_LINE static int plain_have(struct yard *y, const struct lent *n, size_t seat, const uint8_t *b, size_t count) {
+    if (!fit(y, n)) return 38;
     if (seat >= SEATS || !y->seats[seat].taken) return 36;
     if (count < 4) return 255;
     if (word(b) > 16393) return 20;
@@ -43,7 +58,8 @@ __attribute__((noinline)) static int plain_have(struct yard *y, size_t seat, con
     return 0;
 }
 
-__attribute__((noinline)) static int plain_bitfield(struct yard *y, size_t seat, const uint8_t *b, size_t count) {
+OUT_OF_LINE static int plain_bitfield(struct yard *y, const struct lent *n, size_t seat, const uint8_t *b, size_t count) {
+    if (!fit(y, n)) return 38;
     if (seat >= SEATS || !y->seats[seat].taken) return 36;
     if (count < 4) return 255;
     if (word(b) > 16393) return 20;
@@ -70,7 +86,8 @@ __attribute__((noinline)) static int plain_bitfield(struct yard *y, size_t seat,
     return 0;
 }
 
-__attribute__((noinline)) static int plain_leave(struct yard *y, size_t seat) {
+OUT_OF_LINE static int plain_leave(struct yard *y, const struct lent *n, size_t seat) {
+    if (!fit(y, n)) return 38;
     if (seat >= SEATS || !y->seats[seat].taken) return 36;
     struct wardrail_seat *s = &y->seats[seat];
     uint8_t *row = &y->rows[seat * WIDTH];
@@ -86,7 +103,8 @@ __attribute__((noinline)) static int plain_leave(struct yard *y, size_t seat) {
     return 0;
 }
 
-__attribute__((noinline)) static int plain_missing(const struct yard *y, size_t first, uint32_t *page, size_t room, struct wardrail_told *told) {
+OUT_OF_LINE static int plain_missing(const struct yard *y, const struct lent *n, size_t first, uint32_t *page, size_t room, struct wardrail_told *told) {
+    if (!fit(y, n)) return 38;
     if (first > SEATS) return 36;
     memset(told, 0, sizeof *told);
     told->next = SEATS;
@@ -130,6 +148,7 @@ static void same(void) {
 int main(void) {
     static uint8_t have[9] = {0, 0, 0, 5, 4}, full[5 + WIDTH] = {0, 0, (1 + WIDTH) >> 8, (1 + WIDTH) & 255, 5};
     static uint32_t page[SEATS];
+    const struct lent sizes = {SEATS, SEATS * WIDTH, PIECES};
     double a[TURNS], b[TURNS], c[TURNS], d[TURNS], t;
     struct wardrail_told told;
     memset(full + 5, 255, WIDTH);
@@ -144,7 +163,7 @@ int main(void) {
         for (size_t i = 0; i < SEATS; i++) must(wardrail_yard_feed(TABLES, i, have, 9, &told), "have");
         a[k] = (now() - t) / SEATS;
         t = now();
-        for (size_t i = 0; i < SEATS; i++) must((uint64_t)plain_have(&theirs, i, have, 9), "plain have");
+        for (size_t i = 0; i < SEATS; i++) must((uint64_t)plain_have(&theirs, &sizes, i, have, 9), "plain have");
         b[k] = (now() - t) / SEATS;
     }
     same();
@@ -155,7 +174,7 @@ int main(void) {
         for (int i = 0; i < 50; i++) must(wardrail_yard_missing(TABLES, 0, page, SEATS, &told), "missing");
         a[k] = (now() - t) / 50;
         t = now();
-        for (int i = 0; i < 50; i++) must((uint64_t)plain_missing(&theirs, 0, page, SEATS, &told), "plain missing");
+        for (int i = 0; i < 50; i++) must((uint64_t)plain_missing(&theirs, &sizes, 0, page, SEATS, &told), "plain missing");
         b[k] = (now() - t) / 50;
     }
     row("page of 2,000 seats", a, b);
@@ -165,20 +184,20 @@ int main(void) {
         for (size_t i = 0; i < 50; i++) {
             must(wardrail_yard_leave(TABLES, i), "leave");
             must(wardrail_yard_sit(TABLES, &told), "sit");
-            must((uint64_t)plain_leave(&theirs, i), "plain leave");
+            must((uint64_t)plain_leave(&theirs, &sizes, i), "plain leave");
             theirs.seats[i] = ours.seats[i];
             theirs.head = ours.head;
             t = now();
             must(wardrail_yard_feed(TABLES, i, full, sizeof full, &told), "bitfield");
             ta += now() - t;
             t = now();
-            must((uint64_t)plain_bitfield(&theirs, i, full, sizeof full), "plain bitfield");
+            must((uint64_t)plain_bitfield(&theirs, &sizes, i, full, sizeof full), "plain bitfield");
             tb += now() - t;
             t = now();
             must(wardrail_yard_leave(TABLES, i), "leave");
             tc += now() - t;
             t = now();
-            must((uint64_t)plain_leave(&theirs, i), "plain leave");
+            must((uint64_t)plain_leave(&theirs, &sizes, i), "plain leave");
             td += now() - t;
             must(wardrail_yard_sit(TABLES, &told), "sit");
             theirs.seats[i] = ours.seats[i];
