@@ -1,0 +1,2 @@
+def seeders(): pass
+def leecher(): pass

@@ -1,0 +1,311 @@
+"""Torrents: made by stock programs and read by us, made by us and read by stock programs; and our tracker replies."""
+
+import hashlib
+import os
+import random
+import re
+import subprocess
+import time
+import urllib.parse
+from dataclasses import dataclass
+
+import libtorrent
+
+from world_replay import same, unhexed
+
+ANNOUNCE = b"http://127.0.0.1:9/announce"
+SECONDS = 60
+MOST_ROOM = 1 << 20
+# no name is looked up and no port is asked for: a session that keeps to this machine
+ALONE = {
+    "listen_interfaces": "127.0.0.1:0",
+    "outgoing_interfaces": "127.0.0.1",
+    "enable_dht": False,
+    "enable_lsd": False,
+    "enable_upnp": False,
+    "enable_natpmp": False,
+    "allow_multiple_connections_per_ip": True,
+}
+
+
+@dataclass
+class Listing:
+    """What every reader tells of a torrent; a file is its start, its length and its path without the torrent's name."""
+
+    name: bytes
+    files: list
+    total: int
+    piece_length: int
+    pieces: int
+    info_hash: str
+
+
+# ---- readers
+
+
+def read_by_us(replay, text):
+    answer = replay.ask("torrent", text).split()
+    same("we read a torrent", answer[0], "taken")
+    announce, name, (piece_length, pieces, count, total), info_hash = answer[1], answer[2], map(int, answer[3:7]), answer[7]
+    same("announce", unhexed(announce), ANNOUNCE)
+    files = [read_file(replay.ask("file", text, i)) for i in range(count)]
+    same("one file more", replay.ask("file", text, count), "refused 31 at 0")
+    return Listing(unhexed(name), files, total, piece_length, pieces, info_hash)
+
+
+def read_file(answer):
+    start, length, path = answer.split()
+    return int(start), int(length), b"/".join(unhexed(element) for element in path.split("/"))
+
+
+def read_by_bdecode(text):
+    """The fields as the bytes they are, by libtorrent's decoder; the hash by hashlib over its encoder."""
+    info = libtorrent.bdecode(text)[b"info"]
+    listed = info.get(b"files", [{b"length": info.get(b"length"), b"path": [info[b"name"]]}])
+    files, start = [], 0
+    for file in listed:
+        files.append((start, file[b"length"], b"/".join(file[b"path"])))
+        start += file[b"length"]
+    digest = hashlib.sha1(libtorrent.bencode(info)).hexdigest()
+    return Listing(info[b"name"], files, start, info[b"piece length"], len(info[b"pieces"]) // 20, digest)
+
+
+def read_by_libtorrent(text):
+    """Names outside UTF-8 come out mended, so lengths, counts and hash are what is told of them."""
+    torrent = libtorrent.torrent_info(text)
+    listed = torrent.files()
+    files = []
+    for i in range(listed.num_files()):
+        path = listed.file_path(i).encode()
+        files.append((listed.file_offset(i), listed.file_size(i), inner(path, torrent.name().encode())))
+    same("libtorrent's announce", [tracker.url.encode() for tracker in torrent.trackers()], [ANNOUNCE])
+    return Listing(
+        torrent.name().encode(), files, torrent.total_size(), torrent.piece_length(), torrent.num_pieces(), str(torrent.info_hash())
+    )
+
+
+def inner(path, name):
+    return path[len(name) + 1 :] if path.startswith(name + b"/") else path
+
+
+def read_by_aria2(path):
+    """Exact numbers and the files in order. Names outside UTF-8 come with % and hex digits."""
+    said = output(["aria2c", "--no-conf", "-S", path])
+    name = field(said, rb"^Name: (.*)$")
+    files, start = [], 0
+    for shown, length in re.findall(rb"^ *[0-9]+\|(.*)\n +\|.*\(([0-9,]+)\)$", said, re.M):
+        files.append((start, number(length), inner(shown.removeprefix(b"./"), name)))
+        start += files[-1][1]
+    return Listing(
+        name,
+        files,
+        number(field(said, rb"^Total Length: .*\(([0-9,]+)\)$")),
+        number(field(said, rb"^Piece Length: ([0-9]+)")) * {b"KiB": 1 << 10, b"MiB": 1 << 20}[field(said, rb"^Piece Length: [0-9.]+(...)$")],
+        number(field(said, rb"^The Number of Pieces: (.*)$")),
+        field(said, rb"^Info Hash: (.*)$").decode(),
+    )
+
+
+def read_by_transmission(path):
+    """Name, hash, number of pieces, and the paths in an order of its own; its sizes are rounded."""
+    said = output(["transmission-show", path])
+    name = field(said, rb"^  Name: (.*)$")
+    shown = re.findall(rb"^  (.*) \([0-9.]+ .B\)$", said.split(b"\nFILES\n")[1], re.M)
+    return name, sorted(inner(path, name) for path in shown), int(field(said, rb"^  Piece Count: (.*)$")), field(said, rb"^  Hash: (.*)$").decode()
+
+
+def output(command):
+    return subprocess.run(command, check=True, capture_output=True, timeout=SECONDS, env=dict(os.environ, LC_ALL="C.UTF-8")).stdout
+
+
+def field(said, form):
+    return re.search(form, said, re.M).group(1)
+
+
+def number(digits):
+    return int(digits.replace(b",", b""))
+
+
+def check_alike(replay, path):
+    """All readers tell the same of a torrent. Gives back its text and what is told."""
+    text = path.read_bytes()
+    ours = read_by_us(replay, text)
+    what = f"{path.name} as we and another read it"
+    same(what, ours, read_by_bdecode(text))
+    plain = all(is_utf8(element) for element in [ours.name, *(file[2] for file in ours.files)])
+    theirs = read_by_libtorrent(text)
+    same(what, ours if plain else unnamed(ours), theirs if plain else unnamed(theirs))
+    same(what, escaped(ours), read_by_aria2(path))
+    name, paths, pieces, info_hash = read_by_transmission(path)
+    same(what, (ours.pieces, ours.info_hash, len(ours.files)), (pieces, info_hash, len(paths)))
+    if plain:
+        same(what, (ours.name, sorted(file[2] for file in ours.files)), (name, paths))
+    return text, ours
+
+
+def is_utf8(name):
+    try:
+        name.decode()
+    except UnicodeDecodeError:
+        return False
+    return True
+
+
+def unnamed(listing):
+    return [(start, length) for start, length, _ in listing.files], listing.total, listing.piece_length, listing.pieces, listing.info_hash
+
+
+def escaped(listing):
+    """The listing with names outside UTF-8 as aria2 shows them."""
+
+    def shown(name):
+        return name if is_utf8(name) else urllib.parse.quote_from_bytes(name).encode()
+
+    files = [(start, length, b"/".join(map(shown, path.split(b"/")))) for start, length, path in listing.files]
+    return Listing(shown(listing.name), files, listing.total, listing.piece_length, listing.pieces, listing.info_hash)
+
+
+# ---- makers
+
+LENGTHS = {
+    "route 7.bin": 100_000,
+    "Straße nach Süd.map": 1,
+    "whole pieces": 1 << 17,
+    "week é/a b.bin": 40_000,
+    "week é/empty": 0,
+    "week é/sub dir/deeper/ü-日本": 70_000,
+    "week é/z\udcff\udcfe": 1,
+    "one/only": 16_384,
+    "raw \udcff\udcfe.bin": 20_000,
+}
+
+
+def make_contents(folder):
+    """The files above, and the names to make torrents of. Names that are no UTF-8 stand as Python reads them off a disk."""
+    draw = random.Random(1)
+    for name, length in LENGTHS.items():
+        path = folder / name
+        path.parent.mkdir(parents=True, exist_ok=True)
+        path.write_bytes(draw.randbytes(length))
+    return sorted({name.split("/")[0] for name in LENGTHS})
+
+
+def make_by_mktorrent(source, shift, path):
+    output(["mktorrent", "-t", "1", "-a", ANNOUNCE, "-l", str(shift), "-o", path, source])
+
+
+def make_by_transmission(source, shift, path):
+    output(["transmission-create", "-s", str(1 << shift - 10), "-t", ANNOUNCE, "-o", path, source])
+
+
+def make_by_libtorrent(source, shift, path):
+    files = libtorrent.file_storage()
+    libtorrent.add_files(files, str(source))
+    made = libtorrent.create_torrent(files, 1 << shift, flags=libtorrent.create_torrent.v1_only)
+    made.add_tracker(ANNOUNCE.decode())
+    libtorrent.set_piece_hashes(made, str(source.parent))
+    path.write_bytes(libtorrent.bencode(made.generate()))
+
+
+# each with its piece lengths, as powers of two
+MAKERS = [(make_by_mktorrent, [15, 16, 20]), (make_by_transmission, [14, 15, 18]), (make_by_libtorrent, [14, 17, 24])]
+
+
+def theirs(replay, folder):
+    """Torrents of three makers, read alike; and every piece of their contents checked by us, whole and damaged."""
+    contents, torrents, pieces = folder / "contents", 0, 0
+    for name in make_contents(contents):
+        for make, shifts in MAKERS:
+            if make is make_by_libtorrent and not is_utf8(os.fsencode(name)):
+                continue  # its Python interface takes no such path
+            for shift in shifts:
+                path = folder / f"{make.__name__}-{torrents}.torrent"
+                make(contents / name, shift, path)
+                text, listing = check_alike(replay, path)
+                same("piece length", listing.piece_length, 1 << shift)
+                pieces += check_pieces(replay, text, listing, contents)
+                torrents += 1
+    return f"{torrents} torrents of mktorrent, Transmission and libtorrent read alike, {pieces} pieces checked"
+
+
+def check_pieces(replay, text, listing, contents):
+    root = os.fsencode(contents)
+    single = os.path.isfile(os.path.join(root, listing.name))
+    joined = b""
+    for _, length, path in listing.files:
+        with open(os.path.join(root, *([path] if single else [listing.name, path])), "rb") as file:
+            joined += file.read()
+    for i in range(listing.pieces):
+        piece = joined[i * listing.piece_length :][: listing.piece_length]
+        same("a piece", replay.ask("piece", text, i, piece), "yes")
+        same("a damaged piece", replay.ask("piece", text, i, piece[:-1] + bytes([piece[-1] ^ 1])), "no")
+    return listing.pieces
+
+
+# ---- ours
+
+WRITTEN = [
+    (b"route.bin", 14, 1),
+    (b"route 8.bin", 14, 3 << 14),
+    (b"map \xc3\xbc \xe6\x97\xa5.bin", 15, 100_001),
+    (b"raw \xff.bin", 16, 70_000),
+    (b"long.bin", 14, 1_500_000),
+    (b"big pieces", 24, 1_000_000),
+]
+
+
+def ours(replay, folder):
+    """Torrents that we write, read alike; libtorrent's own encoding gives the same bytes, and it finds the content complete."""
+    session = libtorrent.session(ALONE)
+    for at, (name, shift, length) in enumerate(WRITTEN):
+        data = random.Random(at).randbytes(length)
+        path = folder / f"ours-{at}.torrent"
+        path.write_bytes(written(replay, ANNOUNCE, name, 1 << shift, data))
+        text, listing = check_alike(replay, path)
+        same("our torrent", listing.name, name)
+        same("our torrent", (listing.files, listing.piece_length), ([(0, length, name)], 1 << shift))
+        same("our torrent by libtorrent's encoder", text, libtorrent.bencode(libtorrent.bdecode(text)))
+        torrent = libtorrent.torrent_info(text)
+        for changed in (False, True):
+            where = folder / f"ours-{at}-{changed}"
+            where.mkdir()
+            (where / torrent.files().file_path(0)).write_bytes(data[:-1] + bytes([data[-1] ^ changed]))
+            same("libtorrent finds the content complete", is_complete(session, torrent, where), not changed)
+    return f"{len(WRITTEN)} torrents of ours read alike, and their contents found complete by libtorrent"
+
+
+def written(replay, announce, name, piece_length, data):
+    hashes = b"".join(hashlib.sha1(data[i : i + piece_length]).digest() for i in range(0, len(data), piece_length))
+    return replay.ask_bytes("write-torrent", announce, name, piece_length, len(data), hashes, MOST_ROOM)
+
+
+def is_complete(session, torrent, where):
+    params = libtorrent.add_torrent_params()
+    params.ti = torrent
+    params.save_path = str(where)
+    params.flags &= ~(libtorrent.torrent_flags.paused | libtorrent.torrent_flags.auto_managed)
+    handle = session.add_torrent(params)
+    try:
+        until = time.monotonic() + SECONDS
+        states = libtorrent.torrent_status
+        while handle.status().state in (states.checking_files, states.checking_resume_data) and time.monotonic() < until:
+            time.sleep(0.02)
+        return handle.status().is_seeding
+    finally:
+        session.remove_torrent(handle)
+
+
+def replies(replay, folder):
+    """Tracker replies that we write, by libtorrent's decoder and encoder, and read back by us."""
+    draw = random.Random(2)
+    for count in (0, 1, 2, 50, 2000):
+        interval = draw.choice([0, 1800, 2**31 - 1])
+        peers = [(draw.randbytes(4), draw.randrange(65536)) for _ in range(count)]
+        packed = b"".join(address + port.to_bytes(2, "big") for address, port in peers)
+        text = replay.ask_bytes("write-reply", interval, packed, MOST_ROOM)
+        same("a reply decoded", libtorrent.bdecode(text), {b"interval": interval, b"peers": packed})
+        same("a reply encoded", libtorrent.bencode({b"interval": interval, b"peers": packed}), text)
+        same("a reply", replay.ask("reply", text), f"taken {interval} {count}")
+        for i, (address, port) in enumerate(peers[:50]):
+            same("a peer", replay.ask("peer", text, i), f"none {address.hex()} {port}")
+    return "5 replies of ours decoded and encoded alike by libtorrent"
