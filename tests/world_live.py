@@ -4,11 +4,13 @@ import json
 import os
 import random
 import socket
+import struct
 import subprocess
 import threading
 import time
+from collections import Counter
 from contextlib import contextmanager
-from http.server import BaseHTTPRequestHandler, HTTPServer
+from http.server import BaseHTTPRequestHandler, ThreadingHTTPServer
 
 import libtorrent
 
@@ -17,9 +19,11 @@ from world_torrents import ALONE, ANNOUNCE, MOST_ROOM, written
 
 SECONDS = 60
 PEER_ID = b"-WR0000-tests/world."
+# Transmission takes one connection from an address, and the clients have 127.0.0.1
+OUR_ADDRESS = "127.0.0.2"
 PIECE_LENGTH = 1 << 14
 SEATS = 4
-BITFIELD, REQUEST, PIECE, HAVE = 5, 6, 7, 4
+HAVE, BITFIELD, REQUEST, PIECE = 4, 5, 6, 7
 
 
 class HungUp(Differs):
@@ -37,10 +41,11 @@ class Package:
         self.text = written(replay, announce, b"live.bin", PIECE_LENGTH, self.data)
         self.torrent.write_bytes(self.text)
         self.info_hash = unhexed(replay.ask("torrent", self.text).split()[7])
-        self.full, self.empty = folder / "full", folder / "empty"
-        self.full.mkdir()
-        self.empty.mkdir()
-        (self.full / "live.bin").write_bytes(self.data)
+        self.full, self.begun = folder / "full", folder / "begun"
+        self.begun_pieces = pieces - pieces // 80
+        for where, have in (self.full, length), (self.begun, self.begun_pieces * PIECE_LENGTH):
+            where.mkdir()
+            (where / "live.bin").write_bytes(self.data[:have].ljust(length, b"\0"))
 
 
 # ---- stock clients; each ends with its block
@@ -57,42 +62,40 @@ def running(command):
 
 
 @contextmanager
-def aria2(package, where, port, *more):
+def aria2(package, where, port):
     command = ["aria2c", "--no-conf", "--quiet", f"--dir={where}", f"--listen-port={port}", "--interface=127.0.0.1", "--disable-ipv6",
                "--enable-dht=false", "--enable-dht6=false", "--bt-enable-lpd=false", "--enable-peer-exchange=false",
-               "--check-integrity=true", "--seed-ratio=0", f"--stop={SECONDS}", f"--stop-with-process={os.getpid()}", *more]
-    with running([*command, str(package.torrent)]):
+               "--check-integrity=true", "--seed-ratio=0", f"--stop={SECONDS}", f"--stop-with-process={os.getpid()}"]
+    with running([*command, package.torrent]):
         yield
 
 
 @contextmanager
-def aria2_seeder(package, port):
-    with aria2(package, package.full, port, "--bt-exclude-tracker=*"):
-        yield
-
-
-@contextmanager
-def transmission_seeder(package, port):
+def transmission(package, where, port):
     settings = {"bind-address-ipv4": "127.0.0.1", "bind-address-ipv6": "::1", "dht-enabled": False, "lpd-enabled": False,
                 "pex-enabled": False, "utp-enabled": False, "port-forwarding-enabled": False, "rpc-enabled": False}
-    home = package.full.parent / "transmission"
-    home.mkdir(exist_ok=True)
+    home = where.parent / f"transmission-{port}"
+    home.mkdir()
     (home / "settings.json").write_text(json.dumps(settings))
-    with running(["transmission-cli", "-g", home, "-w", package.full, "-p", str(port), "-M", str(package.torrent)]):
+    with running(["transmission-cli", "-g", home, "-w", where, "-p", str(port), "-M", package.torrent]):
         yield
 
 
 @contextmanager
-def libtorrent_seeder(package, port):
+def rasterbar(package, where, port):
+    """A session of libtorrent, in this process."""
     session = libtorrent.session(dict(ALONE, listen_interfaces=f"127.0.0.1:{port}"))
     params = libtorrent.add_torrent_params()
     params.ti = libtorrent.torrent_info(package.text)
-    params.save_path = str(package.full)
+    params.save_path = str(where)
     handle = session.add_torrent(params)
     try:
         yield
     finally:
         session.remove_torrent(handle)
+
+
+CLIENTS = [aria2, transmission, rasterbar]
 
 
 def free_port():
@@ -109,7 +112,7 @@ class Truck:
 
     def __init__(self, replay, package, port, cuts, until):
         self.replay, self.cuts, self.until = replay, cuts, until
-        self.stream, self.unused, self.heard = b"", b"", []
+        self.unused, self.heard, self.last = b"", [], b""
         self.socket = connected(port, until)
         self.send("write-handshake", package.info_hash, PEER_ID, 68)
         self.free, self.peer_id = self.shake(package.info_hash)
@@ -152,7 +155,6 @@ class Truck:
     def listen(self):
         """Takes what has come, cut anew."""
         came = self.receive()
-        self.stream += came
         at = 0
         for end in ends(came, self.cuts):
             self.feed(came[at:end])
@@ -165,20 +167,24 @@ class Truck:
             answer = self.replay.ask("feed", 0, self.unused)
             if answer == "wait":
                 return
-            word, used = answer.split()
-            if word not in ("taken", "serve", "drop"):
-                raise Differs(f"feed: {answer}; {self.unused[:40].hex()}")
+            if answer.startswith("refused"):
+                raise Differs(f"feed: {answer}; frames heard: {self.heard[-20:]}; next: {self.unused[:40].hex()}")
+            used = answer.split()[1]
             self.heard.append(self.unused[4] if int(used) > 4 else "keepalive")
-            self.frame(self.unused[: int(used)])
+            self.last = self.unused[: int(used)]
             self.unused = self.unused[int(used) :]
-
-    def frame(self, whole):
-        """A frame that the yard has used, for who wants to look at it."""
 
     def is_loaded(self):
         return self.replay.ask("head") == "1 1"
 
-    def close(self):
+    def says(self):
+        """Who it is, and how many frames of each id came."""
+        return f"{self.peer_id[:8].decode()} {dict(sorted(Counter(self.heard).items()))}"
+
+    def __enter__(self):
+        return self
+
+    def __exit__(self, *_):
         self.socket.close()
 
 
@@ -196,7 +202,7 @@ def boarded(replay, package, port, cuts, until):
 def connected(port, until):
     while True:
         try:
-            return socket.create_connection(("127.0.0.1", port), timeout=5)
+            return socket.create_connection(("127.0.0.1", port), timeout=5, source_address=(OUR_ADDRESS, 0))
         except OSError:
             if time.monotonic() > until:
                 raise Differs(f"no client on port {port}") from None
@@ -207,7 +213,7 @@ def ends(came, cuts):
     """Where the bytes are cut, their end included: after each, or at random."""
     at = 0
     while at < len(came):
-        at = min(len(came), at + (1 if cuts is None else cuts.randint(1, 40)))
+        at = min(len(came), at + (1 if cuts is None else cuts.randint(1, cuts.choice([1, 8, 40, 4000]))))
         yield at
 
 
@@ -223,21 +229,100 @@ def check_loaded(replay, package):
 
 
 def seeders(replay, folder):
-    """Three stock seeders, each heard byte by byte and cut at random: their bitfields show them as loaded."""
+    """Each client as a seeder, heard byte by byte and cut at random: its bitfield shows it as loaded, and it gives us a piece."""
     said = []
-    for pieces, seeder in enumerate([aria2_seeder, transmission_seeder, libtorrent_seeder], 37):
-        where = folder / seeder.__name__
+    for pieces, client in enumerate(CLIENTS, 37):
+        where = folder / client.__name__
         where.mkdir()
         package = Package(replay, where, ANNOUNCE, pieces)
         port, until = free_port(), time.monotonic() + SECONDS
-        with seeder(package, port):
+        with client(package, package.full, port):
             for cuts in (None, random.Random(pieces)):
-                truck = boarded(replay, package, port, cuts, until)
-                try:
+                with boarded(replay, package, port, cuts, until) as truck:
                     while not truck.is_loaded():
                         truck.listen()
                     check_loaded(replay, package)
-                finally:
-                    truck.close()
-        said.append(f"{truck.peer_id[:8].decode()} {truck.heard}")
+                    if cuts:
+                        fetch(truck, package, pieces - 1)
+        said.append(truck.says())
     return "loaded: " + ", ".join(said)
+
+
+def fetch(truck, package, piece):
+    """Asks for the piece, once the yard shows that the client does not choke us, and has it checked."""
+    truck.send("interest", 0, 1, 5)
+    while truck.replay.ask("seat", 0).split()[4] == "1":
+        truck.listen()
+    asked = struct.pack(">III", piece, 0, package.last)
+    truck.send("write-frame", REQUEST, asked, MOST_ROOM)
+    while PIECE not in truck.heard:
+        truck.listen()
+    taken, used, number, payload = truck.replay.ask("frame", truck.last).split()
+    same("a piece frame", (taken, int(used), int(number)), ("taken", len(truck.last), PIECE))
+    same("a piece frame", unhexed(payload)[:8], asked[:8])
+    same("a piece sent", truck.replay.ask("piece", package.text, piece, unhexed(payload)[8:]), "yes")
+
+
+# ---- leechers
+
+
+def leechers(replay, folder):
+    """Each client with most pieces, on the missing list until its haves have shown the others, which it gets from a seeder.
+
+    It has many pieces and lacks few, since aria2 sends its bitfield again in place of many haves, which document 01 refuses by 30.
+    """
+    said = []
+    for pieces, client in enumerate(CLIENTS, 801):
+        where = folder / client.__name__
+        where.mkdir()
+        port, source, until = free_port(), free_port(), time.monotonic() + SECONDS
+        with tracker(replay, source, port) as (announce, may_meet):
+            package = Package(replay, where, announce, pieces)
+            with rasterbar(package, package.full, source), client(package, package.begun, port):
+                with boarded(replay, package, port, random.Random(pieces), until) as truck:
+                    while BITFIELD not in truck.heard:
+                        truck.listen()
+                    same("seat", replay.ask("seat", 0).split()[:2], ["used", str(package.begun_pieces)])
+                    same("missing", replay.ask("missing", 0, 4), f"0 of 1 next {SEATS}")
+                    may_meet.set()
+                    while not truck.is_loaded():
+                        truck.listen()
+                    check_loaded(replay, package)
+                    same("haves", truck.heard.count(HAVE), pieces - package.begun_pieces)
+        said.append(truck.says())
+    return "came to be loaded: " + ", ".join(said)
+
+
+@contextmanager
+def tracker(replay, seeder, other):
+    """A tracker that leads a seeder and another client to each other by replies of ours, once it may.
+
+    Transmission calls nobody on loopback, so the seeder has to call it.
+    """
+    may = threading.Event()
+    to_other, to_seeder = (
+        replay.ask_bytes("write-reply", 1800, socket.inet_aton("127.0.0.1") + port.to_bytes(2, "big"), MOST_ROOM) for port in (other, seeder)
+    )
+
+    class Handler(BaseHTTPRequestHandler):
+        def do_GET(self):
+            may.wait(SECONDS)
+            try:
+                self.send_response(200)
+                self.end_headers()
+                self.wfile.write(to_other if "left=0&" in self.path + "&" else to_seeder)
+            except ConnectionError:
+                pass  # the client has ended
+
+        def log_message(self, *words):
+            pass
+
+    server = ThreadingHTTPServer(("127.0.0.1", 0), Handler)
+    server.daemon_threads = True
+    threading.Thread(target=server.serve_forever, daemon=True).start()
+    try:
+        yield b"http://127.0.0.1:%d/announce" % server.server_port, may
+    finally:
+        may.set()
+        server.shutdown()
+        server.server_close()

@@ -24,7 +24,11 @@ ALONE = {
     "enable_lsd": False,
     "enable_upnp": False,
     "enable_natpmp": False,
+    "enable_outgoing_utp": False,
+    "enable_incoming_utp": False,
     "allow_multiple_connections_per_ip": True,
+    "tracker_completion_timeout": SECONDS,
+    "tracker_receive_timeout": SECONDS,
 }
 
 
