@@ -276,7 +276,9 @@ def leechers(replay, folder):
         where = folder / client.__name__
         where.mkdir()
         port, source, until = free_port(), free_port(), time.monotonic() + SECONDS
-        with tracker(replay, source, port) as (announce, may_meet):
+        # Transmission calls nobody on loopback, so the seeder has to call it; if both call they may both hang up
+        told = ([port], []) if client is transmission else ([], [source])
+        with tracker(replay, *told) as (announce, may_meet):
             package = Package(replay, where, announce, pieces)
             with rasterbar(package, package.full, source), client(package, package.begun, port):
                 with boarded(replay, package, port, random.Random(pieces), until) as truck:
@@ -294,15 +296,10 @@ def leechers(replay, folder):
 
 
 @contextmanager
-def tracker(replay, seeder, other):
-    """A tracker that leads a seeder and another client to each other by replies of ours, once it may.
-
-    Transmission calls nobody on loopback, so the seeder has to call it.
-    """
+def tracker(replay, for_seeder, for_other):
+    """A tracker that tells a seeder and another client of these ports by replies of ours, once it may."""
     may = threading.Event()
-    to_other, to_seeder = (
-        replay.ask_bytes("write-reply", 1800, socket.inet_aton("127.0.0.1") + port.to_bytes(2, "big"), MOST_ROOM) for port in (other, seeder)
-    )
+    to_seeder, to_other = (reply_of(replay, ports) for ports in (for_seeder, for_other))
 
     class Handler(BaseHTTPRequestHandler):
         def do_GET(self):
@@ -310,7 +307,7 @@ def tracker(replay, seeder, other):
             try:
                 self.send_response(200)
                 self.end_headers()
-                self.wfile.write(to_other if "left=0&" in self.path + "&" else to_seeder)
+                self.wfile.write(to_seeder if "left=0&" in self.path + "&" else to_other)
             except ConnectionError:
                 pass  # the client has ended
 
@@ -326,3 +323,8 @@ def tracker(replay, seeder, other):
         may.set()
         server.shutdown()
         server.server_close()
+
+
+def reply_of(replay, ports):
+    peers = b"".join(socket.inet_aton("127.0.0.1") + port.to_bytes(2, "big") for port in ports)
+    return replay.ask_bytes("write-reply", 1800, peers, MOST_ROOM)

@@ -27,8 +27,10 @@ ALONE = {
     "enable_outgoing_utp": False,
     "enable_incoming_utp": False,
     "allow_multiple_connections_per_ip": True,
+    "min_reconnect_time": 1,
     "tracker_completion_timeout": SECONDS,
     "tracker_receive_timeout": SECONDS,
+    "stop_tracker_timeout": 1,
 }
 
 
