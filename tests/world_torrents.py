@@ -270,7 +270,9 @@ def ours(replay, folder):
         text, listing = check_alike(replay, path)
         same("our torrent", listing.name, name)
         same("our torrent", (listing.files, listing.piece_length), ([(0, length, name)], 1 << shift))
-        same("our torrent by libtorrent's encoder", text, libtorrent.bencode(libtorrent.bdecode(text)))
+        info = {b"length": length, b"name": name, b"piece length": 1 << shift, b"pieces": piece_hashes(data, 1 << shift)}
+        same("our torrent decoded", libtorrent.bdecode(text), {b"announce": ANNOUNCE, b"info": info})
+        same("our torrent encoded", libtorrent.bencode({b"announce": ANNOUNCE, b"info": info}), text)
         torrent = libtorrent.torrent_info(text)
         for changed in (False, True):
             where = folder / f"ours-{at}-{changed}"
@@ -281,8 +283,11 @@ def ours(replay, folder):
 
 
 def written(replay, announce, name, piece_length, data):
-    hashes = b"".join(hashlib.sha1(data[i : i + piece_length]).digest() for i in range(0, len(data), piece_length))
-    return replay.ask_bytes("write-torrent", announce, name, piece_length, len(data), hashes, MOST_ROOM)
+    return replay.ask_bytes("write-torrent", announce, name, piece_length, len(data), piece_hashes(data, piece_length), MOST_ROOM)
+
+
+def piece_hashes(data, piece_length):
+    return b"".join(hashlib.sha1(data[i : i + piece_length]).digest() for i in range(0, len(data), piece_length))
 
 
 def is_complete(session, torrent, where):
