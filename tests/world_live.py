@@ -112,7 +112,7 @@ class Truck:
 
     def __init__(self, replay, package, port, cuts, until):
         self.replay, self.cuts, self.until = replay, cuts, until
-        self.unused, self.heard, self.last = b"", [], b""
+        self.unused, self.heard, self.last, self.to_serve = b"", [], b"", []
         self.socket = connected(port, until)
         self.send("write-handshake", package.info_hash, PEER_ID, 68)
         self.free, self.peer_id = self.shake(package.info_hash)
@@ -172,6 +172,8 @@ class Truck:
             used = answer.split()[1]
             self.heard.append(self.unused[4] if int(used) > 4 else "keepalive")
             self.last = self.unused[: int(used)]
+            if answer.startswith("serve"):
+                self.to_serve.append(self.last)
             self.unused = self.unused[int(used) :]
 
     def is_loaded(self):
@@ -293,6 +295,48 @@ def leechers(replay, folder):
                     same("haves", truck.heard.count(HAVE), pieces - package.begun_pieces)
         said.append(truck.says())
     return "came to be loaded: " + ", ".join(said)
+
+
+def served(replay, folder):
+    """Each client with most pieces again: it gets the others from us, as the yard says that its requests are to be served."""
+    said = []
+    for pieces, client in enumerate(CLIENTS, 801):
+        where = folder / client.__name__
+        where.mkdir()
+        package = Package(replay, where, ANNOUNCE, pieces)
+        port, until = free_port(), time.monotonic() + SECONDS
+        with client(package, package.begun, port):
+            with boarded(replay, package, port, random.Random(pieces), until) as truck:
+                truck.send("write-frame", BITFIELD, all_of(pieces), MOST_ROOM)
+                truck.send("choke", 0, 0, 5)
+                given = set()
+                while len(given) < pieces - package.begun_pieces:
+                    truck.listen()
+                    given.update(serve(truck, package))
+                while (package.begun / "live.bin").read_bytes() != package.data:
+                    if time.monotonic() > until:
+                        raise Differs(f"{client.__name__} has not stored what it got")
+                    time.sleep(0.1)
+        said.append(truck.says())
+    return "got their last pieces from us: " + ", ".join(said)
+
+
+def all_of(pieces):
+    """The bits of a bitfield with every piece."""
+    spare = -pieces % 8
+    return ((1 << pieces) - 1 << spare).to_bytes((pieces + spare) // 8, "big")
+
+
+def serve(truck, package):
+    """Sends what the yard has said to serve, and tells which pieces that was; a request is for one whole piece, of one block."""
+    given = []
+    for request in truck.to_serve:
+        piece, begin, length = struct.unpack(">III", unhexed(truck.replay.ask("frame", request).split()[3]))
+        at = piece * PIECE_LENGTH + begin
+        truck.send("write-frame", PIECE, struct.pack(">II", piece, begin) + package.data[at : at + length], MOST_ROOM)
+        given.append(piece)
+    truck.to_serve.clear()
+    return given
 
 
 @contextmanager
