@@ -112,33 +112,31 @@ class Truck:
 
     def __init__(self, replay, package, port, cuts, until):
         self.replay, self.cuts, self.until = replay, cuts, until
-        self.unused, self.heard, self.last, self.to_serve = b"", [], b"", []
+        self.unused, self.fed, self.waits = b"", 0, 0
+        self.heard, self.last, self.to_serve = [], {}, []
         self.socket = connected(port, until)
         self.send("write-handshake", package.info_hash, PEER_ID, 68)
-        self.free, self.peer_id = self.shake(package.info_hash)
+        after = self.shake(package.info_hash)
         same("start", replay.ask("start", package.pieces, PIECE_LENGTH, package.last, SEATS), "started")
         same("sit", replay.ask("sit"), "seat 0")
-        self.left_over()
+        self.take(after)
 
     def send(self, *words):
         self.socket.sendall(self.replay.ask_bytes(*words))
 
     def shake(self, info_hash):
-        """Their free bytes and peer id; bytes past the handshake stay unused."""
+        """Reads who the client is. Gives back the bytes that came after its handshake."""
+        came = b""
         while True:
-            self.unused += self.receive()
-            for end in ends(self.unused, self.cuts):
-                answer = self.replay.ask("handshake", self.unused[:end], info_hash)
-                if answer != "wait":
-                    taken, free, peer_id = answer.split()
-                    same("a handshake", (taken, end >= 68), ("taken", True))
-                    self.unused = self.unused[68:]
-                    return unhexed(free), unhexed(peer_id)
-
-    def left_over(self):
-        """Frames that came with the handshake."""
-        came, self.unused = self.unused, b""
-        self.feed(came)
+            came += self.receive()
+            for end in ends(came, self.cuts):
+                answer = self.replay.ask("handshake", came[:end], info_hash)
+                if answer == "wait":
+                    same("a handshake that waits", end < 68, True)
+                    continue
+                same("a handshake", answer, f"taken {came[20:28].hex()} {came[48:68].hex()}")
+                self.peer_id = came[48:68]
+                return came[68:]
 
     def receive(self):
         self.socket.settimeout(max(0.01, self.until - time.monotonic()))
@@ -153,8 +151,10 @@ class Truck:
         return came
 
     def listen(self):
-        """Takes what has come, cut anew."""
-        came = self.receive()
+        self.take(self.receive())
+
+    def take(self, came):
+        """Feeds what has come, cut anew."""
         at = 0
         for end in ends(came, self.cuts):
             self.feed(came[at:end])
@@ -163,18 +163,20 @@ class Truck:
     def feed(self, came):
         """Gives the yard the bytes that it has not used, with those that came, until it waits for more."""
         self.unused += came
+        self.fed += len(came)
         while self.unused:
             answer = self.replay.ask("feed", 0, self.unused)
             if answer == "wait":
+                self.waits += 1
                 return
             if answer.startswith("refused"):
                 raise Differs(f"feed: {answer}; frames heard: {self.heard[-20:]}; next: {self.unused[:40].hex()}")
-            used = answer.split()[1]
-            self.heard.append(self.unused[4] if int(used) > 4 else "keepalive")
-            self.last = self.unused[: int(used)]
+            used = int(answer.split()[1])
+            frame, self.unused = self.unused[:used], self.unused[used:]
+            self.heard.append(frame[4] if used > 4 else "keepalive")
+            self.last[self.heard[-1]] = frame
             if answer.startswith("serve"):
-                self.to_serve.append(self.last)
-            self.unused = self.unused[int(used) :]
+                self.to_serve.append(frame)
 
     def is_loaded(self):
         return self.replay.ask("head") == "1 1"
@@ -246,6 +248,9 @@ def seeders(replay, folder):
                     check_loaded(replay, package)
                     if cuts:
                         fetch(truck, package, pieces - 1)
+                    else:
+                        # one call a byte: each waits but those that end a frame
+                        same("waits", truck.waits, truck.fed - len(truck.heard))
         said.append(truck.says())
     return "loaded: " + ", ".join(said)
 
@@ -259,8 +264,9 @@ def fetch(truck, package, piece):
     truck.send("write-frame", REQUEST, asked, MOST_ROOM)
     while PIECE not in truck.heard:
         truck.listen()
-    taken, used, number, payload = truck.replay.ask("frame", truck.last).split()
-    same("a piece frame", (taken, int(used), int(number)), ("taken", len(truck.last), PIECE))
+    frame = truck.last[PIECE]
+    taken, used, number, payload = truck.replay.ask("frame", frame).split()
+    same("a piece frame", (taken, int(used), int(number)), ("taken", len(frame), PIECE))
     same("a piece frame", unhexed(payload)[:8], asked[:8])
     same("a piece sent", truck.replay.ask("piece", package.text, piece, unhexed(payload)[8:]), "yes")
 
