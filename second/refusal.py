@@ -7,6 +7,9 @@ class Refused(Exception):
         self.number = number
         self.place = place
 
+    def __str__(self):
+        return f"refused {self.number} at {self.place}"
+
 
 def refuse_unless(holds, number, place=0):
     if not holds:

@@ -202,7 +202,7 @@ class Replay:
         try:
             return self.call(call, words)
         except Refused as refusal:
-            return f"refused {refusal.number} at {refusal.place}"
+            return str(refusal)
 
     def call(self, call, words):
         if call == "start":

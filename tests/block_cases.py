@@ -1,71 +1,45 @@
-"""The answers that crates/block_cases has to print, by a mapping of blocks written from document 01 alone.
+"""The answers that crates/block_cases has to print, by the second program; a block's parts are also found byte by byte.
 
     python3 tests/block_cases.py | diff - crates/block_cases/stdout
 
-It has the cases of that crate in a table of its own, and shares no code with it. A block's parts are found byte by byte.
+It has the cases of that crate in a table of its own, and shares no code with it.
 """
 
+import sys
 from bisect import bisect_right
 from itertools import accumulate
 
-PIECE_LENGTHS = [2**k for k in range(14, 25)]
-LONGEST_FILE = 274877906944
-MOST_FILES = 1024
-MOST_PIECES = 16384
-LONGEST_BLOCK = 16384
+from cases import answered, blocks, refuse_unless
 
 
-class Refused(Exception):
-    def __init__(self, number):
-        super().__init__(number)
-        self.number = number
+def block_of(lengths, piece_length, piece, offset, count, room):
+    parts = blocks.parts_of_block(piece_length, lengths, piece, offset, count, room // 3)
+    if parts != byte_by_byte(lengths, piece * piece_length + offset, count):
+        sys.exit(f"the parts are not those found byte by byte: {parts}")
+    return " ".join(f"{file}:{at}:{length}" for file, at, length in parts)
 
 
-class Content:
-    """The joined content of files that keep the number rules; else 11."""
+def byte_by_byte(lengths, start, count):
+    ends = list(accumulate(lengths))
+    parts = []
+    for place in range(start, start + count):
+        file = bisect_right(ends, place)
+        if parts and parts[-1][0] == file:
+            parts[-1][2] += 1
+        else:
+            parts.append([file, place - ends[file] + lengths[file], 1])
+    return [tuple(part) for part in parts]
 
-    def __init__(self, lengths, piece_length):
-        if piece_length not in PIECE_LENGTHS:
-            raise Refused(11)
-        if not 1 <= len(lengths) <= MOST_FILES or max(lengths) > LONGEST_FILE:
-            raise Refused(11)
-        self.lengths = lengths
-        self.piece_length = piece_length
-        self.ends = list(accumulate(lengths))
-        self.total = self.ends[-1]
-        self.pieces = -(-self.total // piece_length)
-        if self.total < 1 or self.pieces > MOST_PIECES:
-            raise Refused(11)
 
-    def size(self, piece):
-        if piece >= self.pieces:
-            raise Refused(31)
-        if piece < self.pieces - 1:
-            return self.piece_length
-        return self.total - piece * self.piece_length
+def byte_of(lengths, piece_length, file, offset):
+    return "%d %d" % blocks.piece_of_byte(piece_length, lengths, file, offset)
 
-    def block(self, piece, offset, count, room):
-        size = self.size(piece)
-        if not 1 <= count <= LONGEST_BLOCK or offset + count > size:
-            raise Refused(34)
-        parts = []
-        start = piece * self.piece_length + offset
-        for place in range(start, start + count):
-            file = bisect_right(self.ends, place)
-            if parts and parts[-1][0] == file:
-                parts[-1][2] += 1
-            else:
-                parts.append([file, place - self.ends[file] + self.lengths[file], 1])
-        if 3 * len(parts) > room:
-            raise Refused(37)
-        return " ".join(":".join(map(str, part)) for part in parts)
 
-    def byte(self, file, offset):
-        if file >= len(self.lengths):
-            raise Refused(31)
-        if offset >= self.lengths[file]:
-            raise Refused(34)
-        return "%d %d" % divmod(self.ends[file] - self.lengths[file] + offset, self.piece_length)
+def size_of(lengths, piece_length, piece):
+    blocks.check_content(piece_length, lengths)
+    total = sum(lengths)
+    refuse_unless(piece < blocks.pieces_in(total, piece_length), 31)
+    return blocks.length_of_piece(piece, total, piece_length)
 
 
 def listed(lengths):
@@ -74,28 +48,24 @@ def listed(lengths):
     return ",".join(map(str, lengths)) or "-"
 
 
-def show(call, lengths, piece_length, *numbers):
-    try:
-        answer = getattr(Content(lengths, piece_length), call)(*numbers)
-    except Refused as r:
-        answer = "refused %d at 0" % r.number
-    print(call, piece_length, listed(lengths), *numbers, end=": ")
-    print(answer)
+def show(name, call, lengths, piece_length, *numbers):
+    print(name, piece_length, listed(lengths), *numbers, end=": ")
+    print(answered(lambda: call(lengths, piece_length, *numbers)))
 
 
 def block(lengths, piece_length, *cases):
     for case in cases:
-        show("block", lengths, piece_length, *case)
+        show("block", block_of, lengths, piece_length, *case)
 
 
 def byte(lengths, piece_length, *cases):
     for case in cases:
-        show("byte", lengths, piece_length, *case)
+        show("byte", byte_of, lengths, piece_length, *case)
 
 
 def size(lengths, piece_length, *pieces):
     for piece in pieces:
-        show("size", lengths, piece_length, piece)
+        show("size", size_of, lengths, piece_length, piece)
 
 
 def paper():

@@ -1,268 +1,68 @@
-"""The answers that crates/metainfo_cases has to print, by a reader of torrents written from document 01 alone.
+"""The answers that crates/metainfo_cases has to print, by the second program's reader.
 
     python3 tests/metainfo_cases.py | diff - crates/metainfo_cases/stdout
 
-It has the texts of that crate in a table of its own, and shares no code with it. In a name `(32*l)` is 32 times l,
-and `%FF` a byte by its two digits. What transmission-show says of samples/mktorrent.torrent stands in
-tests/mktorrent.show, and the reading of that torrent is compared with it.
+It has the texts of that crate in a table of its own, as words (cases.py), and shares no code with it. What transmission-show
+says of samples/mktorrent.torrent stands in tests/mktorrent.show, and the reading of that torrent is compared with it.
 """
 
-import hashlib
-import os
 import re
 import sys
+from hashlib import sha1
 
-MOST_BYTES = 1048576
-MOST_VALUES = 16384
-MOST_LEVELS = 32
-
-
-class Refused(Exception):
-    def __init__(self, number, place):
-        super().__init__(number, place)
-        self.number = number
-        self.place = place
+from cases import ROOT, answered, bencode, blocks, inside, latin, show, text_of, torrent
 
 
-class Node:
-    """A value: its kind, where it begins and ends, what it is, and where its bytes begin if it is a string."""
-
-    def __init__(self, kind, place, end, what, inside=0):
-        self.kind = kind
-        self.place = place
-        self.end = end
-        self.what = what
-        self.inside = inside
-
-
-class Bencode:
-    """A text read from left to right; the first fault wins."""
+class Text:
+    """A torrent that was read, and where its parts stand."""
 
     def __init__(self, text):
-        if len(text) > MOST_BYTES:
-            raise Refused(8, 0)
-        self.text = text
-        self.at = 0
-        self.values = 0
-        self.top = self.value(1)
-        if self.at < len(text):
-            raise Refused(7, self.at)
+        self.read = torrent.read(text)
+        top, _ = bencode.read(text)
+        self.announce = top.content[b"announce"]
+        self.info = top.content[b"info"]
+        self.name = self.info.content[b"name"]
+        self.pieces = self.info.content[b"pieces"]
+        self.files = self.info.content.get(b"files")
+        self.count = blocks.pieces_in(self.read.total, self.read.piece_length)
 
-    def peek(self):
-        if self.at >= len(self.text):
-            raise Refused(1, len(self.text))
-        return self.text[self.at:self.at + 1]
-
-    def begin(self, allowed):
-        if self.peek() not in allowed:
-            raise Refused(2, self.at)
-        if self.values >= MOST_VALUES:
-            raise Refused(6, self.at)
-        self.values += 1
-
-    def value(self, level):
-        self.begin([b"i", b"l", b"d"] + DIGITS)
-        place, b = self.at, self.peek()
-        if b in DIGITS:
-            return self.string()
-        if b == b"i":
-            return self.integer()
-        if level > MOST_LEVELS:
-            raise Refused(5, place)
-        self.at += 1
-        what = [] if b == b"l" else {}
-        last = None
-        while self.peek() != b"e":
-            if b == b"l":
-                what.append(self.value(level + 1))
-                continue
-            self.begin(DIGITS)
-            key = self.string()
-            if last is not None and key.what <= last:
-                raise Refused(3, key.place)
-            last = key.what
-            what[last] = self.value(level + 1)
-        self.at += 1
-        return Node("list" if b == b"l" else "dictionary", place, self.at, what)
-
-    def string(self):
-        place = self.at
-        while self.peek() in DIGITS:
-            self.at += 1
-            if self.text[place:place + 1] == b"0":
-                break
-        if self.peek() != b":":
-            raise Refused(2, self.at)
-        size = int(self.text[place:self.at])
-        self.at += 1
-        inside = self.at
-        if size > len(self.text) - inside:
-            raise Refused(1, len(self.text))
-        self.at += size
-        return Node("string", place, self.at, self.text[inside:self.at], inside)
-
-    def integer(self):
-        place = self.at
-        self.at += 1
-        if self.peek() == b"-":
-            self.at += 1
-            if self.peek() not in DIGITS[1:]:
-                raise Refused(2, self.at)
-        elif self.peek() not in DIGITS:
-            raise Refused(2, self.at)
-        elif self.peek() == b"0":
-            self.at += 1
-            if self.peek() != b"e":
-                raise Refused(2, self.at)
-        while self.peek() in DIGITS:
-            self.at += 1
-        if self.peek() != b"e":
-            raise Refused(2, self.at)
-        number = int(self.text[place + 1:self.at])
-        self.at += 1
-        if not -(2**63) <= number <= 2**63 - 1:
-            raise Refused(4, place)
-        return Node("integer", place, self.at, number)
-
-
-DIGITS = [b"%d" % n for n in range(10)]
-
-
-def of_kind(node, kind):
-    if node.kind != kind:
-        raise Refused(10, node.place)
-    return node
-
-
-def under(dictionary, key):
-    if key not in dictionary.what:
-        raise Refused(10, dictionary.place)
-    return dictionary.what[key]
-
-
-def named(node):
-    bs = of_kind(node, "string").what
-    if bs in (b"", b".", b"..") or b"/" in bs or b"\0" in bs:
-        raise Refused(13, node.place)
-    return node
-
-
-def natural(node, most):
-    if not 0 <= of_kind(node, "integer").what <= most:
-        raise Refused(11, node.place)
-    return node.what
-
-
-class Torrent:
-    def __init__(self, text):
-        top = of_kind(Bencode(text).top, "dictionary")
-        self.text = text
-        self.announce = of_kind(under(top, b"announce"), "string")
-        self.info = of_kind(under(top, b"info"), "dictionary")
-        self.name = named(under(self.info, b"name"))
-        length = under(self.info, b"piece length")
-        self.piece_length = of_kind(length, "integer").what
-        if self.piece_length not in [2**k for k in range(14, 25)]:
-            raise Refused(11, length.place)
-        self.pieces = of_kind(under(self.info, b"pieces"), "string")
-        keys = self.info.what
-        self.single = b"length" in keys
-        if self.single == (b"files" in keys):
-            raise Refused(10, self.info.place)
-        self.files = []
-        if self.single:
-            self.content = keys[b"length"]
-            self.files.append((0, natural(self.content, 2**38), None))
+    def says(self):
+        read, info = self.read, self.info
+        said = f"announce{stands(self.announce)} {latin(read.announce)} name{stands(self.name)} {latin(read.name)}"
+        said += f" info {info.place} {info.end - info.place} {read.info_hash.hex()}"
+        said += f" pieces{stands(self.pieces)} {self.count} {read.piece_length}"
+        said += self.hash_of(0) + self.hash_of(self.count - 1) + self.hash_of(self.count)
+        said += f" files {len(read.files)} {read.total}"
+        if self.files:
+            # at the end of the list no file stands
+            end = self.files.end - 1
+            said += f" in {self.files.place} to {end} refused 2 at {end}"
         else:
-            self.content = of_kind(keys[b"files"], "list")
-            for node in self.content.what:
-                self.add(of_kind(node, "dictionary"))
-        self.total = sum(f[1] for f in self.files)
-        self.count = -(-self.total // self.piece_length)
-        if not 1 <= len(self.files) <= 1024 or self.total < 1 or self.count > 16384:
-            raise Refused(11, self.content.place)
-        if len(self.pieces.what) != 20 * self.count:
-            raise Refused(12, self.pieces.place)
+            said += " single"
+        return said + self.file_of(0) + self.file_of(len(read.files) - 1) + self.file_of(len(read.files))
 
-    def add(self, node):
-        length = natural(under(node, b"length"), 2**38)
-        path = of_kind(under(node, b"path"), "list")
-        if not path.what:
-            raise Refused(13, path.place)
-        for element in path.what:
-            named(element)
-        self.files.append((sum(f[1] for f in self.files[-1:]) + (self.files[-1][0] if self.files else 0), length, path))
+    def hash_of(self, number):
+        if number >= self.count:
+            return f"; {number} refused 31 at 0"
+        return f"; {number} {inside(self.pieces) + 20 * number} 20"
 
-    def hash(self):
-        return hashlib.sha1(self.text[self.info.place:self.info.end]).hexdigest()
-
-    def check(self, n, piece):
-        if n >= self.count:
-            raise Refused(31, 0)
-        if len(piece) > 16777216:
-            raise Refused(8, 0)
-        start = n * self.piece_length
-        if len(piece) != min(self.piece_length, self.total - start):
-            raise Refused(34, 0)
-        return hashlib.sha1(piece).digest() == self.pieces.what[20 * n:20 * n + 20]
+    def file_of(self, number):
+        if number >= len(self.read.files):
+            return f"; {number} refused 31 at 0"
+        file = self.read.files[number]
+        said = f"; {number} {file.start} {file.length}"
+        if not self.files:
+            return said + f" name {inside(self.name)}"
+        said += "".join(" /" + latin(element) for element in file.path[:9])
+        return said + (f" {self.files.content[number].content[b'path'].end}" if len(file.path) < 9 else "")
 
 
-def latin(bs):
-    return bs.decode("latin-1")
-
-
-def string(node):
-    return " %d %d" % (node.inside, len(node.what))
-
-
-def refused(number, place):
-    return " refused %d at %d" % (number, place)
-
-
-def hash_of(t, n):
-    said = " %d %d" % (t.pieces.inside + 20 * n, 20) if n < t.count else refused(31, 0)
-    return "; %d%s" % (n, said)
-
-
-def file_of(t, n):
-    if n >= len(t.files):
-        return "; %d%s" % (n, refused(31, 0))
-    offset, length, path = t.files[n]
-    said = "; %d %d %d" % (n, offset, length)
-    if path is None:
-        return said + " name %d" % t.name.inside
-    said += "".join(" /" + latin(x.what) for x in path.what[:9])
-    return said + (" %d" % path.end if len(path.what) < 9 else "")
-
-
-def torrent(t):
-    said = " announce%s %s" % (string(t.announce), latin(t.announce.what))
-    said += " name%s %s" % (string(t.name), latin(t.name.what))
-    said += " info %d %d %s" % (t.info.place, t.info.end - t.info.place, t.hash())
-    said += " pieces%s %d %d" % (string(t.pieces), t.count, t.piece_length)
-    said += hash_of(t, 0) + hash_of(t, t.count - 1) + hash_of(t, t.count)
-    said += " files %d %d" % (len(t.files), t.total)
-    if t.single:
-        said += " single"
-    else:
-        end = t.content.end - 1
-        said += " in %d to %d%s" % (t.content.place, end, refused(2, end))
-    return said + file_of(t, 0) + file_of(t, len(t.files) - 1) + file_of(t, len(t.files))
+def stands(string):
+    return f" {inside(string)} {len(string.content)}"
 
 
 def answer(text):
-    try:
-        return torrent(Torrent(text))
-    except Refused as r:
-        return refused(r.number, r.place)
-
-
-def text_of(word):
-    def run(m):
-        return latin(text_of(m.group(2))) * int(m.group(1))
-
-    word = re.sub(r"\((\d+)\*([^)]*)\)", run, word)
-    return re.sub(r"%([0-9A-F]{2})", lambda m: chr(int(m.group(1), 16)), word).encode("latin-1")
+    return answered(lambda: Text(text).says())
 
 
 U = "d8:announce1:u4:infod"
@@ -321,47 +121,41 @@ def word_of(bs):
     return "".join(chr(b) if chr(b).isalnum() and b < 128 else "%%%02X" % b for b in bs)
 
 
-def compare_with_the_tool(folder):
-    """transmission-show's words for the same torrent: name, hash, pieces, total and files."""
-    t = Torrent(open(os.path.join(folder, "../samples/mktorrent.torrent"), "rb").read())
-    shown = open(os.path.join(folder, "mktorrent.show"), encoding="utf-8").read()
+def compare_with_the_tool():
+    """transmission-show's words for the same torrent: name, hash, pieces, total and files. Gives back its text."""
+    text = (ROOT / "samples/mktorrent.torrent").read_bytes()
+    found = torrent.read(text)
+    shown = (ROOT / "tests/mktorrent.show").read_text(encoding="utf-8")
     said = dict(re.findall(r"^  ([A-Z][A-Za-z ]*): (.*)$", shown, re.M))
     files = re.findall(r"^  (\S.*) \((\S+ kB)\)$", shown.split("FILES")[1], re.M)
-    name = t.name.what.decode("utf-8")
-    mine = [("/".join([name] + [x.what.decode("utf-8") for x in f[2].what]), "%.2f kB" % (f[1] / 1000)) for f in t.files]
     same = [
-        (said["Name"], name),
-        (said["Hash"], t.hash()),
-        (said["Piece Count"], "%d" % t.count),
-        (said["Piece Size"], "%.2f KiB" % (t.piece_length / 1024)),
-        (said["Total Size"], "%.2f kB" % (t.total / 1000)),
-        (files, mine),
+        (said["Name"], found.name.decode()),
+        (said["Hash"], found.info_hash.hex()),
+        (said["Piece Count"], f"{blocks.pieces_in(found.total, found.piece_length)}"),
+        (said["Piece Size"], f"{found.piece_length / 1024:.2f} KiB"),
+        (said["Total Size"], f"{found.total / 1000:.2f} kB"),
+        (files, [(b"/".join([found.name, *file.path]).decode(), f"{file.length / 1000:.2f} kB") for file in found.files]),
     ]
     for theirs, ours in same:
         if theirs != ours:
-            sys.exit("transmission-show says %r, and this reader %r" % (theirs, ours))
-    return t
+            sys.exit(f"transmission-show says {theirs!r}, and this reader {ours!r}")
+    return text
 
 
 def main():
-    out = sys.stdout.buffer
-    made = compare_with_the_tool(os.path.dirname(os.path.abspath(__file__)))
-    sample = word_of(made.pieces.what)
-    if text_of(MADE + sample + "ee") != made.text:
+    made = compare_with_the_tool()
+    sample = word_of(torrent.read(made).pieces)
+    if text_of(MADE + sample + "ee") != made:
         sys.exit("samples/mktorrent.torrent is not the text of the table")
     for before, line, after in TEXTS:
         for word in line.replace("@SAMPLE@", sample).split(" "):
             whole = before + word + after
-            out.write(("%s:%s\n" % (whole, answer(text_of(whole)))).encode("latin-1"))
-    hashes = word_of(hashlib.sha1(b"a" * 16384).digest() + hashlib.sha1(b"b").digest())
-    t = Torrent(text_of(CHECKED.replace("@HASHES@", hashes)))
-    for n, piece in CHECKS:
-        try:
-            said = " yes" if t.check(n, text_of(piece)) else " no"
-        except Refused as r:
-            said = refused(r.number, r.place)
-        out.write(("check %d %s:%s\n" % (n, piece, said)).encode("latin-1"))
+            show(f"{whole}: {answer(text_of(whole))}")
+    hashes = word_of(sha1(b"a" * 16384).digest() + sha1(b"b").digest())
+    checked = text_of(CHECKED.replace("@HASHES@", hashes))
+    for number, piece in CHECKS:
+        said = answered(lambda: "yes" if torrent.check_piece(checked, number, text_of(piece)) else "no")
+        show(f"check {number} {piece}: {said}")
 
 
-if __name__ == "__main__":
-    main()
+main()

@@ -1,73 +1,52 @@
-"""The lines that crates/wire_cases has to print, by readers and writers of the wire written from document 01 alone.
+"""The lines that crates/wire_cases has to print, by the second program's readers and writers.
 
     python3 tests/wire_cases.py | diff - crates/wire_cases/stdout
 
 It has the cases of that crate in a table of its own, and shares no code with it.
 """
 
-LONGEST = 16393
-NAME = b"\x13BitTorrent protocol"
+from cases import Refused, answered, wire
+
 SPACE = 16500
-
-# id: the least and the most length
-LENGTHS = {
-    0: (1, 1), 1: (1, 1), 2: (1, 1), 3: (1, 1), 4: (5, 5), 5: (2, 2049), 6: (13, 13), 7: (10, 16393), 8: (13, 13),
-}
-MARKS = {0: "choke", 1: "unchoke", 2: "interested", 3: "not interested"}
-
-
-def refused(number):
-    return f"refused {number} at 0"
+MARKS = ["choke", "unchoke", "interested", "not interested"]
 
 
 def words(payload):
-    return [int.from_bytes(payload[i:i + 4], "big") for i in range(0, len(payload), 4)]
-
-
-def allowed(kind, length):
-    least, most = LENGTHS.get(kind, (1, LONGEST))
-    return least <= length <= most
+    return [int.from_bytes(payload[i : i + 4], "big") for i in range(0, len(payload), 4)]
 
 
 def message(kind, payload):
     """What a frame says; its payload begins at byte 5."""
-    if kind in MARKS:
+    if kind < len(MARKS):
         return MARKS[kind]
-    if kind == 4:
+    if kind == wire.HAVE:
         return f"have {words(payload)[0]}"
-    if kind == 5:
+    if kind == wire.BITFIELD:
         return f"bitfield from 5 len {len(payload)}"
-    if kind in (6, 8):
-        return " ".join(["request" if kind == 6 else "cancel", *map(str, words(payload))])
-    if kind == 7:
+    if kind in (wire.REQUEST, wire.CANCEL):
+        return " ".join(["request" if kind == wire.REQUEST else "cancel", *map(str, words(payload))])
+    if kind == wire.PIECE:
         piece, begin = words(payload[:8])
         return f"piece {piece} {begin} from 13 len {len(payload) - 8}"
     return f"other {kind} from 5 len {len(payload)}"
 
 
 def read(text):
-    if len(text) < 4:
-        return "wait"
-    length = int.from_bytes(text[:4], "big")
-    if length > LONGEST:
-        return refused(20)
-    if length == 0:
-        return "keepalive used 4"
-    if len(text) < 4 + length:
-        return "wait"
-    if not allowed(text[4], length):
-        return refused(21)
-    return f"{message(text[4], text[5:4 + length])} used {4 + length}"
+    return answered(lambda: said(wire.read_frame(text)))
+
+
+def said(frame):
+    if frame == wire.WAIT:
+        return frame
+    return f"{frame.id if frame.id == wire.KEEPALIVE else message(frame.id, frame.payload)} used {frame.used}"
 
 
 def shake(text, info):
-    if any(a != b for a, b in zip(text, NAME)):
-        return refused(22)
-    if len(text) < 68:
-        return "wait"
-    if text[28:48] != info:
-        return refused(23)
-    return "free from 20 len 8 peer from 48 len 20 used 68"
+    return answered(lambda: greeted(wire.read_handshake(text, info)))
+
+
+def greeted(handshake):
+    return handshake if handshake == wire.WAIT else "free from 20 len 8 peer from 48 len 20 used 68"
 
 
 def waits(text, reader):
@@ -88,7 +67,7 @@ def frame_case(kind, length, there=None):
 
 def frames():
     for kind in [*range(10), 20, 255]:
-        least, most = LENGTHS.get(kind, (1, LONGEST))
+        least, most = wire.LENGTHS.get(kind, (1, wire.LONGEST_FRAME))
         lengths = sorted({least - 1, least, most, most + 1})
         for length in lengths[1:] if kind == 255 else lengths:
             frame_case(kind, length)
@@ -97,23 +76,17 @@ def frames():
 
 # ---- writers
 
-def encode(kind, payload):
-    """A frame, or the number that refuses it."""
-    length = 1 + len(payload)
-    if length > LONGEST:
-        return 20
-    if not allowed(kind, length):
-        return 21
-    return length.to_bytes(4, "big") + bytes([kind]) + payload
-
-
 def put(out, written):
-    """What is left in the output, and the answer."""
-    if isinstance(written, int):
-        return out, " " + refused(written)
-    if len(out) < len(written):
-        return out, " " + refused(37)
-    return written + out[len(written):], f": wrote {len(written)}"
+    """What is left in the output, and the answer to a writer, which is asked for its bytes with that much room."""
+    try:
+        text = written(len(out))
+    except Refused as refusal:
+        return out, f" {refusal}"
+    return text + out[len(text) :], f": wrote {len(text)}"
+
+
+def frame(kind, payload=b""):
+    return lambda room: wire.write_frame(kind, payload, room)
 
 
 def short(name, out, written):
@@ -132,25 +105,25 @@ def room(size):
 
 def writers():
     for size in (6, 3):
-        short("keepalive", room(size), bytes(4))
+        short("keepalive", room(size), frame(wire.KEEPALIVE))
     for kind in (0, 1, 2, 3, 4, 9):
-        short("plain", room(7), encode(kind, b""))
-    short("plain", room(4), encode(2, b""))
-    short("have", room(11), encode(4, numbers(4294967295)))
-    out = short("request", room(19), encode(6, numbers(16909060, 5, 16384)))
-    short("cancel", out, encode(8, numbers(1, 16909060, 4294967294)))
-    short("have", room(8), encode(4, numbers(7)))
-    out = short("request", room(16), encode(6, numbers(1, 2, 3)))
-    short("cancel", out, encode(8, numbers(1, 2, 3)))
-    out = short("bitfield", room(18), encode(5, b"\x80\x01"))
-    out = short("piece", out, encode(7, numbers(258, 772) + b"abc"))
-    out = short("bitfield", out, encode(5, b""))
-    short("piece", out, encode(7, numbers(258, 772)))
-    short("bitfield", room(6), encode(5, b"\x80\x01"))
-    short("piece", room(15), encode(7, numbers(258, 772) + b"abc"))
+        short("plain", room(7), frame(kind))
+    short("plain", room(4), frame(2))
+    short("have", room(11), frame(4, numbers(4294967295)))
+    out = short("request", room(19), frame(6, numbers(16909060, 5, 16384)))
+    short("cancel", out, frame(8, numbers(1, 16909060, 4294967294)))
+    short("have", room(8), frame(4, numbers(7)))
+    out = short("request", room(16), frame(6, numbers(1, 2, 3)))
+    short("cancel", out, frame(8, numbers(1, 2, 3)))
+    out = short("bitfield", room(18), frame(5, b"\x80\x01"))
+    out = short("piece", out, frame(7, numbers(258, 772) + b"abc"))
+    out = short("bitfield", out, frame(5))
+    short("piece", out, frame(7, numbers(258, 772)))
+    short("bitfield", room(6), frame(5, b"\x80\x01"))
+    short("piece", room(15), frame(7, numbers(258, 772) + b"abc"))
     out = room(10)
     for kind, payload in ((4, numbers(256)), (4, b"\x00\x01\x00"), (20, b"xyz"), (20, b"longer")):
-        out = short("raw", out, encode(kind, payload))
+        out = short("raw", out, frame(kind, payload))
 
 
 def long(name, out, written):
@@ -161,18 +134,23 @@ def long(name, out, written):
 
 def long_writers(out):
     for size in (2048, 2049, 16392, 16393):
-        out = long("bitfield", out, encode(5, b"\xaa" * size))
+        out = long("bitfield", out, frame(5, b"\xaa" * size))
     for size in (16384, 16385):
-        long("piece", count(SPACE), encode(7, numbers(3, 16384) + b"\xaa" * size))
+        long("piece", count(SPACE), frame(7, numbers(3, 16384) + b"\xaa" * size))
 
 
 # ---- handshakes
 
 def handshakes():
     info, peer = b"\x07" * 20, b"\x09" * 20
-    written = NAME + bytes(8) + info + peer
+
+    def written(room):
+        return wire.write_handshake(info, peer, room)
+
+    def reader(text):
+        return shake(text, info)
+
     text = short("handshake", room(70), written)
-    reader = lambda t: shake(t, info)
     print(f" waits {waits(text, reader)} {reader(text)}")
     for i in range(len(text)):
         # 36 makes byte 8, an e, an A: the spelling of source document 003.
