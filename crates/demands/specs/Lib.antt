@@ -1,2 +1,3 @@
--- The demands, one file each, and below `One` a file for each crate's functions.
+-- The demands, one file each; below `One` a file for each crate's functions. `Cited` has what the proofs still needed.
 pub mod One
+pub mod Cited

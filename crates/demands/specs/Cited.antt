@@ -1,0 +1,205 @@
+-- Laws that the statements cite and no crate below has: what a refusal leaves, where the crates state it of their definitions alone. Assumes nothing.
+use mathlib.Core.Path.{_≡_, refl, sym, ap, subst, _∙_}
+use mathlib.Core.Logic.{inl, inr}
+use mathlib.Core.Bool.{Bool, _&&_}
+use mathlib.Core.List.{List, []}
+use Prim.Native.Nat.{ℕ}
+use native.Mathlib.Omega.{arith}
+use lib.Dec.{ltb, leb}
+use lib.ListN.{length, getD, replicate}
+use lib.Seq.{sets}
+use Rattle.refusal.specs.Paper.{Outcome, taken, refused}
+use Rattle.wire.proofs.Steps.{by-test}
+use Rattle.sha1.specs.Digest.{Left, left}
+use Rattle.sha1.specs.Digest.{paper as hashPaper}
+use Rattle.sha1.specs.declared.Hashed.{Hashed}
+use Rattle.sha1.specs.declared.Hashed.the-variants as hashed
+use Rattle.sha1.proofs.Determined.{digest-refusal-keeps}
+use Rattle.metainfo.specs.Reading.{bytesOf}
+use Rattle.metainfo.specs.Hashes.{hashedIn}
+use Rattle.metainfo.specs.declared.Torrent.{Torrent}
+use Rattle.tables.specs.Seats.{cleared, weChoke, weWant}
+use Rattle.tables.specs.Tables.{Yard, Said, wait, done, used, serve, dropped, seated, wrote, listed, shows, holds, heldBy, scarce, paper, Around, Turn, turn, around, sizesFit, Out, yardOf}
+use Rattle.tables.specs.Seating.{startOf, markOf}
+use Rattle.tables.specs.Looks.{missingOf}
+use Rattle.tables.specs.Step.{Call, step, ifTaken, writes, written}
+use Rattle.tables.specs.declared.Head.{Head}
+use Rattle.tables.specs.declared.Seat.{Seat}
+use Rattle.tables.specs.declared.Stepped.{Stepped}
+use Rattle.tables.proofs.Keeping.{Keeps, step-keeps}
+use Rattle.tables.proofs.Keeping.{Unused as Unspoken}
+use Rattle.seating.specs.Steps.{begun}
+use Rattle.seating.specs.declared.Begun.{Begun}
+use Rattle.wardrail.specs.Said.{numberOf}
+use Rattle.wardrail.specs.Yards.{codeOf, toldOf, shownOf}
+use Rattle.wardrail.specs.declared.yards.Told.{Told}
+use Rattle.demands.specs.One.{Ref, now, Refused, Unused}
+
+-- ---- parts handed back
+
+-- a part is the same part if it holds the same and lies at the same place
+pub one-part : {A : Type 0} {r s : Ref A} → (now r ≡ now s) × (r .ptr .0 ≡ s .ptr .0) × (r .ptr .1 ≡ s .ptr .1) → r ≡ s
+one-part {A} {r} {s} (e, f, g) =
+    ap (λ (h : A). record { ptr = (r .ptr .0, r .ptr .1); held = h }) e
+    ∙ ap (λ (n : ℕ). record { ptr = (n, r .ptr .1); held = s .held }) f
+    ∙ ap (λ (n : ℕ). record { ptr = (s .ptr .0, n); held = s .held }) g
+
+-- ---- digests
+
+-- where the torrent is refused its digest is not written, and a digest that is refused leaves the 20 bytes
+pub hash-kept : (s o : List ℕ) (x : Outcome Torrent) (r : Hashed) {out : List ℕ} {n p : ℕ} → left (hashPaper r) out ≡ hashedIn s o x → hashPaper r ≡ refused n p → out ≡ o
+hash-kept s o (taken t) r e h = digest-refusal-keeps (bytesOf s (t .info)) o r e h .1
+hash-kept s o (refused n p) r e h = ap (λ (l : Left). l .out) e
+
+-- ---- the yard's steps and calls
+
+-- the tables' own word for a refusal or a wait
+pub unspoken : (o : Outcome Said) → Unused o → Unspoken o
+unspoken o (inl (n, p, e)) = subst Unspoken (sym e) tt
+unspoken o (inr e) = subst Unspoken (sym e) tt
+
+-- a step that is refused leaves the rows and the holder counts that it was lent
+pub turn-kept : (x : Around) (t : Turn) → Keeps x t → (r : Stepped) (rows holders : List ℕ) → turn r rows holders ≡ t → Refused (paper (r .answer)) → (rows ≡ x .rows) × (holders ≡ x .holders)
+turn-kept x t k r rows holders e (n, p, h) =
+    let u : Unspoken (t .answer) = subst Unspoken (sym h ∙ ap (λ (z : Turn). z .answer) e) tt in
+    (ap (λ (z : Turn). z .after .rows) e ∙ ap (λ (z : Around). z .rows) (k u), ap (λ (z : Turn). z .after .holders) e ∙ ap (λ (z : Around). z .holders) (k u))
+
+-- and so does a start, whatever the seats
+pub start-kept : (h : Head) (p l k n : ℕ) (rows holders rows₁ holders₁ : List ℕ) (r : Begun) → begun r (replicate n cleared) rows₁ holders₁ ≡ startOf p l k (yardOf h (replicate n cleared) rows holders) → Refused (paper (r .answer)) → (rows₁ ≡ rows) × (holders₁ ≡ holders)
+unfolding step
+start-kept h p l k n rows holders rows₁ holders₁ r e (m, q, g) =
+    let y : Yard = yardOf h (replicate n cleared) rows holders in
+    let u : Unspoken (startOf p l k y .answer) = subst Unspoken (sym g ∙ ap (λ (o : Out). o .answer) e) tt in
+    let z : startOf p l k y .yard ≡ y = step-keeps y (Call.start p l k) u in
+    (ap (λ (o : Out). o .yard .rows) e ∙ ap (λ (v : Yard). v .rows) z, ap (λ (o : Out). o .yard .holders) e ∙ ap (λ (v : Yard). v .holders) z)
+
+-- ---- what C is told
+
+-- a number other than 0 stands for a refusal
+pub by-number : {A P : Type 0} (a : Outcome A) {r : ℕ} → r ≡ numberOf a → (r ≡ 0 → ⊥) → ((n p : ℕ) → a ≡ refused n p → P) → P
+by-number (taken x) e k f = absurd (k e)
+by-number (refused n p) e k f = f n p refl
+
+-- what is left where the answer is a refusal, as the code says it
+abbrev pub refuses : ℕ → ℕ → Hashed
+refuses n p = hashed.Refused (record { number = n; place = p })
+
+pub same-left : (l : Left) (n p : ℕ) → l .answer ≡ refused n p → left (hashPaper (refuses n p)) (l .out) ≡ l
+same-left l n p e = ap (λ (a : Outcome (Unit {0})). left a (l .out)) (sym e)
+
+-- the same tables, table by table
+pub same-tables : {y : Yard} {h h′ : Head} {s s′ : List Seat} {w w′ q q′ : List ℕ} → yardOf h s w q ≡ y → yardOf h′ s′ w′ q′ ≡ y → (h ≡ h′) × (s ≡ s′) × (w ≡ w′) × (q ≡ q′)
+same-tables e f =
+    let g = e ∙ sym f in
+    (ap (λ (z : Yard). z .head) g, ap (λ (z : Yard). z .seats) g, ap (λ (z : Yard). z .rows) g, ap (λ (z : Yard). z .holders) g)
+
+-- a number other than 0 stands for a refusal or for a wait: 255
+code-unspoken : (o : Outcome Said) → (codeOf o ≡ 0 → ⊥) → Unspoken o
+code-unspoken (refused n p) k = tt
+code-unspoken (taken wait) k = tt
+code-unspoken (taken done) k = k refl
+code-unspoken (taken (used n)) k = k refl
+code-unspoken (taken (serve n)) k = k refl
+code-unspoken (taken (dropped n)) k = k refl
+code-unspoken (taken (seated i)) k = k refl
+code-unspoken (taken (wrote n)) k = k refl
+code-unspoken (taken (listed x)) k = k refl
+code-unspoken (taken (shows s)) k = k refl
+code-unspoken (taken (holds b)) k = k refl
+code-unspoken (taken (heldBy n)) k = k refl
+code-unspoken (taken (scarce p)) k = k refl
+
+untold : (o : Outcome Said) (was : Told) → Unspoken o → toldOf o was ≡ was
+untold (refused n p) was u = refl
+untold (taken wait) was u = refl
+untold (taken done) was u = absurd u
+untold (taken (used n)) was u = absurd u
+untold (taken (serve n)) was u = absurd u
+untold (taken (dropped n)) was u = absurd u
+untold (taken (seated i)) was u = absurd u
+untold (taken (wrote n)) was u = absurd u
+untold (taken (listed x)) was u = absurd u
+untold (taken (shows s)) was u = absurd u
+untold (taken (holds b)) was u = absurd u
+untold (taken (heldBy n)) was u = absurd u
+untold (taken (scarce p)) was u = absurd u
+
+unshown : (o : Outcome Said) (was : Seat) → Unspoken o → shownOf o was ≡ was
+unshown (refused n p) was u = refl
+unshown (taken wait) was u = refl
+unshown (taken done) was u = refl
+unshown (taken (used n)) was u = refl
+unshown (taken (serve n)) was u = refl
+unshown (taken (dropped n)) was u = refl
+unshown (taken (seated i)) was u = refl
+unshown (taken (wrote n)) was u = refl
+unshown (taken (listed x)) was u = refl
+unshown (taken (shows s)) was u = absurd u
+unshown (taken (holds b)) was u = refl
+unshown (taken (heldBy n)) was u = refl
+unshown (taken (scarce p)) was u = refl
+
+-- a call that does not wait and is not taken writes nothing
+nothing-put : (o : Outcome Said) (l : List ℕ) → (o ≡ taken wait → ⊥) → Unspoken o → ifTaken o l ≡ []
+nothing-put (refused n p) l w u = refl
+nothing-put (taken wait) l w u = absurd (w refl)
+nothing-put (taken done) l w u = absurd u
+nothing-put (taken (used n)) l w u = absurd u
+nothing-put (taken (serve n)) l w u = absurd u
+nothing-put (taken (dropped n)) l w u = absurd u
+nothing-put (taken (seated i)) l w u = absurd u
+nothing-put (taken (wrote n)) l w u = absurd u
+nothing-put (taken (listed x)) l w u = absurd u
+nothing-put (taken (shows s)) l w u = absurd u
+nothing-put (taken (holds b)) l w u = absurd u
+nothing-put (taken (heldBy n)) l w u = absurd u
+nothing-put (taken (scarce p)) l w u = absurd u
+
+no-way : {A : Type 0} → _≡_ {A = ℕ} 0 1 → A
+no-way e = absurd (omega arith)
+
+abbrev Speaks : Turn → Type 0
+Speaks t = t .answer ≡ taken wait → ⊥
+
+mark-speaks : (g : Seat → Seat) (space i n : ℕ) (x : Around) → Speaks (markOf g space i n x)
+unfolding markOf
+mark-speaks g space i n x =
+    by-test Speaks (sizesFit (x .head) n (length (x .rows)) (length (x .holders)))
+    (λ a. by-test Speaks (ltb i n && x .seat .taken) (λ b. by-test Speaks (ltb space 5) (λ c e. no-way (cc)) (λ c e. no-way (cc))) (λ b e. no-way (cc)))
+    (λ a e. no-way (cc))
+
+missing-speaks : (first space : ℕ) (seats : List Seat) (n : ℕ) (x : Around) → Speaks (missingOf first space seats n x)
+missing-speaks first space seats n x =
+    by-test Speaks (sizesFit (x .head) n (length (x .rows)) (length (x .holders)))
+    (λ a. by-test Speaks (leb first n) (λ b e. no-way (cc)) (λ b e. no-way (cc)))
+    (λ a e. no-way (cc))
+
+pub choke-speaks : (y : Yard) (i space : ℕ) (b : Bool) → step (Call.choke i b space) y .answer ≡ taken wait → ⊥
+unfolding step
+choke-speaks y i space b = mark-speaks (weChoke b) space i (length (y .seats)) _
+
+pub interest-speaks : (y : Yard) (i space : ℕ) (b : Bool) → step (Call.interest i b space) y .answer ≡ taken wait → ⊥
+unfolding step
+interest-speaks y i space b = mark-speaks (weWant b) space i (length (y .seats)) _
+
+pub page-speaks : (y : Yard) (first space : ℕ) → step (Call.missing first space) y .answer ≡ taken wait → ⊥
+unfolding step
+page-speaks y first space = missing-speaks first space (y .seats) (length (y .seats)) (around (y .head) (getD (y .seats) 0 cleared) (y .rows) (y .holders))
+
+-- a call on any tables that answers a number other than 0 leaves the tables, and what is lent for its answer
+module _ (c : Call) (h : Head) (s : List Seat) (w q : List ℕ) {r : ℕ} (e : r ≡ codeOf (step c (yardOf h s w q) .answer)) (k : r ≡ 0 → ⊥) where
+  silent : Unspoken (step c (yardOf h s w q) .answer)
+  silent = code-unspoken (step c (yardOf h s w q) .answer) (λ z. k (e ∙ z))
+
+  pub tables-kept : {h′ : Head} {s′ : List Seat} {w′ q′ : List ℕ} → yardOf h′ s′ w′ q′ ≡ step c (yardOf h s w q) .yard → (h′ ≡ h) × (s′ ≡ s) × (w′ ≡ w) × (q′ ≡ q)
+  tables-kept f = same-tables (f ∙ step-keeps (yardOf h s w q) c silent) refl
+
+  pub told-kept : {was t : Told} → t ≡ toldOf (step c (yardOf h s w q) .answer) was → t ≡ was
+  told-kept {was} f = f ∙ untold (step c (yardOf h s w q) .answer) was silent
+
+  pub shown-kept : {was t : Seat} → t ≡ shownOf (step c (yardOf h s w q) .answer) was → t ≡ was
+  shown-kept {was} f = f ∙ unshown (step c (yardOf h s w q) .answer) was silent
+
+  -- and what is lent for a frame or a page, if it never waits
+  pub put-kept : {was t : List ℕ} → (step c (yardOf h s w q) .answer ≡ taken wait → ⊥) → t ≡ sets was 0 (written c (yardOf h s w q)) → t ≡ was
+  put-kept {was} g f = f ∙ ap (λ (b : List ℕ). sets was 0 b) (nothing-put (step c (yardOf h s w q) .answer) (writes c (yardOf h s w q)) g silent)

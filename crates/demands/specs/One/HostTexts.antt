@@ -1,0 +1,118 @@
+-- Demand 1 of `wardrail`, for C: texts, torrents, replies and digests. Assumes nothing.
+use mathlib.Core.List.{List}
+use mathlib.Core.Path.{_≡_, sym, _∙_, refl}
+use Prim.Native.Nat.{ℕ}
+use Rattle.refusal.specs.Paper.{then, map}
+use Rattle.bencode.specs.Answers.{checkOf}
+use Rattle.sha1.specs.Digest.{digestOf}
+use Rattle.sha1.specs.Parts.{begun, addOf, finishOf}
+use Rattle.tracker.specs.Entries.{listedAt, packedAt}
+use Rattle.tracker.specs.Reply.{replyOf, nthOf, counted}
+use Rattle.metainfo.specs.Hashes.{infoHashOf}
+use Rattle.metainfo.specs.Reading.{readOf}
+use Rattle.wardrail.specs.Hashing.{wordsOf, stateOf}
+use Rattle.wardrail.specs.Peers.{peerDetail}
+use Rattle.wardrail.specs.Replies.{replyDetail, entryDetail}
+use Rattle.wardrail.specs.Said.{numberOf, detailOf}
+use Rattle.wardrail.specs.Torrents.{torrentDetail}
+use Rattle.sha1.proofs.Determined as laws
+use Rattle.demands.specs.Cited.{by-number, refuses, same-left, hash-kept}
+use Rattle.demands.specs.One.{Lent, now, Determined1, Keeps1, Determined2}
+
+-- wardrail::wardrail_check
+abbrev check-ensures : (text : Lent (List ℕ)) → ℕ → Lent ℕ → Type 0
+check-ensures text r detail = (r ≡ numberOf (checkOf (now (text .entry)))) × (now (detail .exit) ≡ detailOf (checkOf (now (text .entry))))
+
+pub check-determined : (text : Lent (List ℕ)) → Determined1 (check-ensures text)
+check-determined text detail r r′ detail₁ detail₂ e f = (e .0 ∙ sym (f .0), e .1 ∙ sym (f .1))
+
+-- wardrail::wardrail_sha1
+abbrev sha1-ensures : (message : Lent (List ℕ)) → ℕ → Lent (List ℕ) → Type 0
+sha1-ensures message r digest =
+    (r ≡ numberOf (digestOf (now (message .entry)) (now (digest .entry)) .answer)) × (now (digest .exit) ≡ digestOf (now (message .entry)) (now (digest .entry)) .out)
+
+pub sha1-determined : (message : Lent (List ℕ)) → Determined1 (sha1-ensures message)
+sha1-determined message digest r r′ digest₁ digest₂ e f = (e .0 ∙ sym (f .0), e .1 ∙ sym (f .1))
+
+pub sha1-keeps : (message : Lent (List ℕ)) → Keeps1 (sha1-ensures message) (λ (r : ℕ). r ≡ 0 → ⊥)
+sha1-keeps message r digest e k =
+    e .1 ∙ by-number (digestOf (now (message .entry)) (now (digest .entry)) .answer) (e .0) k (λ n p q. laws.digest-refusal-keeps (now (message .entry)) (now (digest .entry)) (refuses n p) (same-left (digestOf (now (message .entry)) (now (digest .entry))) n p q) refl .1)
+
+-- wardrail::hashing::wardrail_sha1_start
+abbrev sha1-start-ensures : Unit {0} → Lent (List ℕ) → Lent (List ℕ) → Type 0
+sha1-start-ensures r words tail = (now (words .exit) ≡ wordsOf begun) × (now (tail .exit) ≡ begun .tail)
+
+pub sha1-start-determined : Determined2 sha1-start-ensures
+sha1-start-determined words tail r r′ words₁ words₂ tail₁ tail₂ e f = (refl, e .0 ∙ sym (f .0), e .1 ∙ sym (f .1))
+
+-- it refuses nothing
+
+-- wardrail::hashing::wardrail_sha1_add
+abbrev sha1-add-ensures : (part : Lent (List ℕ)) → Unit {0} → Lent (List ℕ) → Lent (List ℕ) → Type 0
+sha1-add-ensures part r words tail =
+    (now (words .exit) ≡ wordsOf (addOf (stateOf (now (words .entry)) (now (tail .entry))) (now (part .entry)))) × (now (tail .exit) ≡ addOf (stateOf (now (words .entry)) (now (tail .entry))) (now (part .entry)) .tail)
+
+pub sha1-add-determined : (part : Lent (List ℕ)) → Determined2 (sha1-add-ensures part)
+sha1-add-determined part words tail r r′ words₁ words₂ tail₁ tail₂ e f = (refl, e .0 ∙ sym (f .0), e .1 ∙ sym (f .1))
+
+-- it refuses nothing
+
+-- wardrail::hashing::wardrail_sha1_finish
+abbrev sha1-finish-ensures : (words tail : Lent (List ℕ)) → ℕ → Lent (List ℕ) → Type 0
+sha1-finish-ensures words tail r digest =
+    (r ≡ numberOf (finishOf (stateOf (now (words .entry)) (now (tail .entry))) (now (digest .entry)) .answer)) × (now (digest .exit) ≡ finishOf (stateOf (now (words .entry)) (now (tail .entry))) (now (digest .entry)) .out)
+
+pub sha1-finish-determined : (words tail : Lent (List ℕ)) → Determined1 (sha1-finish-ensures words tail)
+sha1-finish-determined words tail digest r r′ digest₁ digest₂ e f = (e .0 ∙ sym (f .0), e .1 ∙ sym (f .1))
+
+pub sha1-finish-keeps : (words tail : Lent (List ℕ)) → Keeps1 (sha1-finish-ensures words tail) (λ (r : ℕ). r ≡ 0 → ⊥)
+sha1-finish-keeps words tail r digest e k =
+    e .1 ∙ by-number (finishOf (stateOf (now (words .entry)) (now (tail .entry))) (now (digest .entry)) .answer) (e .0) k (λ n p q. laws.finish-refusal-keeps (stateOf (now (words .entry)) (now (tail .entry))) (now (digest .entry)) (refuses n p) (same-left (finishOf (stateOf (now (words .entry)) (now (tail .entry))) (now (digest .entry))) n p q) refl .1)
+
+-- wardrail::peers::wardrail_peer
+abbrev peer-ensures : (text : Lent (List ℕ)) (number : ℕ) → ℕ → Lent (List ℕ) → Type 0
+peer-ensures text number r detail =
+    (r ≡ numberOf (then (replyOf (now (text .entry))) (nthOf number))) × (now (detail .exit) ≡ peerDetail (then (replyOf (now (text .entry))) (nthOf number)))
+
+pub peer-determined : (text : Lent (List ℕ)) (number : ℕ) → Determined1 (peer-ensures text number)
+peer-determined text number detail r r′ detail₁ detail₂ e f = (e .0 ∙ sym (f .0), e .1 ∙ sym (f .1))
+
+-- wardrail::replies::wardrail_reply
+abbrev reply-ensures : (text : Lent (List ℕ)) → ℕ → Lent (List ℕ) → Type 0
+reply-ensures text r detail = (r ≡ numberOf (map counted (replyOf (now (text .entry))))) × (now (detail .exit) ≡ replyDetail (map counted (replyOf (now (text .entry)))))
+
+pub reply-determined : (text : Lent (List ℕ)) → Determined1 (reply-ensures text)
+reply-determined text detail r r′ detail₁ detail₂ e f = (e .0 ∙ sym (f .0), e .1 ∙ sym (f .1))
+
+-- wardrail::replies::wardrail_listed_at
+abbrev listed-at-ensures : (text : Lent (List ℕ)) (at : ℕ) → ℕ → Lent (List ℕ) → Type 0
+listed-at-ensures text at r detail = (r ≡ numberOf (listedAt (now (text .entry)) at)) × (now (detail .exit) ≡ entryDetail (listedAt (now (text .entry)) at))
+
+pub listed-at-determined : (text : Lent (List ℕ)) (at : ℕ) → Determined1 (listed-at-ensures text at)
+listed-at-determined text at detail r r′ detail₁ detail₂ e f = (e .0 ∙ sym (f .0), e .1 ∙ sym (f .1))
+
+-- wardrail::replies::wardrail_packed_at
+abbrev packed-at-ensures : (text : Lent (List ℕ)) (at : ℕ) → ℕ → Lent (List ℕ) → Type 0
+packed-at-ensures text at r detail = (r ≡ numberOf (packedAt (now (text .entry)) at)) × (now (detail .exit) ≡ entryDetail (packedAt (now (text .entry)) at))
+
+pub packed-at-determined : (text : Lent (List ℕ)) (at : ℕ) → Determined1 (packed-at-ensures text at)
+packed-at-determined text at detail r r′ detail₁ detail₂ e f = (e .0 ∙ sym (f .0), e .1 ∙ sym (f .1))
+
+-- wardrail::torrents::wardrail_torrent
+abbrev torrent-ensures : (text : Lent (List ℕ)) → ℕ → Lent (List ℕ) → Type 0
+torrent-ensures text r detail = (r ≡ numberOf (readOf (now (text .entry)))) × (now (detail .exit) ≡ torrentDetail (readOf (now (text .entry))))
+
+pub torrent-determined : (text : Lent (List ℕ)) → Determined1 (torrent-ensures text)
+torrent-determined text detail r r′ detail₁ detail₂ e f = (e .0 ∙ sym (f .0), e .1 ∙ sym (f .1))
+
+-- wardrail::torrents::wardrail_info_hash
+abbrev info-hash-ensures : (text : Lent (List ℕ)) → ℕ → Lent (List ℕ) → Type 0
+info-hash-ensures text r digest =
+    (r ≡ numberOf (infoHashOf (now (text .entry)) (now (digest .entry)) .answer)) × (now (digest .exit) ≡ infoHashOf (now (text .entry)) (now (digest .entry)) .out)
+
+pub info-hash-determined : (text : Lent (List ℕ)) → Determined1 (info-hash-ensures text)
+info-hash-determined text digest r r′ digest₁ digest₂ e f = (e .0 ∙ sym (f .0), e .1 ∙ sym (f .1))
+
+pub info-hash-keeps : (text : Lent (List ℕ)) → Keeps1 (info-hash-ensures text) (λ (r : ℕ). r ≡ 0 → ⊥)
+info-hash-keeps text r digest e k =
+    e .1 ∙ by-number (infoHashOf (now (text .entry)) (now (digest .entry)) .answer) (e .0) k (λ n p q. hash-kept (now (text .entry)) (now (digest .entry)) (readOf (now (text .entry))) (refuses n p) (same-left (infoHashOf (now (text .entry)) (now (digest .entry))) n p q) refl)

@@ -1,0 +1,50 @@
+-- Demand 1 of `writer`: bytes, numbers, strings and integers put into lent output. Assumes nothing.
+use mathlib.Core.List.{List}
+use mathlib.Core.Path.{_≡_}
+use Prim.Native.Nat.{ℕ}
+use lib.IntN.{ℤ}
+use Rattle.scalar.specs.Written.{decimal, written, writtenInt}
+use Rattle.writer.specs.Put.{paper, left, putOf}
+use Rattle.writer.specs.declared.Put.{Put}
+use Rattle.writer.proofs.Laws as laws
+use Rattle.demands.specs.One.{Lent, now, Determined1, Keeps1, Refused}
+
+-- writer::literal
+abbrev literal-ensures : (at : ℕ) (bytes : Lent (List ℕ)) → Put → Lent (List ℕ) → Type 0
+literal-ensures at bytes r out = left (paper r) (now (out .exit)) ≡ putOf (now (bytes .entry)) at (now (out .entry))
+
+pub literal-determined : (at : ℕ) (bytes : Lent (List ℕ)) → Determined1 (literal-ensures at bytes)
+literal-determined at bytes out r r′ out₁ out₂ e f = laws.determined _ _ _ r e r′ f
+
+pub literal-keeps : (at : ℕ) (bytes : Lent (List ℕ)) → Keeps1 (literal-ensures at bytes) (λ r. Refused (paper r))
+literal-keeps at bytes r out e k = laws.refusal-keeps _ _ _ r e (k .2) .1
+
+-- writer::decimal
+abbrev decimal-ensures : (at n : ℕ) → Put → Lent (List ℕ) → Type 0
+decimal-ensures at n r out = left (paper r) (now (out .exit)) ≡ putOf (decimal n) at (now (out .entry))
+
+pub decimal-determined : (at n : ℕ) → Determined1 (decimal-ensures at n)
+decimal-determined at n out r r′ out₁ out₂ e f = laws.determined _ _ _ r e r′ f
+
+pub decimal-keeps : (at n : ℕ) → Keeps1 (decimal-ensures at n) (λ r. Refused (paper r))
+decimal-keeps at n r out e k = laws.refusal-keeps _ _ _ r e (k .2) .1
+
+-- writer::string
+abbrev string-ensures : (at : ℕ) (bytes : Lent (List ℕ)) → Put → Lent (List ℕ) → Type 0
+string-ensures at bytes r out = left (paper r) (now (out .exit)) ≡ putOf (written (now (bytes .entry))) at (now (out .entry))
+
+pub string-determined : (at : ℕ) (bytes : Lent (List ℕ)) → Determined1 (string-ensures at bytes)
+string-determined at bytes out r r′ out₁ out₂ e f = laws.determined _ _ _ r e r′ f
+
+pub string-keeps : (at : ℕ) (bytes : Lent (List ℕ)) → Keeps1 (string-ensures at bytes) (λ r. Refused (paper r))
+string-keeps at bytes r out e k = laws.refusal-keeps _ _ _ r e (k .2) .1
+
+-- writer::integer
+abbrev integer-ensures : (at : ℕ) (z : ℤ) → Put → Lent (List ℕ) → Type 0
+integer-ensures at z r out = left (paper r) (now (out .exit)) ≡ putOf (writtenInt z) at (now (out .entry))
+
+pub integer-determined : (at : ℕ) (z : ℤ) → Determined1 (integer-ensures at z)
+integer-determined at z out r r′ out₁ out₂ e f = laws.determined _ _ _ r e r′ f
+
+pub integer-keeps : (at : ℕ) (z : ℤ) → Keeps1 (integer-ensures at z) (λ r. Refused (paper r))
+integer-keeps at z r out e k = laws.refusal-keeps _ _ _ r e (k .2) .1
