@@ -1,0 +1,181 @@
+-- THE WORKED CASES: every ★ block, yard step and text of document 01 as one table, in its order and numbers, each beside the answer that it is to have; and that
+-- the definitions give these answers, by computation. Assumes nothing.
+use mathlib.Core.Path.{_≡_, refl}
+use mathlib.Core.List.{List, [], _∷_}
+use Prim.Native.Nat.{ℕ}
+use Prim.Native.Char.{code}
+use Prim.Native.String as Text
+use Prim.Native.String.{String}
+use lib.ListN.{getD, replicate}
+use Rattle.refusal.specs.BigEndian.{bigEndian}
+use Rattle.refusal.specs.BigEndian.{bytesOf as numberBytes}
+use Rattle.refusal.specs.Paper.{Outcome, taken, refused}
+use Rattle.scalar.specs.Written.{keyLt, decimalIn}
+use Rattle.scalar.specs.Reading.{digitsVal, digitsLen, stringOf, closedOf, integerOf}
+use Rattle.bencode.specs.Value.{encode}
+use Rattle.bencode.specs.Value.{count as countIn}
+use Rattle.bencode.specs.Decode.{decode, kindOf, keyOf, itemsOf, entriesOf, valueOf}
+use Rattle.bencode.specs.Answers.{checkOf}
+use Rattle.walk.specs.Lookup.{lookup, sameKey}
+use Rattle.blocks.specs.Rules.{powerFrom, sum, fileLengths, lawful}
+use Rattle.blocks.specs.Spans.{Span, Part, part, joined, joinedFrom, lengths, endFrom, partsFrom}
+use Rattle.blocks.specs.Spans.{sizes as sizesIn}
+use Rattle.blocks.specs.Answers.{Spot, spot, blockOf, byteOf}
+use Rattle.wire.specs.Message.{Message, have, bitfield}
+use Rattle.wire.specs.Message.{encode as frameOf}
+use Rattle.wire.specs.Frames.{least, most, sizedOf, readOf}
+use Rattle.wire.specs.Frames.{messageOf as messageBy}
+use Rattle.metainfo.specs.Rules.{clean, goodName, elementsOf, fileOf, lengthsOf, infoOf, topOf, torrentOf}
+use Rattle.metainfo.specs.Rules.{sizedOf as torrentSized}
+use Rattle.lines.specs.Lines.{elementsIn, filesIn, escaped, fileLines, listingOf}
+use Rattle.lines.specs.Lines.{joined as pathOf}
+use Rattle.tables.specs.Counting.{eachFrom}
+use Rattle.tables.specs.Rows.{orBytes}
+use Rattle.tables.specs.Seats.{cleared}
+use Rattle.tables.specs.Tables.{Yard, Said, done, used, seated, Out, sizesFit}
+use Rattle.tables.specs.Frames.{overTop, announced, haveOf, bitfieldOf, messageOf, feedOf}
+use Rattle.tables.specs.Seating.{startOf, lowestFree, seatedAt, sitOf, atZero, left, leaveOf}
+use Rattle.tables.specs.Step.{Call, start, sit, leave, feed, step}
+use Rattle.history.specs.History.{History, entry, event, sizesWith}
+use Rattle.history.specs.Says.{holders, completeSeats, lowestWithout}
+use Rattle.history.specs.Expected.{answer}
+
+-- ---- what a row is
+
+-- the bytes of a text
+unfoldable pub bytes : String → List ℕ
+bytes Text.[] = []
+bytes (Text._∷_ c s) = code c ∷ bytes s
+
+-- refused by a number, at a place
+infix 20 _at_
+abbrev pub _at_ : {A : Type 0} → ℕ → ℕ → Outcome A
+n at p = refused n p
+
+-- what is asked, and what it is to give
+pub data Star : Type 0 where
+  -- a block by piece, offset and length: its parts
+  block : ℕ → ℕ → ℕ → Outcome (List Part) → Star
+  -- a byte by file and offset: its piece and offset
+  byte : ℕ → ℕ → Outcome Spot → Star
+  -- a yard of so many pieces starts: the answer
+  starts : ℕ → Outcome Said → Star
+  -- a call on the yard as the rows before left it: the answer, and after it the seats complete and the holders of piece 9
+  call : Call → Outcome Said → ℕ → ℕ → Star
+  -- a call in place of the one before
+  instead : Call → Outcome Said → ℕ → ℕ → Star
+  -- a text: its count of values
+  text : String → Outcome ℕ → Star
+  -- a text for the listing program: what is printed
+  prints : String → String → Star
+
+-- a frame from the truck of seat i
+abbrev pub says : ℕ → Message (List ℕ) → Call
+says i m = feed i (frameOf m)
+
+-- ---- the table
+
+unfoldable pub stars : List Star
+stars =
+    -- Where a block falls. With lengths 20000, 0, 12769 and piece length 16384:
+    block 1 0 16384 (taken (part 0 16384 3616 ∷ part 2 0 12768 ∷ []))
+    ∷ block 2 0 1 (taken (part 2 12768 1 ∷ []))
+    ∷ block 2 0 2 (34 at 0)
+    ∷ block 3 0 1 (31 at 0)
+    ∷ byte 2 0 (taken (spot 1 3616))
+    ∷ byte 1 0 (34 at 0)
+    -- The yard. S = 2, P = 10: seats 0, 1, then 35
+    ∷ starts 10 (taken done)
+    ∷ call sit (taken (seated 0)) 0 0
+    ∷ call sit (taken (seated 1)) 0 0
+    ∷ call sit (35 at 0) 0 0
+    -- Seat 0 bitfield FF C0: complete 1; FF C1 instead: 33; one byte: 32
+    ∷ call (says 0 (bitfield (0xff ∷ 0xc0 ∷ []))) (taken (used 7)) 1 1
+    ∷ instead (says 0 (bitfield (0xff ∷ 0xc1 ∷ []))) (33 at 0) 0 0
+    ∷ instead (says 0 (bitfield (0xff ∷ []))) (32 at 0) 0 0
+    -- Seat 1 have 9: piece 9 has 2; have 10: 31; then its bitfield: 30
+    ∷ call (says 1 (have 9)) (taken (used 9)) 1 2
+    ∷ call (says 1 (have 10)) (31 at 0) 1 2
+    ∷ call (says 1 (bitfield (0xff ∷ 0xc0 ∷ []))) (30 at 0) 1 2
+    -- Seat 0 leaves: complete 0, piece 9 has 1; the next truck gets seat 0
+    ∷ call (leave 0) (taken done) 0 1
+    ∷ call sit (taken (seated 0)) 0 1
+    -- Texts to try
+    ∷ text "i-3e" (taken 1)
+    ∷ text "i-0e" (2 at 2)
+    ∷ text "i03e" (2 at 2)
+    ∷ text "d3:cow3:moo4:spam4:eggse" (taken 5)
+    ∷ text "d4:spam4:eggs3:cow3:mooe" (3 at 13)
+    ∷ text "d1:a0:1:a0:e" (3 at 6)
+    ∷ text "" (1 at 0)
+    ∷ text "4:spa" (1 at 5)
+    ∷ text "00:" (2 at 1)
+    ∷ text "lee" (7 at 2)
+    -- The listing program
+    ∷ prints "d8:announce15:http://yard/ann4:infod5:filesld6:lengthi20000e4:pathl3:rte1:aeed6:lengthi0e4:pathl1:beed6:lengthi12769e4:pathl1:ceee4:name3:pkg12:piece lengthi16384e6:pieces60:AAAAAAAAAAAAAAAAAAAAAAAAAAAAAAAAAAAAAAAAAAAAAAAAAAAAAAAAAAAAee"
+    "pkg 3 files 32769 bytes 3 pieces of 16384\n0 20000 rte/a\n20000 0 b\n20000 12769 c\n"
+    ∷ []
+
+-- ---- what the definitions give
+
+-- an answer of any row
+pub data Given : Type 0 where
+  parts : Outcome (List Part) → Given
+  spots : Outcome Spot → Given
+  said : Outcome Said → ℕ → ℕ → Given
+  counted : Outcome ℕ → Given
+  printed : List ℕ → Given
+
+-- the yard as it is, and what was called
+pub record Now : Type 0 where
+  pub yard : Yard
+  pub past : History
+
+abbrev pub files : List Span
+files = joined (20000 ∷ 0 ∷ 12769 ∷ [])
+
+-- a call's answer, the seats complete and the holders of piece 9: by the tables, and by the history alone
+abbrev pub byTables : Out → Given
+byTables o = said (o .answer) (o .yard .head .complete) (getD (o .yard .holders) 9 0)
+
+abbrev pub byHistory : History → Call → Given
+byHistory h c = said (answer 2 h c) (completeSeats 2 (entry c (answer 2 h c) [] ∷ h)) (holders 2 (entry c (answer 2 h c) [] ∷ h) 9)
+
+abbrev pub after : Call → Now → Now
+after c x = record { yard = step c (x .yard) .yard; past = entry c (answer 2 (x .past) c) [] ∷ x .past }
+
+-- the rows one after the other, with the yard before the last call and after it
+unfoldable pub given : List Star → Now → Now → List Given
+given [] before x = []
+given (block p o n a ∷ rows) before x = parts (blockOf files 16384 p o n) ∷ given rows before x
+given (byte f o a ∷ rows) before x = spots (byteOf files 16384 f o) ∷ given rows before x
+given (starts p a ∷ rows) before x =
+    let o : Out = step (start p 16384 16384) (x .yard) in
+    byTables o ∷ given rows x (record { yard = o .yard; past = entry (start p 16384 16384) (o .answer) [] ∷ [] })
+given (call c a f n ∷ rows) before x = byTables (step c (x .yard)) ∷ byHistory (x .past) c ∷ given rows x (after c x)
+given (instead c a f n ∷ rows) before x = byTables (step c (before .yard)) ∷ byHistory (before .past) c ∷ given rows before x
+given (text s a ∷ rows) before x = counted (checkOf (bytes s)) ∷ given rows before x
+given (prints s t ∷ rows) before x = printed (listingOf (bytes s)) ∷ given rows before x
+
+-- and what they are to give: a call's answer is asked twice
+unfoldable pub asked : List Star → List Given
+asked [] = []
+asked (block p o n a ∷ rows) = parts a ∷ asked rows
+asked (byte f o a ∷ rows) = spots a ∷ asked rows
+asked (starts p a ∷ rows) = said a 0 0 ∷ asked rows
+asked (call c a f n ∷ rows) = said a f n ∷ said a f n ∷ asked rows
+asked (instead c a f n ∷ rows) = said a f n ∷ said a f n ∷ asked rows
+asked (text s a ∷ rows) = counted a ∷ asked rows
+asked (prints s t ∷ rows) = printed (bytes t) ∷ asked rows
+
+-- tables for two seats and ten pieces, with anything in them, and no call made
+abbrev pub lent : Now
+lent = record {
+  yard = record { head = record { pieces = 3; «piece_length» = 1; «last_length» = 9; taken = 7; complete = 7 }; seats = cleared ∷ cleared ∷ []; rows = replicate 4 255; holders = replicate 10 77 };
+  past = [];
+}
+
+-- every row gives its answer
+pub stars-hold : given stars lent lent ≡ asked stars
+unfolding given asked stars bytes blockOf byteOf lawful powerFrom sum fileLengths joinedFrom lengths endFrom partsFrom sizesIn step startOf sizesFit lowestFree sitOf seatedAt leaveOf atZero left feedOf messageOf haveOf bitfieldOf overTop announced eachFrom orBytes readOf sizedOf least most messageBy bigEndian numberBytes event sizesWith lowestWithout decode valueOf itemsOf entriesOf kindOf stringOf closedOf integerOf keyOf digitsVal digitsLen keyLt countIn listingOf fileLines pathOf escaped filesIn elementsIn lookup sameKey torrentOf topOf infoOf torrentSized lengthsOf fileOf elementsOf goodName clean decimalIn encode
+stars-hold = refl

@@ -1,0 +1,169 @@
+-- DEMAND 3: after any sequence of calls, the yard's counts are what the history of calls says. Assumes nothing.
+-- Nothing is asked of what stands in the tables that are lent first: the first call of a run is a start that is accepted, and from there on the tables are handed
+-- from call to call as each leaves them. A history holds the calls with their answers, the newest first; `seated`, `announced`, `fresh` and the four marks are
+-- recursions on it that look at no table (history/specs/History.antt).
+use mathlib.Core.Path.{_≡_, refl, sym, ap, _∙_, subst}
+use mathlib.Core.Logic.{_↔_}
+use mathlib.Core.Bool.{Bool, true, false, not, _&&_}
+use mathlib.Core.List.{List, [], _∷_, _++_}
+use mathlib.Core.List.{List·Memᴰ as In}
+use Prim.Native.Nat.{ℕ, _≤_, _<_, min}
+use lib.Dec.{eqb}
+use lib.ListN.{length, getD, take, drop}
+use lib.Seq.{sets}
+use Rattle.refusal.specs.Paper.{Outcome, taken, refused}
+use Rattle.tables.specs.Counting.{count}
+use Rattle.tables.specs.Rows.{width, hasIn}
+use Rattle.tables.specs.Seats.{cleared}
+use Rattle.tables.specs.Looks.{firstOr}
+use Rattle.tables.specs.Tables.{Yard, Said, wait, done, serve, dropped, listed, scarce, Out, paper}
+use Rattle.tables.specs.Tables.{seated as givesSeat}
+use Rattle.tables.specs.Step.{Call, start, sit, missing, scarcest, look, has, step, written}
+use Rattle.tables.specs.Step.{count as countCall}
+use Rattle.tables.specs.declared.Answer.{Answer}
+use Rattle.tables.specs.declared.Page.{Page}
+use Rattle.history.specs.History.{History, entry, seated, announced, fresh, weAreChoking, weAreInterested, theyAreChoking, theyAreInterested, pieces, sizes}
+use Rattle.history.specs.Says.{Ascending, recordOf, holders, Lowest, Least}
+use Rattle.history.specs.Expected as Expected
+use Rattle.history.specs.Expected.{answer}
+use Rattle.history.specs.Causes.{Cause, Waits, Serves, Drops}
+use Rattle.history.specs.Run.{State, Sized, after}
+use Rattle.history.proofs.Theorem as theorem
+use Rattle.history.proofs.Demand as demand
+use Rattle.demands.specs.Three.Program.{Made, made-run}
+use Rattle.demands.specs.Three.Paging.{page-listed}
+pub mod Program
+mod Paging
+
+-- a start is accepted exactly when the sizes are legal and the lent tables have them, whatever stands in the tables
+pub start-exact : (p l k : ℕ) (lent : Yard) (r : Answer) → paper r ≡ step (start p l k) lent .answer → paper r ≡ taken done ↔ Sized p l k lent
+start-exact p l k lent r c = let x = theorem.accepted-exactly p l k lent in (λ e. x .0 (sym c ∙ e), λ s. c ∙ x .1 s)
+
+-- `lent` are the tables as they were lent first; after any calls h is the history, and y are the tables
+module _ (lent : Yard) (h : History) (y : Yard) (made : Made lent h y) where
+  -- S
+  abbrev seats : ℕ
+  seats = length (lent .seats)
+
+  -- a truck sits at seat i and has announced piece p since it last sat down
+  abbrev pub Holds : ℕ → ℕ → Bool
+  Holds i p = seated h i && announced h i p
+
+  -- how many pieces the truck of seat i has so announced
+  abbrev pub held : ℕ → ℕ
+  held i = count (pieces h) (Holds i)
+
+  -- what is so of every run is so of this one
+  here : (P : History → Yard → Type 0) → ((p l k : ℕ) → step (start p l k) lent .answer ≡ taken done → (cs : List Call) → P (after p l k lent cs .past) (after p l k lent cs .yard)) → P h y
+  here P f = let m = made-run lent h y made in subst (λ (s : State). P (s .past) (s .yard)) (m .is) (f (m .pieces) (m .piece-length) (m .last-length) (m .accepted) (m .calls))
+
+  -- ---- 10. "The yard's counts are what the history of calls says."
+
+  -- a piece's holders: the trucks now seated that have announced it since they last sat down
+  pub holders-right : (p : ℕ) → p < pieces h → getD (y .holders) p 0 ≡ count seats (λ i. seated h i && announced h i p)
+  holders-right = here (λ g z. (p : ℕ) → p < pieces g → getD (z .holders) p 0 ≡ count seats (λ i. seated g i && announced g i p)) (λ p l k ok cs. demand.holders-right p l k lent ok cs)
+
+  -- the seats taken
+  pub seated-right : y .head .taken ≡ count seats (λ i. seated h i)
+  seated-right = here (λ g z. z .head .taken ≡ count seats (seated g)) (λ p l k ok cs. demand.seated-right p l k lent ok cs)
+
+  -- the seats complete: their trucks have announced every piece
+  pub complete-right : y .head .complete ≡ count seats (λ i. seated h i && eqb (count (pieces h) (λ p. seated h i && announced h i p)) (pieces h))
+  complete-right = here (λ g z. z .head .complete ≡ count seats (λ i. seated g i && eqb (count (pieces g) (λ p. seated g i && announced g i p)) (pieces g))) (λ p l k ok cs. demand.complete-right p l k lent ok cs)
+
+  -- each seat's record
+  pub seat-right : (i : ℕ) → i < seats → getD (y .seats) i cleared ≡ record {
+    taken = seated h i;
+    fresh = fresh h i;
+    «am_choking» = weAreChoking h i;
+    «am_interested» = weAreInterested h i;
+    «peer_choking» = theyAreChoking h i;
+    «peer_interested» = theyAreInterested h i;
+    held = count (pieces h) (λ p. seated h i && announced h i p);
+  }
+  seat-right = here (λ g z. (i : ℕ) → i < seats → getD (z .seats) i cleared ≡ recordOf g i) (λ p l k ok cs. demand.seat-right p l k lent ok cs)
+
+  -- each bit of each row, the number of seats, and the sizes
+  pub row-right : (i p : ℕ) → i < seats → p < pieces h → hasIn (width (pieces h)) (y .rows) i p ≡ (seated h i && announced h i p)
+  row-right = here (λ g z. (i p : ℕ) → i < seats → p < pieces g → hasIn (width (pieces g)) (z .rows) i p ≡ (seated g i && announced g i p)) (λ p l k ok cs. theorem.right p l k lent ok cs .row-right)
+
+  pub sizes-right : (length (y .seats) ≡ seats) × (y .head .pieces ≡ pieces h) × (y .head .«piece_length» ≡ sizes h .pieceLength) × (y .head .«last_length» ≡ sizes h .lastLength)
+  sizes-right = here (λ g z. (length (z .seats) ≡ seats) × (z .head .pieces ≡ pieces g) × (z .head .«piece_length» ≡ sizes g .pieceLength) × (z .head .«last_length» ≡ sizes g .lastLength))
+      (λ p l k ok cs. let r = theorem.right p l k lent ok cs in (r .seats-same, r .pieces-right, r .piece-length-right, r .last-length-right))
+
+  -- every call's answer, and all that it writes, is the one that the history before it says: document 01's checks in their order, with no table in them
+  pub answer-right : (c : Call) (r : Answer) → paper r ≡ step c y .answer → paper r ≡ answer seats h c
+  answer-right c r e = e ∙ here (λ g z. step c z .answer ≡ answer seats g c) (λ p l k ok cs. theorem.answered p l k lent ok cs c)
+
+  pub written-right : (c : Call) → written c y ≡ Expected.written seats h c
+  written-right c = here (λ g z. written c z ≡ Expected.written seats g c) (λ p l k ok cs. theorem.wrote p l k lent ok cs c)
+
+  -- ---- 11. "Tops: S for head and holder counts, P for held."
+
+  pub tops : ((p : ℕ) → p < pieces h → getD (y .holders) p 0 ≤ seats) × ((i : ℕ) → i < seats → getD (y .seats) i cleared .held ≤ pieces h) × (y .head .taken ≤ seats) × (y .head .complete ≤ seats)
+  tops = here (λ g z. ((p : ℕ) → p < pieces g → getD (z .holders) p 0 ≤ seats) × ((i : ℕ) → i < seats → getD (z .seats) i cleared .held ≤ pieces g) × (z .head .taken ≤ seats) × (z .head .complete ≤ seats))
+      (λ p l k ok cs. demand.tops p l k lent ok cs)
+
+  -- ---- 12. A refusal or a wait has its listed cause in the history, and where a cause holds it is given, in document 01's order. r is any answer that the
+  -- contract of the call c permits on these tables
+
+  module _ (c : Call) (r : Answer) (e : paper r ≡ step c y .answer) where
+    pub fair : (number place : ℕ) → paper r ≡ refused number place ↔ (Cause seats h c number × (place ≡ 0))
+    fair number place =
+        let x = here (λ g z. step c z .answer ≡ refused number place ↔ (Cause seats g c number × (place ≡ 0))) (λ p l k ok cs. demand.fair p l k lent ok cs c number place) in
+        (λ q. x .0 (sym e ∙ q), λ q. e ∙ x .1 q)
+
+    pub fair-wait : paper r ≡ taken wait ↔ Waits seats h c
+    fair-wait = let x = here (λ g z. step c z .answer ≡ taken wait ↔ Waits seats g c) (λ p l k ok cs. demand.fair-wait p l k lent ok cs c) in (λ q. x .0 (sym e ∙ q), λ q. e ∙ x .1 q)
+
+    -- without a cause the call is taken
+    pub fair-taken : ((number : ℕ) → Cause seats h c number → ⊥) → (a : Said) × (paper r ≡ taken a)
+    fair-taken f =
+        let x = here (λ g z. ((number : ℕ) → Cause seats g c number → ⊥) → (a : Said) × (step c z .answer ≡ taken a)) (λ p l k ok cs. demand.fair-taken p l k lent ok cs c) in
+        let t = x f in (t .0, e ∙ t .1)
+
+    -- none is 39
+    pub never-damaged : (place : ℕ) → paper r ≡ refused 39 place → ⊥
+    never-damaged place q = here (λ g z. (place : ℕ) → step c z .answer ≡ refused 39 place → ⊥) (λ p l k ok cs. demand.never-damaged p l k lent ok cs c) place (sym e ∙ q)
+
+    -- "A request is answered "serve" exactly if we don't choke and they are interested, else "drop"."
+    pub serves-right : (bytes : ℕ) → paper r ≡ taken (serve bytes) ↔ Serves seats h c bytes
+    serves-right bytes =
+        let x = here (λ g z. step c z .answer ≡ taken (serve bytes) ↔ Serves seats g c bytes) (λ p l k ok cs. demand.serves-right p l k lent ok cs c bytes) in
+        (λ q. x .0 (sym e ∙ q), λ q. e ∙ x .1 q)
+
+    pub drops-right : (bytes : ℕ) → paper r ≡ taken (dropped bytes) ↔ Drops seats h c bytes
+    drops-right bytes =
+        let x = here (λ g z. step c z .answer ≡ taken (dropped bytes) ↔ Drops seats g c bytes) (λ p l k ok cs. demand.drops-right p l k lent ok cs c bytes) in
+        (λ q. x .0 (sym e ∙ q), λ q. e ∙ x .1 q)
+
+  -- "Sitting down takes the lowest free seat": seat i is one, a truck sits at each lower seat, and none at i
+  pub sits-lowest : (r : Answer) → paper r ≡ step sit y .answer → (i : ℕ) → paper r ≡ taken (givesSeat i) → (i < seats) × ((j : ℕ) → j < i → seated h j ≡ true) × (seated h i ≡ false)
+  sits-lowest r e i q =
+      let x = here (λ g z. step sit z .answer ≡ taken (givesSeat i) → Lowest (seated g) seats i × (i < seats)) (λ p l k ok cs. demand.sits-lowest p l k lent ok cs i) (sym e ∙ q) in
+      (x .1, x .0 .below, x .0 .lacks (x .1))
+
+  -- ---- 13. "As many as fit; with it how many were written, the yard's whole missing total from seat 0, and the next unlisted missing seat at or after the first, or S."
+
+  -- a page of any room from a first seat on; l is the missing list from there: ascending, with every seat whose truck lacks a piece and no other
+  pub missing-total : (first : ℕ) (page out : List ℕ) (r : Answer) → paper r ≡ step (missing first (length page)) y .answer
+      → out ≡ sets page 0 (written (missing first (length page)) y)
+      → (x : Page) → paper r ≡ taken (listed x)
+      → (x .total ≡ count seats (λ i. seated h i && not (eqb (count (pieces h) (λ p. seated h i && announced h i p)) (pieces h))))
+      × ((l : List ℕ) × Ascending first l
+      × ((j : ℕ) → In j l ↔ ((first ≤ j) × (j < seats) × ((seated h j && not (eqb (count (pieces h) (λ p. seated h j && announced h j p)) (pieces h))) ≡ true)))
+      × (x .written ≡ min (length page) (length l))
+      × (out ≡ take (length page) l ++ drop (x .written) page)
+      × (x .next ≡ firstOr seats (drop (length page) l)))
+  missing-total first page out r e w x q =
+      page-listed seats h first page out x (sym (answer-right (missing first (length page)) r e) ∙ q) (w ∙ ap (sets page 0) (written-right (missing first (length page))))
+
+  -- ---- 14. "The scarcest piece is the smallest number among those with fewest holders."
+
+  pub scarcest-right : (r : Answer) → paper r ≡ step scarcest y .answer → (p : ℕ) → paper r ≡ taken (scarce p)
+      → (p < pieces h)
+      × ((q : ℕ) → q < pieces h → count seats (λ i. seated h i && announced h i p) ≤ count seats (λ i. seated h i && announced h i q))
+      × ((q : ℕ) → q < p → count seats (λ i. seated h i && announced h i p) < count seats (λ i. seated h i && announced h i q))
+  scarcest-right r e p q =
+      let x = here (λ g z. step scarcest z .answer ≡ taken (scarce p) → Least (holders seats g) (pieces g) p) (λ a l k ok cs. demand.scarcest-right a l k lent ok cs p) (sym e ∙ q) in
+      (x .within, x .least, x .first)

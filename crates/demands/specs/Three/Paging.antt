@@ -1,0 +1,58 @@
+-- What a page of the missing list says, put together from the laws of pages. Assumes nothing.
+use mathlib.Core.Path.{_≡_, refl, sym, ap, _∙_, subst}
+use mathlib.Core.Logic.{_↔_}
+use mathlib.Core.Bool.{Bool, true, false, cond}
+use mathlib.Core.List.{List, _++_}
+use mathlib.Core.List.{List·Memᴰ as In}
+use Prim.Native.Nat.{ℕ, _+_, _≤_, _<_, min}
+use native.Mathlib.Omega.{arith}
+use borrow.Author.Tests.{leb-true}
+use lib.Dec.{leb}
+use lib.ListN.{length, take, drop, length-take}
+use lib.Seq.{sets, sets-eq}
+use Rattle.refusal.specs.Paper.{Outcome, taken, refused}
+use Rattle.tables.specs.Counting.{count}
+use Rattle.tables.specs.Looks.{firstOr}
+use Rattle.tables.specs.Tables.{Said, listed}
+use Rattle.tables.specs.Step.{missing, ifTaken}
+use Rattle.tables.specs.declared.Page.{Page}
+use Rattle.history.specs.History.{History}
+use Rattle.history.specs.Says.{Ascending, lacking, missingFrom, pageLines, pageOf}
+use Rattle.history.specs.Expected.{answer, written}
+use Rattle.history.proofs.Pages.{listed-lacks, lacking-listed, list-ascends, lines-fit}
+
+module _ (n : ℕ) (h : History) (first : ℕ) (page out : List ℕ) (x : Page) where
+  abbrev Listed : Type 0
+  Listed =
+      (x .total ≡ count n (lacking h))
+      × ((l : List ℕ) × Ascending first l × ((j : ℕ) → In j l ↔ ((first ≤ j) × (j < n) × (lacking h j ≡ true))) × (x .written ≡ min (length page) (length l))
+      × (out ≡ take (length page) l ++ drop (x .written) page) × (x .next ≡ firstOr n (drop (length page) l)))
+
+  abbrev list : List ℕ
+  list = missingFrom n h first
+
+  stands : out ≡ sets page 0 (take (length page) list) → out ≡ take (length page) list ++ drop (length (take (length page) list)) page
+  stands e =
+      let z : 0 + length (take (length page) list) ≡ length (take (length page) list) = omega arith in
+      e ∙ rw z at (sets-eq (take (length page) list) page 0 (omega (arith, length-take (length page) list)))
+
+  pub page-listed : answer n h (missing first (length page)) ≡ taken (listed x) → out ≡ sets page 0 (written n h (missing first (length page))) → Listed
+  page-listed e w = go (leb first n) refl e w
+    where
+      go : (b : Bool) → leb first n ≡ b → cond b (taken (listed (pageOf n h first (length page)))) (refused 36 0) ≡ taken (listed x)
+          → out ≡ sets page 0 (ifTaken (cond b (taken (listed (pageOf n h first (length page)))) (refused 36 0)) (pageLines n h first (length page))) → Listed
+      go true t q v =
+          let l = leb-true first n t in
+          let d : pageOf n h first (length page) ≡ x = cc in
+          let k : x .written ≡ length (take (length page) list) = ap (λ (y : Page). y .written) (sym d) in (
+            ap (λ (y : Page). y .total) (sym d),
+            (
+              list,
+              list-ascends n h first l,
+              λ j. (listed-lacks n h first l j, λ (a, b, c). lacking-listed n h first l j a b c),
+              k ∙ length-take (length page) list,
+              stands v ∙ ap (λ (i : ℕ). take (length page) list ++ drop i page) (sym k),
+              ap (λ (y : Page). y .next) (sym d),
+            ),
+          )
+      go false t q v = absurd (let z : _≡_ {A = ℕ} 0 1 = cc in omega arith)

@@ -1,0 +1,330 @@
+-- DEMAND 2: exactly the right texts, what is written reads back, and blocks fall where they should. Assumes nothing.
+-- Each statement is about any answer r, and any lent output `out` at exit, that the contract of the call named above it permits: the contract is its premise.
+-- A text is a list of bytes. An outcome is `taken` with what is handed back, or `refused` with number and place.
+use mathlib.Core.Path.{_≡_, refl, sym, ap, _∙_, subst}
+use mathlib.Core.Logic.{_↔_, inl, inr}
+use mathlib.Core.Bool.{true, false}
+use mathlib.Core.List.{List, [], _∷_, _++_}
+use Prim.Native.Nat.{ℕ, _+_, _-_, _*_, _%_, _≤_, _<_, min}
+use native.Mathlib.Omega.{arith}
+use lib.IntN.{pos}
+use lib.ListN.{length, getD, take, drop, take-append-drop}
+use lib.Seq.{length-take-le}
+use Rattle.refusal.specs.BigEndian.{Bytes}
+use Rattle.refusal.specs.Paper.{Outcome, taken, refused, map, then}
+use Rattle.bencode.specs.Value.{Value, str, int, dict, empty, entry, encode, count, Keeps}
+use Rattle.bencode.specs.Decode.{decode}
+use Rattle.bencode.specs.Exact.{Fine}
+use Rattle.bencode.specs.Answers.{paper as countPaper, checkOf}
+use Rattle.bencode.specs.declared.Checked.{Checked}
+use Rattle.bencode.proofs.Exact.{exactly, fine-taken}
+use Rattle.walk.specs.Has.{Has}
+use Rattle.writer.specs.Put.{Left, left, putOf}
+use Rattle.writer.specs.Put.{paper as putPaper}
+use Rattle.writer.specs.declared.Put.{Put}
+use Rattle.sha1.specs.Sha1.{sha1}
+use Rattle.sha1.specs.Digest.{paper as hashPaper, left as hashing, Left as Hashing}
+use Rattle.sha1.specs.declared.Hashed.{Hashed}
+use Rattle.blocks.specs.Rules.{sum, Lawful, piecesOf}
+use Rattle.blocks.specs.Spans.{Part, part, joined, partsOf}
+use Rattle.blocks.specs.Answers.{Spot, partsPaper, placePaper, blockOf, byteOf, flat}
+use Rattle.blocks.specs.Answers.{written as partsIn, left as parting, Left as Parting}
+use Rattle.blocks.specs.Covers.{run, placesOf, Neat}
+use Rattle.blocks.specs.declared.Parts.{Parts}
+use Rattle.blocks.specs.declared.Place.{Place}
+use Rattle.blocks.proofs.Whole as whole
+use Rattle.blocks.proofs.Joined.{joined-laid}
+use Rattle.wire.specs.Message.{Message, Fields, body, keepalive}
+use Rattle.wire.specs.Message.{encode as frameOf}
+use Rattle.wire.specs.Frames.{Found, found, readOf, meant, Lengths, Stream, streamOf, encodeAll, KeepAll, writeOf, bytesAt}
+use Rattle.wire.specs.Handshake.{Shaken, hello, name, handshake, zeros, shakeOf}
+use Rattle.wire.specs.declared.Part as span
+use Rattle.wire.specs.Causes.{Cause}
+use Rattle.wire.proofs.Decided as decided
+use Rattle.wire.proofs.Exact as frames
+use Rattle.wire.proofs.Written as framing
+use Rattle.wire.proofs.Shaking as shaking
+use Rattle.metainfo.specs.Keys.{announceKey, infoKey, lengthKey, nameKey, pieceLengthKey, piecesKey}
+use Rattle.metainfo.specs.Reading.{bytesOf}
+use Rattle.metainfo.specs.Reading.{paper as torrentPaper, readOf as torrentOf}
+use Rattle.metainfo.specs.Hashes.{infoHashOf}
+use Rattle.metainfo.specs.declared.Torrent.{Torrent}
+use Rattle.metainfo.specs.declared.Reading.{Reading}
+use Rattle.torrents.specs.Torrent.{Said, IsTorrent, lengthsIn}
+use Rattle.torrents.specs.Exact.{isSingle, filesUnder, StandsAt, EachAt, Shows}
+use Rattle.torrents.proofs.Laws as torrents
+use Rattle.torrents.proofs.Determined as said
+use Rattle.contents.specs.Pieces.{checkPaper}
+use Rattle.contents.specs.Pieces.{checkOf as pieceOf}
+use Rattle.contents.specs.declared.Checked as piece
+use Rattle.authoring.specs.Writing.{fields}
+use Rattle.authoring.specs.Writing.{Fields as Torrents, writeOf as authorOf, topWith, infoWith}
+use Rattle.authoring.specs.Reading.{only}
+use Rattle.authoring.proofs.Written as authored
+use Rattle.authoring.proofs.Rewriting as again
+use Rattle.tracker.specs.Keys.{interval, peers}
+use Rattle.tracker.specs.Entries.{Entry}
+use Rattle.tracker.specs.Reply.{Answer, compact, sixes, counted, replyOf, nthOf}
+use Rattle.tracker.specs.Reading.{entriesIn, peerPaper}
+use Rattle.tracker.specs.Reading.{paper as replyPaper}
+use Rattle.tracker.specs.Writing.{textOf}
+use Rattle.tracker.specs.Writing.{writeOf as replyWrite}
+use Rattle.tracker.specs.Exact.{IsReply, saidEntries}
+use Rattle.tracker.specs.Exact.{Said as Told, Shows as Shown}
+use Rattle.tracker.specs.Walks.{Walked}
+use Rattle.tracker.specs.declared.Reply.{Reply}
+use Rattle.tracker.specs.declared.Found as peer
+use Rattle.tracker.proofs.Exact.{reply-only, reply-every}
+use Rattle.tracker.proofs.Numbering.{entries-said}
+use Rattle.tracker.proofs.Walking.{walked}
+use Rattle.tracker.proofs.Rewriting as replies
+use Rattle.demands.specs.Two.Joins.{piece-tells, piece-yes, piece-no, block-parts, block-taken, block-takes, byte-taken, byte-takes, byte-found}
+mod Joins
+
+-- the bytes s are the value v as BEP 3 writes it, and v keeps the rules: integers of 64 bits, keys strictly ascending, at most 32 levels;
+-- at most 16,384 values, each key counted, and at most 1,048,576 bytes
+abbrev pub Encodes : List ℕ → Value → Type 0
+Encodes s v = (s ≡ encode v) × Keeps v 32 × (count v ≤ 16384) × (length s ≤ 1048576)
+
+fine : {s : List ℕ} {v : Value} → Encodes s v → Fine s v
+fine e = record { text = e .0; keeps = e .1; few = e .2; short = e .3 }
+
+encodes : {s : List ℕ} {v : Value} → Fine s v → Encodes s v
+encodes f = (f .text, f .keeps, f .few, f .short)
+
+-- ---- 5. "An accepted text comes with its count of values, which equals the count in the decoded value."
+
+-- bencode::check
+module _ (s : List ℕ) (r : Checked) (c : countPaper r ≡ checkOf s) where
+  pub decode-exact : (n : ℕ) → countPaper r ≡ taken n ↔ ((v : Value) × Encodes s v × (count v ≡ n))
+  decode-exact n = (
+    λ e. let x = exactly s .only n (sym c ∙ e) in (x .0, encodes (x .1), x .2),
+    λ x. c ∙ exactly s .every (x .0) (fine (x .1)) ∙ ap taken (x .2),
+  )
+
+-- and a text is the encoding of one value at most
+pub one-value : (s : List ℕ) (v w : Value) → Encodes s v → Encodes s w → v ≡ w
+one-value s v w e f =
+    let a : decode s ≡ taken v = fine-taken s v (fine e) in
+    let b : decode s ≡ taken w = fine-taken s w (fine f) in
+    cc
+
+-- ---- 6. "A torrent or reply is taken exactly when its bytes are the BEP 3 encoding of a value that keeps the rules."
+
+-- metainfo::read
+module _ (s : List ℕ) (r : Reading) (c : torrentPaper r ≡ torrentOf s) where
+  pub torrent-exact : ((x : Torrent) × (torrentPaper r ≡ taken x)) ↔ ((v : Value) × (t : Said) × Encodes s v × IsTorrent v t)
+  torrent-exact = (
+    λ x. let h = torrents.torrent-exact s .only (x .0) (sym c ∙ x .1) in (h .0, h .1, encodes (h .2), h .3),
+    λ h. let x = torrents.torrent-exact s .every (h .0) (h .1) (fine (h .2)) (h .3) in (x .0, c ∙ x .1),
+  )
+
+  -- and the fields handed back are that value's: strings as the very part of the text, info as its dictionary is written, and the files one by one
+  pub torrent-fields : (x : Torrent) → torrentPaper r ≡ taken x → (v : Value) (t : Said) → Encodes s v → IsTorrent v t
+      → (bytesOf s (x .announce) ≡ t .announce)
+      × (bytesOf s (x .info) ≡ encode (dict (t .info)))
+      × (bytesOf s (x .name) ≡ t .name)
+      × (bytesOf s (x .pieces) ≡ t .pieces)
+      × (x .«piece_length» ≡ t .piece-length)
+      × (x .«piece_count» ≡ t .count)
+      × (x .content .single ≡ isSingle (t .files))
+      × (x .content .files ≡ length (lengthsIn (t .files)))
+      × (x .content .total ≡ sum (lengthsIn (t .files)))
+      × ((w : Value) × Has (t .info) (filesUnder (t .files)) w × StandsAt s (x .content .place) w)
+      × EachAt s (x .content .place + 1) (t .files)
+  torrent-fields x e v t n i =
+      let h = torrents.torrent-exact s .every v t (fine n) i in
+      let q : taken (h .0) ≡ taken x = sym (c ∙ h .1) ∙ e in
+      let z : h .0 ≡ x = cc in
+      let w = subst (λ (y : Torrent). Shows s y t) z (h .2) in
+      let f = w .files in
+      (w .announce, w .info, w .name, w .pieces, w .piece-length, w .count, f .one, f .files, f .total, f .place, f .each)
+
+-- a value says one thing as a torrent
+pub torrent-says-one : (s : List ℕ) (v : Value) (t u : Said) → Encodes s v → IsTorrent v t → IsTorrent v u → t ≡ u
+torrent-says-one s v t u e i j = said.said-determined v 32 t u (e .1) i j
+
+-- tracker::read
+module _ (s : List ℕ) (r : Reply) (c : replyPaper r ≡ map counted (replyOf s)) where
+  replied : (o : Outcome (Answer (List Entry))) → map counted o ≡ map counted (replyOf s) → replyOf s ≡ o → (x : Answer ℕ) → replyPaper r ≡ taken x → (y : Answer (List Entry)) × (replyOf s ≡ taken y) × (x ≡ counted y)
+  replied (taken y) e d x p =
+      let q : taken x ≡ taken (counted y) = sym p ∙ c ∙ sym e in
+      (y, d, cc)
+  replied (refused n k) e d x p =
+      let q : taken x ≡ refused n k = sym p ∙ c ∙ sym e in
+      absurd (let z : _≡_ {A = ℕ} 0 1 = cc in omega arith)
+
+  pub reply-exact : ((x : Answer ℕ) × (replyPaper r ≡ taken x)) ↔ ((v : Value) × (t : Told) × Encodes s v × IsReply v t)
+  reply-exact = (
+    λ x. let y = replied (replyOf s) refl refl (x .0) (x .1) in let h = reply-only s (y .0) (y .1) in (h .0, h .1, encodes (h .2), h .3),
+    λ h. let y = reply-every s (h .0) (h .1) (fine (h .2)) (h .3) in (counted (y .0), c ∙ ap (map counted) (y .1)),
+  )
+
+  -- and what is handed back is that value's: why it failed, or the seconds and as many entries as it has; from the first entry's place on they can be
+  -- walked in order, and tracker::peer gives each by its number
+  pub reply-fields : (x : Answer ℕ) → replyPaper r ≡ taken x → (v : Value) (t : Told) → Encodes s v → IsReply v t
+      → (y : Answer (List Entry)) × (x ≡ counted y) × Shown s y t × (entriesIn x ≡ saidEntries t) × Walked s y
+      × ((n : ℕ) (f : peer.Found) → peerPaper f ≡ then (replyOf s) (nthOf n) → peerPaper f ≡ nthOf n y)
+  reply-fields x p v t e i =
+      let y = replied (replyOf s) refl refl x p in
+      let h = reply-every s v t (fine e) i in
+      let q : taken (h .0) ≡ taken (y .0) = sym (h .1) ∙ y .1 in
+      let z : h .0 ≡ y .0 = cc in
+      let w = subst (λ (a : Answer (List Entry)). Shown s a t) z (h .2) in
+      (y .0, y .2, w, ap entriesIn (y .2) ∙ entries-said s (y .0) t w, walked s (y .0) (y .1), λ n f d. d ∙ ap (λ (o : Outcome (Answer (List Entry))). then o (nthOf n)) (y .1))
+
+-- ---- 7. "What is written reads back": "Reading gives the fields back; rewriting a read text that has only those keys [..] gives its bytes."
+
+-- every frame writer of wire::write; m is the message, o the output as it was lent. Past the frame it stays
+pub frame-reads-back : (m : Message (List ℕ)) → Fields m → (o out : List ℕ) (r : Put) → left (putPaper r) out ≡ writeOf (body m) o → (q : ℕ) → putPaper r ≡ taken q
+    → (out ≡ frameOf m ++ drop q o) × ((at : Message span.Part) × (readOf out ≡ taken (found at q)) × (meant out at ≡ m))
+frame-reads-back m f o out r c q t = let b = framing.frame-reads-back m f o r c t in (b .0, (b .1 .at, b .1 .answer, b .1 .means))
+
+-- wire::write::keepalive
+pub keepalive-reads-back : (o out : List ℕ) (r : Put) → left (putPaper r) out ≡ putOf (frameOf keepalive) 0 o → (q : ℕ) → putPaper r ≡ taken q
+    → (out ≡ frameOf keepalive ++ drop q o) × ((at : Message span.Part) × (readOf out ≡ taken (found at q)) × (meant out at ≡ keepalive))
+keepalive-reads-back o out r c q t = let b = framing.keepalive-reads-back o r c t in (b .0, (b .1 .at, b .1 .answer, b .1 .means))
+
+-- wire::read_frame: the bytes s begin with a frame of q bytes that says m exactly when they begin with m as it is written, m being one that may be sent
+module _ (s : List ℕ) (bytes : Bytes s) (m : Message (List ℕ)) (q : ℕ) where
+  within : (at : Message span.Part) → Cause s (taken (found at q)) → q ≤ length s
+  within at (inl (z, k, u)) = omega (arith, z .0, u)
+  within at (inr (a, r, k, u)) = omega (arith, a .2, u)
+
+  pub frame-exact : ((at : Message span.Part) × (readOf s ≡ taken (found at q)) × (meant s at ≡ m))
+      ↔ ((s ≡ frameOf m ++ drop q s) × (q ≡ length (frameOf m)) × Fields m × Lengths (body m))
+  frame-exact = (
+    λ (at, e, d).
+        let t = frames.taken-was-written s bytes at q e in
+        let u : frameOf m ≡ take q s = ap frameOf (sym d) ∙ t .0 in
+        let k = subst (λ (n : Message (List ℕ)). Fields n × Lengths (body n)) d (t .1) in
+        let l = within at (decided.exactly s (taken (found at q)) .0 e) in
+        (sym (ap (λ (l : List ℕ). l ++ drop q s) u ∙ take-append-drop q s), sym (ap length u ∙ length-take-le q s l), k .0, k .1),
+    λ (e, l, f, k).
+        let r = frames.reads-back m (f, k) (drop q s) in
+        (r .at, ap readOf e ∙ r .answer ∙ ap (λ (n : ℕ). taken (found (r .at) n)) (sym l), ap (λ (t : List ℕ). meant t (r .at)) e ∙ r .means),
+  )
+
+-- frames written one after the other are read one after the other, each from where the one before ended, whatever follows
+pub stream-reads-back : (ms : List (Message (List ℕ))) → KeepAll ms → (rest : List ℕ) → streamOf (length ms) (encodeAll ms ++ rest) ≡ record { messages = ms; after = rest }
+stream-reads-back = frames.stream-reads-back
+
+-- wire::write::handshake, and wire::read_handshake on what it wrote: zeros in the free bytes, the hash that was asked for, the peer id
+pub handshake-reads-back : (info peerId : List ℕ) → length info ≡ 20 → length peerId ≡ 20 → (o out : List ℕ) (r : Put)
+    → left (putPaper r) out ≡ putOf (handshake zeros info peerId) 0 o → (q : ℕ) → putPaper r ≡ taken q
+    → (out ≡ handshake zeros info peerId ++ drop q o)
+    × (shakeOf info out ≡ taken (hello (record { from = 20; len = 8 }) (record { from = 48; len = 20 }) q))
+    × (take 8 (drop 20 out) ≡ zeros) × (take 20 (drop 48 out) ≡ peerId)
+handshake-reads-back info peerId i p o out r c q t =
+    let b = framing.written-handshake-reads-back info peerId i p o r c t in
+    (framing.put-at-start (handshake zeros info peerId) o r c t .1, b .0, b .1, b .2)
+
+-- wire::read_handshake: greeted exactly when the first 20 bytes are 19 and the name, 68 bytes are there and the hash is the one asked for
+pub handshake-exact : (info s : List ℕ) → length info ≡ 20 → (free peerId : span.Part) (used : ℕ)
+    → shakeOf info s ≡ taken (hello free peerId used)
+    ↔ (((i : ℕ) → i < 20 → i < length s → getD name i 0 ≡ getD s i 0) × (68 ≤ length s) × (take 20 (drop 28 s) ≡ info)
+    × (free ≡ record { from = 20; len = 8 }) × (peerId ≡ record { from = 48; len = 20 }) × (used ≡ 68))
+handshake-exact info s l free peerId used =
+    let x = shaking.shake-exactly info s l (taken (hello free peerId used)) in (
+      λ e. let h = x .0 e in (h .0 .0, h .0 .1, h .0 .2, h .1, h .2, h .3),
+      λ (n, b, h, f, p, u). x .1 ((n, b, h), f, p, u),
+    )
+
+-- tracker::writing::write; n seconds and the entries bs
+pub reply-reads-back : (n : ℕ) (bs o out : List ℕ) (r : Put) → left (putPaper r) out ≡ replyWrite n bs o → (q : ℕ) → putPaper r ≡ taken q
+    → (take q out ≡ encode (dict (entry interval (int (pos n)) (entry peers (str bs) empty))))
+    × (drop q out ≡ drop q o)
+    × ((p : ℕ) × (replyOf (take q out) ≡ taken (compact n p (sixes bs))) × (take (length bs) (drop p (take q out)) ≡ bs))
+reply-reads-back n bs o out r c q t =
+    let b = replies.reply-reads-back n bs o r c q t in
+    let l = b .0 in
+    let w : take q out ≡ textOf n bs = ap (λ (k : ℕ). take k out) l ∙ b .1 .there in
+    let z : 0 + length (textOf n bs) ≡ q = omega (arith, l) in
+    let d : drop q out ≡ drop q o = rw z at (b .1 .past) in
+    (w, d, (b .2 .0, ap replyOf w ∙ b .2 .1, ap (λ (k : List ℕ). take (length bs) (drop (b .2 .0) k)) w ∙ b .2 .2))
+
+-- a reply with only those keys, its peers a string, that is read: what was read, written again, is that text
+pub reply-rewrite : (s : List ℕ) (v w : Value) → Encodes s (dict (entry interval v (entry peers w empty))) → (n p : ℕ) (l : List Entry) → replyOf s ≡ taken (compact n p l)
+    → (bs : List ℕ) × (take (length bs) (drop p s) ≡ bs) × (l ≡ sixes bs) × (encode (dict (entry interval (int (pos n)) (entry peers (str bs) empty))) ≡ s)
+reply-rewrite s v w e n p l d = replies.rewrite s v w (fine e) n p l d
+
+-- authoring::write; f are the fields
+pub torrent-reads-back : (f : Torrents) (o out : List ℕ) (r : Put) → left (putPaper r) out ≡ authorOf f o → (q : ℕ) → putPaper r ≡ taken q
+    → (take q out ≡ encode (dict (entry announceKey (str (f .announce)) (entry infoKey (dict (entry lengthKey (int (pos (f .length))) (entry nameKey (str (f .name))
+    (entry pieceLengthKey (int (pos (f .pieceLength))) (entry piecesKey (str (f .pieces)) empty))))) empty))))
+    × (drop q out ≡ drop q o)
+    × ((x : Torrent) × (torrentOf (take q out) ≡ taken x) × (x .content .single ≡ true)
+    × (fields (bytesOf (take q out) (x .announce)) (bytesOf (take q out) (x .name)) (x .«piece_length») (bytesOf (take q out) (x .pieces)) (x .content .total) ≡ f))
+torrent-reads-back f o out r c q t =
+    let b = authored.torrent-reads-back f o r c q t in
+    (b .text, b .past, (b .torrent, b .read, b .gives .single, b .gives .same))
+
+-- a torrent with only those keys that is read: written from what was read it is that text again, wherever there is room
+pub torrent-rewrite : (s : List ℕ) (a l n pl ps : Value)
+    → Encodes s (dict (entry announceKey a (entry infoKey (dict (entry lengthKey l (entry nameKey n (entry pieceLengthKey pl (entry piecesKey ps empty))))) empty)))
+    → (x : Torrent) → torrentOf s ≡ taken x
+    → (x .content .single ≡ true)
+    × ((o : List ℕ) → authorOf (fields (bytesOf s (x .announce)) (bytesOf s (x .name)) (x .«piece_length») (bytesOf s (x .pieces)) (x .content .total)) o ≡ putOf s 0 o)
+torrent-rewrite s a l n pl ps e x d = let b = again.rewrite s (topWith a (infoWith l n pl ps)) (fine e) (only a l n pl ps) x d in (b .0, b .2)
+
+-- ---- 8. "The info hash is SHA-1 (FIPS 180-4) of info's bytes as they stand. A piece check answers yes exactly when the digests agree."
+
+-- metainfo::info_hash
+pub info-hash : (s o out : List ℕ) (r : Hashed) → hashing (hashPaper r) out ≡ infoHashOf s o → (v : Value) (t : Said) → Encodes s v → IsTorrent v t
+    → (hashPaper r ≡ taken tt) × (out ≡ sha1 (encode (dict (t .info))))
+info-hash s o out r c v t e i =
+    let h = c ∙ torrents.info-hash s o v t (fine e) i in
+    (ap (λ (x : Hashing). x .answer) h, ap (λ (x : Hashing). x .out) h)
+
+-- contents::check_piece: yes exactly when the text is a torrent that has piece n, m is as long as that piece, and its digest is the n-th 20 bytes of pieces;
+-- no exactly when all of this holds but the last
+module _ (s : List ℕ) (n : ℕ) (m : List ℕ) (r : piece.Checked) (c : checkPaper r ≡ pieceOf s n m) where
+  abbrev pub IsPiece : Said → Type 0
+  IsPiece t = (n < t .count) × (length m ≡ min (t .piece-length) (sum (lengthsIn (t .files)) - n * t .piece-length))
+
+  abbrev pub Agrees : Said → Type 0
+  Agrees t = sha1 m ≡ take 20 (drop (20 * n) (t .pieces))
+
+  pub piece-check : checkPaper r ≡ taken true ↔ ((v : Value) × (t : Said) × Encodes s v × IsTorrent v t × IsPiece t × Agrees t)
+  piece-check = (
+    λ e. let h = piece-yes s n m (sym c ∙ e) in (h .0, h .1, encodes (h .2), h .3, (h .4, h .5), h .6),
+    λ (v, t, e, i, p, a). c ∙ piece-tells s n m v t (fine e) i (p .0) (p .1) .0 a,
+  )
+
+  pub piece-check-no : checkPaper r ≡ taken false ↔ ((v : Value) × (t : Said) × Encodes s v × IsTorrent v t × IsPiece t × (Agrees t → ⊥))
+  piece-check-no = (
+    λ e. let h = piece-no s n m (sym c ∙ e) in (h .0, h .1, encodes (h .2), h .3, (h .4, h .5), h .6),
+    λ (v, t, e, i, p, a). c ∙ piece-tells s n m v t (fine e) i (p .0) (p .1) .1 a,
+  )
+
+-- ---- 9. "Blocks map to file parts exactly."
+
+-- blocks::block: q + n bytes from offset q of piece p, of files of the lengths ns one after the other. The parts of a taken block are its bytes, once each and in
+-- order; none is empty, each lies within its file, and files ascend. They stand at the output's start as file, offset and length each, and past them it stays
+pub block-covers : (ns : List ℕ) (pl p q n : ℕ) (o out : List ℕ) (r : Parts) → parting (partsPaper r) out ≡ partsIn (blockOf (joined ns) pl p q n) o → (k : ℕ) → partsPaper r ≡ taken k
+    → (ps : List Part) × (k ≡ length ps) × (out ≡ flat ps ++ drop (3 * k) o) × (placesOf (joined ns) ps ≡ run (p * pl + q) n) × Neat (joined ns) 0 ps
+block-covers ns pl p q n o out r c k t =
+    let b = block-parts ns pl p q n o (partsPaper r) out c k t in
+    let w = whole.block-covers (joined ns) pl (joined-laid ns pl) p q n (b .0) (b .1) in
+    (b .0, b .2, b .3, w .bytes, w .neat)
+
+-- and it is taken exactly when the numbers keep the rules for torrents, there is such a piece, the block has 1 to 16,384 bytes and ends within its piece, and
+-- there is room
+pub block-exact : (ns : List ℕ) (pl p q n : ℕ) (o out : List ℕ) (r : Parts) → parting (partsPaper r) out ≡ partsIn (blockOf (joined ns) pl p q n) o
+    → ((k : ℕ) × (partsPaper r ≡ taken k))
+    ↔ (Lawful pl ns (piecesOf (sum ns) pl) × (p < piecesOf (sum ns) pl) × (1 ≤ n) × (n ≤ 16384) × (q + n ≤ min pl (sum ns - p * pl))
+    × (3 * length (partsOf (joined ns) (p * pl + q) n) ≤ length o))
+block-exact ns pl p q n o out r c = (
+  λ (k, t). block-taken ns pl p q n o (partsPaper r) out c k t,
+  λ h. let e = block-takes ns pl p q n o h in (e .0, ap (λ (x : Parting). x .answer) c ∙ e .1),
+)
+
+-- blocks::byte: byte o of file f. Its piece and offset are its place in the joined content, and the block of that one byte is that byte of that file
+module _ (ns : List ℕ) (pl f o : ℕ) (r : Place) (c : placePaper r ≡ byteOf (joined ns) pl f o) where
+  pub byte-finds-piece : (x : Spot) → placePaper r ≡ taken x
+      → (x .piece * pl + x .offset ≡ sum (take f ns) + o) × (x .offset < pl) × (blockOf (joined ns) pl (x .piece) (x .offset) 1 ≡ taken (part f o 1 ∷ []))
+  byte-finds-piece x e = byte-found ns pl f o x (sym c ∙ e)
+
+  -- and every byte of every file has one
+  pub byte-exact : ((x : Spot) × (placePaper r ≡ taken x)) ↔ (Lawful pl ns (piecesOf (sum ns) pl) × (f < length ns) × (o < getD ns f 0))
+  byte-exact = (λ (x, e). byte-taken ns pl f o x (sym c ∙ e), λ h. let e = byte-takes ns pl f o h in (e .0, c ∙ e .1))

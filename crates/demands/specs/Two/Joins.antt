@@ -1,0 +1,200 @@
+-- What joins laws of several crates into one statement of `Two`. Assumes nothing.
+use mathlib.Core.Path.{_≡_, refl, sym, ap, _∙_, subst}
+use mathlib.Core.Bool.{Bool, true, false, cond, _&&_}
+use mathlib.Core.List.{List, [], _∷_, _++_}
+use Prim.Native.Nat.{ℕ, _+_, _-_, _*_, _/_, _%_, _≤_, _<_, min}
+use native.Mathlib.Omega.{arith}
+use native.Mathlib.Nat.{mod-lt}
+use borrow.Author.Tests.{ltb-true, eqb-true, leb-true, lt-ltb, le-leb}
+use lib.Dec.{ltb, leb, eqb}
+use lib.ListN.{length, getD, take, drop, length-drop, take-append-drop}
+use lib.Seq.{take-append-le, drop-append-le, drop-drop}
+use Rattle.refusal.specs.Paper.{Outcome, taken, refused, then}
+use Rattle.bencode.specs.Value.{Value}
+use Rattle.bencode.specs.Exact.{Fine}
+use Rattle.sha1.specs.Sha1.{sha1}
+use Rattle.sha1.specs.Digest.{same}
+use Rattle.blocks.specs.Rules.{sum, Lawful, piecesOf, lawful}
+use Rattle.blocks.specs.Spans.{Span, Part, joined, lengths, heldIn, partsOf, part, nowhere, endOf}
+use Rattle.blocks.specs.Answers.{Spot, spotAt, pieces, keeps, lies, blockOf, byteOf, flat}
+use Rattle.blocks.specs.Answers.{written as partsIn, left as parting, Left as Parting}
+use Rattle.blocks.specs.Covers.{Block}
+use Rattle.blocks.proofs.Legal.{is-lawful, lawful-is, piece-bounds}
+use Rattle.blocks.proofs.Whole.{byte-finds-piece, is-lies, lies-is}
+use Rattle.blocks.proofs.Whole.{passed as all-passed}
+use Rattle.blocks.proofs.Joined.{joined-laid, joined-start, joined-count, joined-size, joined-keeps, joined-held, joined-end}
+use Rattle.metainfo.specs.Reading.{bytesOf, readOf}
+use Rattle.metainfo.specs.declared.Torrent.{Torrent}
+use Rattle.torrents.specs.Torrent.{Said, IsTorrent, is-torrent, lengthsIn}
+use Rattle.torrents.specs.Exact.{Shows}
+use Rattle.torrents.proofs.Laws.{torrent-exact}
+use Rattle.contents.specs.Pieces.{hashPart, pieceBytes, checkIn, checkOf}
+use Rattle.contents.proofs.Facts.{then-taken}
+use Rattle.contents.proofs.Hashing.{piece-check}
+
+no-way : {A : Type 0} → _≡_ {A = ℕ} 0 1 → A
+no-way e = absurd (omega arith)
+
+-- ---- the check of a piece
+
+-- the n-th 20 bytes of pieces, in the text and in what the torrent says
+hash-bytes : (s : List ℕ) (x : Torrent) (t : Said) (n : ℕ) → bytesOf s (x .pieces) ≡ t .pieces → length (t .pieces) ≡ 20 * t .count → n < t .count
+    → bytesOf s (hashPart n (x .pieces)) ≡ take 20 (drop (20 * n) (t .pieces))
+hash-bytes s x t n e l h =
+    let rest = drop (x .pieces .from) s in
+    let len = x .pieces .len in
+    let k : length (take len rest) ≡ 20 * t .count = ap length e ∙ l in
+    let a : 20 * n ≤ length (take len rest) = omega (arith, k) in
+    let b : 20 ≤ length (drop (20 * n) (take len rest)) = omega (arith, k, length-drop (20 * n) (take len rest)) in
+    ap (take 20) (sym (drop-drop (20 * n) (x .pieces .from) s) ∙ ap (drop (20 * n)) (sym (take-append-drop len rest)) ∙ drop-append-le (20 * n) (take len rest) (drop len rest) a)
+    ∙ take-append-le 20 (drop (20 * n) (take len rest)) (drop len rest) b
+    ∙ ap (λ (y : List ℕ). take 20 (drop (20 * n) y)) e
+
+hashes-of : (v : Value) (t : Said) → IsTorrent v t → length (t .pieces) ≡ 20 * t .count
+hashes-of v t (is-torrent es u a i h) = h .sized .hashes
+
+module _ (s : List ℕ) (n : ℕ) (m : List ℕ) where
+  abbrev held : Torrent → ℕ
+  held x = pieceBytes (x .content .total) (x .«piece_length») n
+
+  -- what the checks before the digest leave
+  passed : (x : Torrent) (b : Bool) → checkIn s n m x ≡ taken b → (n < x .«piece_count») × (length m ≡ held x)
+  passed x b = go (ltb n (x .«piece_count»)) refl (leb (length m) 16777216) (eqb (length m) (held x)) refl
+    where
+      go : (i : Bool) → ltb n (x .«piece_count») ≡ i → (j k : Bool) → eqb (length m) (held x) ≡ k
+          → then (cond i (taken (hashPart n (x .pieces))) (refused 31 0)) (λ y. cond j (cond k (taken (same (sha1 m) (bytesOf s y))) (refused 34 0)) (refused 8 0)) ≡ taken b
+          → (n < x .«piece_count») × (length m ≡ held x)
+      go true f true true g e = (ltb-true n (x .«piece_count») f, eqb-true (length m) (held x) g)
+      go true f true false g e = no-way (cc)
+      go true f false k g e = no-way (cc)
+      go false f j k g e = no-way (cc)
+
+  abbrev Long : Said → Type 0
+  Long t = length m ≡ min (t .piece-length) (sum (lengthsIn (t .files)) - n * t .piece-length)
+
+  abbrev Agrees : Said → Type 0
+  Agrees t = sha1 m ≡ take 20 (drop (20 * n) (t .pieces))
+
+  -- between what was read and what is said
+  module _ (x : Torrent) (v : Value) (t : Said) (i : IsTorrent v t) (w : Shows s x t) where
+    as-long : held x ≡ min (t .piece-length) (sum (lengthsIn (t .files)) - n * t .piece-length)
+    as-long = ap (λ (k : ℕ). pieceBytes k (x .«piece_length») n) (w .files .total) ∙ ap (λ (k : ℕ). pieceBytes (sum (lengthsIn (t .files))) k n) (w .piece-length)
+
+    as-hashed : n < t .count → bytesOf s (hashPart n (x .pieces)) ≡ take 20 (drop (20 * n) (t .pieces))
+    as-hashed h = hash-bytes s x t n (w .pieces) (hashes-of v t i) h
+
+  pub piece-tells : (v : Value) (t : Said) → Fine s v → IsTorrent v t → n < t .count → Long t → (Agrees t → checkOf s n m ≡ taken true) × ((Agrees t → ⊥) → checkOf s n m ≡ taken false)
+  piece-tells v t f i h l =
+      let y = torrent-exact s .every v t f i in
+      let x = y .0 in
+      let k : n < x .«piece_count» = omega (arith, h, y .2 .count) in
+      let e = l ∙ sym (as-long x v t i (y .2)) in
+      let g = as-hashed x v t i (y .2) h in
+      (λ a. piece-check s n m .every x (y .1) k e (a ∙ sym g), λ a. piece-check s n m .other x (y .1) k e (λ d. a (d ∙ g)))
+
+  told : (b : Bool) → checkOf s n m ≡ taken b → (v : Value) × (t : Said) × Fine s v × IsTorrent v t × (n < t .count) × Long t
+  told b e =
+      let y = then-taken (readOf s) (checkIn s n m) b e in
+      let p = passed (y .0) b (y .2) in
+      let h = torrent-exact s .only (y .0) (y .1) in
+      (h .0, h .1, h .2, h .3, omega (arith, p .0, h .4 .count), p .1 ∙ as-long (y .0) (h .0) (h .1) (h .3) (h .4))
+
+  pub piece-yes : checkOf s n m ≡ taken true → (v : Value) × (t : Said) × Fine s v × IsTorrent v t × (n < t .count) × Long t × Agrees t
+  piece-yes e =
+      let h = piece-check s n m .only e in
+      let x = torrent-exact s .only (h .0) (h .1) in
+      let k : n < x .1 .count = omega (arith, h .2, x .4 .count) in
+      (x .0, x .1, x .2, x .3, k, h .3 ∙ as-long (h .0) (x .0) (x .1) (x .3) (x .4), h .4 ∙ as-hashed (h .0) (x .0) (x .1) (x .3) (x .4) k)
+
+  pub piece-no : checkOf s n m ≡ taken false → (v : Value) × (t : Said) × Fine s v × IsTorrent v t × (n < t .count) × Long t × (Agrees t → ⊥)
+  piece-no e =
+      let h = told false e in
+      (h .0, h .1, h .2, h .3, h .4, h .5, λ a. let q = piece-tells (h .0) (h .1) (h .2) (h .3) (h .4) (h .5) .0 a in let z : _≡_ {A = ℕ} 0 1 = cc in omega arith)
+
+-- ---- blocks of files one after the other
+
+module _ (ns : List ℕ) (pl : ℕ) where
+  abbrev ss : List Span
+  ss = joined ns
+
+  count-is : pieces ss pl ≡ piecesOf (sum ns) pl
+  count-is = let e : endOf ss ≡ sum ns = omega (arith, joined-end 0 ns) in ap (λ (k : ℕ). piecesOf k pl) e
+
+  keeps-is : keeps ss pl ≡ lawful pl ns (piecesOf (sum ns) pl)
+  keeps-is = joined-keeps ns pl
+
+  module _ (p q n : ℕ) (o : List ℕ) where
+    parts-go : (b : Outcome (List Part)) (a : Outcome ℕ) (out : List ℕ) → parting a out ≡ partsIn b o → (k : ℕ) → a ≡ taken k
+        → (ps : List Part) × (b ≡ taken ps) × (k ≡ length ps) × (out ≡ flat ps ++ drop (3 * k) o) × (3 * length ps ≤ length o)
+    unfolding partsIn
+    parts-go (refused x y) a out c k t = let d : refused x y ≡ taken k = sym (ap (λ (l : Parting). l .answer) c) ∙ t in no-way (cc)
+    parts-go (taken ps) a out c k t = by (leb (3 * length ps) (length o)) refl c
+      where
+        by : (b : Bool) → leb (3 * length ps) (length o) ≡ b → parting a out ≡ cond b (parting (taken (length ps)) (flat ps ++ drop (3 * length ps) o)) (parting (refused 37 0) o)
+            → (qs : List Part) × (taken ps ≡ taken qs) × (k ≡ length qs) × (out ≡ flat qs ++ drop (3 * k) o) × (3 * length qs ≤ length o)
+        by true h d =
+            let f : taken k ≡ taken (length ps) = sym t ∙ ap (λ (l : Parting). l .answer) d in
+            let g : k ≡ length ps = cc in
+            (ps, refl, g, ap (λ (l : Parting). l .out) d ∙ ap (λ (i : ℕ). flat ps ++ drop (3 * i) o) (sym g), leb-true (3 * length ps) (length o) h)
+        by false h d = let f : refused 37 0 ≡ taken k = sym (ap (λ (l : Parting). l .answer) d) ∙ t in no-way (cc)
+
+    pub block-parts : (a : Outcome ℕ) (out : List ℕ) → parting a out ≡ partsIn (blockOf ss pl p q n) o → (k : ℕ) → a ≡ taken k
+        → (ps : List Part) × (blockOf ss pl p q n ≡ taken ps) × (k ≡ length ps) × (out ≡ flat ps ++ drop (3 * k) o) × (3 * length ps ≤ length o)
+    block-parts = parts-go (blockOf ss pl p q n)
+
+    abbrev Taken : Type 0
+    Taken = Lawful pl ns (piecesOf (sum ns) pl) × (p < piecesOf (sum ns) pl) × (1 ≤ n) × (n ≤ 16384) × (q + n ≤ min pl (sum ns - p * pl)) × (3 * length (partsOf ss (p * pl + q) n) ≤ length o)
+
+    pub block-taken : (a : Outcome ℕ) (out : List ℕ) → parting a out ≡ partsIn (blockOf ss pl p q n) o → (k : ℕ) → a ≡ taken k → Taken
+    unfolding blockOf
+    block-taken a out c k t =
+        let b = block-parts a out c k t in
+        let h = all-passed (keeps ss pl) (ltb p (pieces ss pl)) (lies (heldIn ss pl p) q n) (partsOf ss (p * pl + q) n) (b .0) (b .1) in
+        let l = lies-is (heldIn ss pl p) q n (h .2) in
+        let j = ltb-true p (pieces ss pl) (h .1) in (
+          lawful-is pl ns (piecesOf (sum ns) pl) (sym keeps-is ∙ h .0),
+          omega (arith, j, count-is),
+          l .some,
+          l .most,
+          omega (arith, l .ends, joined-held ns pl p),
+          subst (λ (x : List Part). 3 * length x ≤ length o) (sym (h .3)) (b .4),
+        )
+
+    pub block-takes : Taken → (k : ℕ) × (partsIn (blockOf ss pl p q n) o .answer ≡ taken k)
+    unfolding blockOf partsIn
+    block-takes (f, h, a, b, e, g) =
+        let i : p < pieces ss pl = omega (arith, h, count-is) in
+        let l : Block (heldIn ss pl p) q n = record { some = a; most = b; ends = omega (arith, e, joined-held ns pl p) } in
+        (length (partsOf ss (p * pl + q) n), rw (keeps-is ∙ is-lawful pl ns (piecesOf (sum ns) pl) f, lt-ltb p (pieces ss pl) i, is-lies (heldIn ss pl p) q n l, le-leb (3 * length (partsOf ss (p * pl + q) n)) (length o) g))
+
+  module _ (f o : ℕ) where
+    abbrev There : Type 0
+    There = Lawful pl ns (piecesOf (sum ns) pl) × (f < length ns) × (o < getD ns f 0)
+
+    pub byte-taken : (x : Spot) → byteOf ss pl f o ≡ taken x → There
+    unfolding byteOf
+    byte-taken x e =
+        let h = all-passed (keeps ss pl) (ltb f (length ss)) (ltb o (getD ss f nowhere .size)) (spotAt pl (getD ss f nowhere .start + o)) x e in
+        let a = ltb-true f (length ss) (h .1) in
+        let b = ltb-true o (getD ss f nowhere .size) (h .2) in
+        (lawful-is pl ns (piecesOf (sum ns) pl) (sym keeps-is ∙ h .0), omega (arith, a, joined-count 0 ns), omega (arith, b, joined-size 0 f ns))
+
+    pub byte-takes : There → (x : Spot) × (byteOf ss pl f o ≡ taken x)
+    unfolding byteOf
+    byte-takes (h, a, b) =
+        let i : f < length ss = omega (arith, a, joined-count 0 ns) in
+        let j : o < getD ss f nowhere .size = omega (arith, b, joined-size 0 f ns) in
+        (spotAt pl (getD ss f nowhere .start + o), rw (keeps-is ∙ is-lawful pl ns (piecesOf (sum ns) pl) h, lt-ltb f (length ss) i, lt-ltb o (getD ss f nowhere .size) j))
+
+    pub byte-found : (x : Spot) → byteOf ss pl f o ≡ taken x
+        → (x .piece * pl + x .offset ≡ sum (take f ns) + o) × (x .offset < pl) × (blockOf ss pl (x .piece) (x .offset) 1 ≡ taken (part f o 1 ∷ []))
+    unfolding byteOf
+    byte-found x e =
+        let b = byte-finds-piece ss pl (joined-laid ns pl) f o x e in
+        let h = byte-taken x e in
+        let y = all-passed (keeps ss pl) (ltb f (length ss)) (ltb o (getD ss f nowhere .size)) (spotAt pl (getD ss f nowhere .start + o)) x e .3 in
+        let k = piece-bounds pl (h .0 .piece) in (
+          b .0 ∙ omega (arith, joined-start 0 f ns (h .1)),
+          subst (λ (z : Spot). z .offset < pl) y (mod-lt (getD ss f nowhere .start + o) {m = pl} (omega (arith, k))),
+          b .1,
+        )
