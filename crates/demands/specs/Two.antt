@@ -94,7 +94,7 @@ encodes f = (f .text, f .keeps, f .few, f .short)
 
 -- ---- 5. "An accepted text comes with its count of values, which equals the count in the decoded value."
 
--- bencode::check
+-- of bencode::check
 module _ (s : List ℕ) (r : Checked) (c : countPaper r ≡ checkOf s) where
   pub decode-exact : (n : ℕ) → countPaper r ≡ taken n ↔ ((v : Value) × Encodes s v × (count v ≡ n))
   decode-exact n = (
@@ -111,7 +111,7 @@ one-value s v w e f =
 
 -- ---- 6. "A torrent or reply is taken exactly when its bytes are the BEP 3 encoding of a value that keeps the rules."
 
--- metainfo::read
+-- of metainfo::read
 module _ (s : List ℕ) (r : Reading) (c : torrentPaper r ≡ torrentOf s) where
   pub torrent-exact : ((x : Torrent) × (torrentPaper r ≡ taken x)) ↔ ((v : Value) × (t : Said) × Encodes s v × IsTorrent v t)
   torrent-exact = (
@@ -144,7 +144,7 @@ module _ (s : List ℕ) (r : Reading) (c : torrentPaper r ≡ torrentOf s) where
 pub torrent-says-one : (s : List ℕ) (v : Value) (t u : Said) → Encodes s v → IsTorrent v t → IsTorrent v u → t ≡ u
 torrent-says-one s v t u e i j = said.said-determined v 32 t u (e .1) i j
 
--- tracker::read
+-- of tracker::read
 module _ (s : List ℕ) (r : Reply) (c : replyPaper r ≡ map counted (replyOf s)) where
   replied : (o : Outcome (Answer (List Entry))) → map counted o ≡ map counted (replyOf s) → replyOf s ≡ o → (x : Answer ℕ) → replyPaper r ≡ taken x → (y : Answer (List Entry)) × (replyOf s ≡ taken y) × (x ≡ counted y)
   replied (taken y) e d x p =
@@ -180,12 +180,12 @@ pub frame-reads-back : (m : Message (List ℕ)) → Fields m → (o out : List �
     → (out ≡ frameOf m ++ drop q o) × ((at : Message span.Part) × (readOf out ≡ taken (found at q)) × (meant out at ≡ m))
 frame-reads-back m f o out r c q t = let b = framing.frame-reads-back m f o r c t in (b .0, (b .1 .at, b .1 .answer, b .1 .means))
 
--- wire::write::keepalive
+-- of wire::write::keepalive
 pub keepalive-reads-back : (o out : List ℕ) (r : Put) → left (putPaper r) out ≡ putOf (frameOf keepalive) 0 o → (q : ℕ) → putPaper r ≡ taken q
     → (out ≡ frameOf keepalive ++ drop q o) × ((at : Message span.Part) × (readOf out ≡ taken (found at q)) × (meant out at ≡ keepalive))
 keepalive-reads-back o out r c q t = let b = framing.keepalive-reads-back o r c t in (b .0, (b .1 .at, b .1 .answer, b .1 .means))
 
--- wire::read_frame: the bytes s begin with a frame of q bytes that says m exactly when they begin with m as it is written, m being one that may be sent
+-- of wire::read_frame: the bytes s begin with a frame of q bytes that says m exactly when they begin with m as it is written, m being one that may be sent
 module _ (s : List ℕ) (bytes : Bytes s) (m : Message (List ℕ)) (q : ℕ) where
   within : (at : Message span.Part) → Cause s (taken (found at q)) → q ≤ length s
   within at (inl (z, k, u)) = omega (arith, z .0, u)
@@ -209,7 +209,7 @@ module _ (s : List ℕ) (bytes : Bytes s) (m : Message (List ℕ)) (q : ℕ) whe
 pub stream-reads-back : (ms : List (Message (List ℕ))) → KeepAll ms → (rest : List ℕ) → streamOf (length ms) (encodeAll ms ++ rest) ≡ record { messages = ms; after = rest }
 stream-reads-back = frames.stream-reads-back
 
--- wire::write::handshake, and wire::read_handshake on what it wrote: zeros in the free bytes, the hash that was asked for, the peer id
+-- of wire::write::handshake, and wire::read_handshake on what it wrote: zeros in the free bytes, the hash that was asked for, the peer id
 pub handshake-reads-back : (info peerId : List ℕ) → length info ≡ 20 → length peerId ≡ 20 → (o out : List ℕ) (r : Put)
     → left (putPaper r) out ≡ putOf (handshake zeros info peerId) 0 o → (q : ℕ) → putPaper r ≡ taken q
     → (out ≡ handshake zeros info peerId ++ drop q o)
@@ -219,7 +219,7 @@ handshake-reads-back info peerId i p o out r c q t =
     let b = framing.written-handshake-reads-back info peerId i p o r c t in
     (framing.put-at-start (handshake zeros info peerId) o r c t .1, b .0, b .1, b .2)
 
--- wire::read_handshake: greeted exactly when the first 20 bytes are 19 and the name, 68 bytes are there and the hash is the one asked for
+-- of wire::read_handshake: greeted exactly when the first 20 bytes are 19 and the name, 68 bytes are there and the hash is the one asked for
 pub handshake-exact : (info s : List ℕ) → length info ≡ 20 → (free peerId : span.Part) (used : ℕ)
     → shakeOf info s ≡ taken (hello free peerId used)
     ↔ (((i : ℕ) → i < 20 → i < length s → getD name i 0 ≡ getD s i 0) × (68 ≤ length s) × (take 20 (drop 28 s) ≡ info)
@@ -230,7 +230,7 @@ handshake-exact info s l free peerId used =
       λ (n, b, h, f, p, u). x .1 ((n, b, h), f, p, u),
     )
 
--- tracker::writing::write; n seconds and the entries bs
+-- of tracker::writing::write; n seconds and the entries bs
 pub reply-reads-back : (n : ℕ) (bs o out : List ℕ) (r : Put) → left (putPaper r) out ≡ replyWrite n bs o → (q : ℕ) → putPaper r ≡ taken q
     → (take q out ≡ encode (dict (entry interval (int (pos n)) (entry peers (str bs) empty))))
     × (drop q out ≡ drop q o)
@@ -248,7 +248,7 @@ pub reply-rewrite : (s : List ℕ) (v w : Value) → Encodes s (dict (entry inte
     → (bs : List ℕ) × (take (length bs) (drop p s) ≡ bs) × (l ≡ sixes bs) × (encode (dict (entry interval (int (pos n)) (entry peers (str bs) empty))) ≡ s)
 reply-rewrite s v w e n p l d = replies.rewrite s v w (fine e) n p l d
 
--- authoring::write; f are the fields
+-- of authoring::write; f are the fields
 pub torrent-reads-back : (f : Torrents) (o out : List ℕ) (r : Put) → left (putPaper r) out ≡ authorOf f o → (q : ℕ) → putPaper r ≡ taken q
     → (take q out ≡ encode (dict (entry announceKey (str (f .announce)) (entry infoKey (dict (entry lengthKey (int (pos (f .length))) (entry nameKey (str (f .name))
     (entry pieceLengthKey (int (pos (f .pieceLength))) (entry piecesKey (str (f .pieces)) empty))))) empty))))
@@ -269,14 +269,14 @@ torrent-rewrite s a l n pl ps e x d = let b = again.rewrite s (topWith a (infoWi
 
 -- ---- 8. "The info hash is SHA-1 (FIPS 180-4) of info's bytes as they stand. A piece check answers yes exactly when the digests agree."
 
--- metainfo::info_hash
+-- of metainfo::info_hash
 pub info-hash : (s o out : List ℕ) (r : Hashed) → hashing (hashPaper r) out ≡ infoHashOf s o → (v : Value) (t : Said) → Encodes s v → IsTorrent v t
     → (hashPaper r ≡ taken tt) × (out ≡ sha1 (encode (dict (t .info))))
 info-hash s o out r c v t e i =
     let h = c ∙ torrents.info-hash s o v t (fine e) i in
     (ap (λ (x : Hashing). x .answer) h, ap (λ (x : Hashing). x .out) h)
 
--- contents::check_piece: yes exactly when the text is a torrent that has piece n, m is as long as that piece, and its digest is the n-th 20 bytes of pieces;
+-- of contents::check_piece: yes exactly when the text is a torrent that has piece n, m is as long as that piece, and its digest is the n-th 20 bytes of pieces;
 -- no exactly when all of this holds but the last
 module _ (s : List ℕ) (n : ℕ) (m : List ℕ) (r : piece.Checked) (c : checkPaper r ≡ pieceOf s n m) where
   abbrev pub IsPiece : Said → Type 0
@@ -299,7 +299,7 @@ module _ (s : List ℕ) (n : ℕ) (m : List ℕ) (r : piece.Checked) (c : checkP
 
 -- ---- 9. "Blocks map to file parts exactly."
 
--- blocks::block: q + n bytes from offset q of piece p, of files of the lengths ns one after the other. The parts of a taken block are its bytes, once each and in
+-- of blocks::block: q + n bytes from offset q of piece p, of files of the lengths ns one after the other. The parts of a taken block are its bytes, once each and in
 -- order; none is empty, each lies within its file, and files ascend. They stand at the output's start as file, offset and length each, and past them it stays
 pub block-covers : (ns : List ℕ) (pl p q n : ℕ) (o out : List ℕ) (r : Parts) → parting (partsPaper r) out ≡ partsIn (blockOf (joined ns) pl p q n) o → (k : ℕ) → partsPaper r ≡ taken k
     → (ps : List Part) × (k ≡ length ps) × (out ≡ flat ps ++ drop (3 * k) o) × (placesOf (joined ns) ps ≡ run (p * pl + q) n) × Neat (joined ns) 0 ps
@@ -319,7 +319,7 @@ block-exact ns pl p q n o out r c = (
   λ h. let e = block-takes ns pl p q n o h in (e .0, ap (λ (x : Parting). x .answer) c ∙ e .1),
 )
 
--- blocks::byte: byte o of file f. Its piece and offset are its place in the joined content, and the block of that one byte is that byte of that file
+-- of blocks::byte: byte o of file f. Its piece and offset are its place in the joined content, and the block of that one byte is that byte of that file
 module _ (ns : List ℕ) (pl f o : ℕ) (r : Place) (c : placePaper r ≡ byteOf (joined ns) pl f o) where
   pub byte-finds-piece : (x : Spot) → placePaper r ≡ taken x
       → (x .piece * pl + x .offset ≡ sum (take f ns) + o) × (x .offset < pl) × (blockOf (joined ns) pl (x .piece) (x .offset) 1 ≡ taken (part f o 1 ∷ []))
