@@ -34,6 +34,7 @@ use Rattle.wardrail.specs.Said.{numberOf}
 use Rattle.wardrail.specs.Yards.{codeOf, toldOf, shownOf}
 use Rattle.wardrail.specs.declared.yards.Told.{Told}
 use Rattle.demands.specs.One.{Ref, now, Refused, Unused}
+pub mod Numbers
 
 -- ---- parts handed back
 

@@ -34,6 +34,8 @@ pub mod HostTexts
 pub mod HostParts
 pub mod HostWriters
 pub mod HostYard
+pub mod Causes
+pub mod Numbers
 
 -- ---- what is lent
 

@@ -1,0 +1,450 @@
+-- Statement 4 of demand 1: "Given exactly when". Each number of document 01's table in its order: under the table's line, call by call, that the number
+-- is given at a place exactly when its cause holds there. A cause says that the checks before it are passed; the left side is what the contract of the
+-- call says of its answer. Assumes nothing.
+use mathlib.Core.Path.{_≡_, refl, sym, ap, _∙_}
+use mathlib.Core.Logic.{_⊎_, _↔_}
+use mathlib.Core.List.{List}
+use Prim.Native.Nat.{ℕ, _+_, _≤_, _<_}
+use native.Mathlib.Omega.{arith}
+use lib.ListN.{length, getD}
+use Rattle.refusal.specs.Paper.{Outcome, taken, refused, map, then}
+use Rattle.refusal.specs.Limits.{mostText, longestPiece, longestFrame}
+use Rattle.writer.specs.Put.{putOf}
+use Rattle.bencode.specs.Value.{count}
+use Rattle.bencode.specs.Decode.{decode}
+use Rattle.bencode.specs.Answers.{checkOf}
+use Rattle.causes.specs.Causes.{Cut, Byte, Order, Integer, Deep, Many, After}
+use Rattle.causes.proofs.Laws as bencode
+use Rattle.sha1.specs.Digest.{digestOf}
+use Rattle.blocks.specs.Spans.{Span}
+use Rattle.blocks.specs.Answers.{Left, written, blockOf, byteOf, sizeOf}
+use Rattle.blocks.specs.Covers.{BlockCause, ByteCause, SizeCause}
+use Rattle.blocks.proofs.Causes as blocks
+use Rattle.wire.specs.Frames as frames
+use Rattle.wire.specs.Frames.{Allowed}
+use Rattle.wire.specs.Handshake as handshake
+use Rattle.wire.specs.Handshake.{shakeOf}
+use Rattle.wire.specs.Causes as causes
+use Rattle.wire.specs.Causes.{TooLong, All, Right, Few, Misnamed, Named, infoIn}
+use Rattle.wire.proofs.Decided.{wait-exactly}
+use Rattle.wire.proofs.Shaking.{shake-wait-exactly}
+use Rattle.tracker.specs.Reply.{Answer, replyOf, counted, nthOf}
+use Rattle.tracker.specs.Entries.{Entry}
+use Rattle.tracker.specs.Reading.{entriesIn}
+use Rattle.tracker.specs.Writing.{writeOf as replyText}
+use Rattle.tracker.specs.Faults.{NotWritten}
+use Rattle.metainfo.specs.Reading.{readOf}
+use Rattle.metainfo.specs.declared.Torrent.{Torrent}
+use Rattle.authoring.specs.Writing as author
+use Rattle.authoring.specs.Writing.{Fields}
+use Rattle.authoring.specs.Rules as rules
+use Rattle.torrents.specs.Causes.{NoTorrentText}
+use Rattle.torrents.proofs.Laws as torrents
+use Rattle.contents.specs.Files as file
+use Rattle.contents.specs.Pieces as piece
+use Rattle.tables.specs.Tables.{Yard, wait}
+use Rattle.tables.specs.Step.{Call, step}
+use Rattle.history.specs.Causes.{Cause, Waits}
+use Rattle.history.specs.Damage.{Unfit, Damaged}
+use Rattle.history.specs.Run.{Accepted, after}
+use Rattle.history.proofs.Demand.{fair, fair-wait, never-damaged}
+use Rattle.history.proofs.Damage as damage
+use Rattle.demands.specs.One.Causes.{Unchecked, Unsized, NoReplyText}
+use Rattle.demands.specs.Cited.Numbers as cited
+use Rattle.demands.specs.Cited.Numbers.{both-ways, map-refused, at-place, decode-8}
+
+-- ---- 1: "the text ends where a byte is needed, or a string's length exceeds the bytes left after its colon; place: the text's length"
+
+-- given by bencode::check
+pub check-1 : (s : List ℕ) (p : ℕ) → length s ≤ mostText → checkOf s ≡ refused 1 p ↔ Cut s p
+check-1 s p h = both-ways (map-refused count (decode s) 1 p) (bencode.cut-law s p h)
+
+-- given by metainfo::read
+pub torrent-1 : (s : List ℕ) (p : ℕ) → length s ≤ mostText → readOf s ≡ refused 1 p ↔ Cut s p
+torrent-1 s p h = torrents.cut-law s p h
+
+-- given by tracker::read
+pub reply-1 : (s : List ℕ) (p : ℕ) → length s ≤ mostText → map counted (replyOf s) ≡ refused 1 p ↔ Cut s p
+reply-1 s p h = both-ways (cited.reply-bencode s 1 p (omega arith)) (bencode.cut-law s p h)
+
+-- ---- 2: "a byte that cannot stand there; its offset"
+
+-- given by bencode::check
+pub check-2 : (s : List ℕ) (p : ℕ) → length s ≤ mostText → checkOf s ≡ refused 2 p ↔ Byte s p
+check-2 s p h = both-ways (map-refused count (decode s) 2 p) (bencode.byte-law s p h)
+
+-- given by metainfo::read
+pub torrent-2 : (s : List ℕ) (p : ℕ) → length s ≤ mostText → readOf s ≡ refused 2 p ↔ Byte s p
+torrent-2 s p h = torrents.byte-law s p h
+
+-- given by tracker::read
+pub reply-2 : (s : List ℕ) (p : ℕ) → length s ≤ mostText → map counted (replyOf s) ≡ refused 2 p ↔ Byte s p
+reply-2 s p h = both-ways (cited.reply-bencode s 2 p (omega arith)) (bencode.byte-law s p h)
+
+-- ---- 3: "a key not greater than the one before; offset of its first digit"
+
+-- given by bencode::check
+pub check-3 : (s : List ℕ) (p : ℕ) → length s ≤ mostText → checkOf s ≡ refused 3 p ↔ Order s p
+check-3 s p h = both-ways (map-refused count (decode s) 3 p) (bencode.order-law s p h)
+
+-- given by metainfo::read
+pub torrent-3 : (s : List ℕ) (p : ℕ) → length s ≤ mostText → readOf s ≡ refused 3 p ↔ Order s p
+torrent-3 s p h = torrents.order-law s p h
+
+-- given by tracker::read
+pub reply-3 : (s : List ℕ) (p : ℕ) → length s ≤ mostText → map counted (replyOf s) ≡ refused 3 p ↔ Order s p
+reply-3 s p h = both-ways (cited.reply-bencode s 3 p (omega arith)) (bencode.order-law s p h)
+
+-- ---- 4: "integer outside -2^63 .. 2^63-1; offset of its i"
+
+-- given by bencode::check
+pub check-4 : (s : List ℕ) (p : ℕ) → length s ≤ mostText → checkOf s ≡ refused 4 p ↔ Integer s p
+check-4 s p h = both-ways (map-refused count (decode s) 4 p) (bencode.integer-law s p h)
+
+-- given by metainfo::read
+pub torrent-4 : (s : List ℕ) (p : ℕ) → length s ≤ mostText → readOf s ≡ refused 4 p ↔ Integer s p
+torrent-4 s p h = torrents.integer-law s p h
+
+-- given by tracker::read
+pub reply-4 : (s : List ℕ) (p : ℕ) → length s ≤ mostText → map counted (replyOf s) ≡ refused 4 p ↔ Integer s p
+reply-4 s p h = both-ways (cited.reply-bencode s 4 p (omega arith)) (bencode.integer-law s p h)
+
+-- ---- 5: "list or dictionary at level 33; its offset"
+
+-- given by bencode::check
+pub check-5 : (s : List ℕ) (p : ℕ) → length s ≤ mostText → checkOf s ≡ refused 5 p ↔ Deep s p
+check-5 s p h = both-ways (map-refused count (decode s) 5 p) (bencode.deep-law s p h)
+
+-- given by metainfo::read
+pub torrent-5 : (s : List ℕ) (p : ℕ) → length s ≤ mostText → readOf s ≡ refused 5 p ↔ Deep s p
+torrent-5 s p h = torrents.deep-law s p h
+
+-- given by tracker::read
+pub reply-5 : (s : List ℕ) (p : ℕ) → length s ≤ mostText → map counted (replyOf s) ≡ refused 5 p ↔ Deep s p
+reply-5 s p h = both-ways (cited.reply-bencode s 5 p (omega arith)) (bencode.deep-law s p h)
+
+-- ---- 6: "value number 16,385 begins; its offset"
+
+-- given by bencode::check
+pub check-6 : (s : List ℕ) (p : ℕ) → length s ≤ mostText → checkOf s ≡ refused 6 p ↔ Many s p
+check-6 s p h = both-ways (map-refused count (decode s) 6 p) (bencode.many-law s p h)
+
+-- given by metainfo::read
+pub torrent-6 : (s : List ℕ) (p : ℕ) → length s ≤ mostText → readOf s ≡ refused 6 p ↔ Many s p
+torrent-6 s p h = torrents.many-law s p h
+
+-- given by tracker::read
+pub reply-6 : (s : List ℕ) (p : ℕ) → length s ≤ mostText → map counted (replyOf s) ≡ refused 6 p ↔ Many s p
+reply-6 s p h = both-ways (cited.reply-bencode s 6 p (omega arith)) (bencode.many-law s p h)
+
+-- ---- 7: "bytes after the value; the first"
+
+-- given by bencode::check
+pub check-7 : (s : List ℕ) (p : ℕ) → length s ≤ mostText → checkOf s ≡ refused 7 p ↔ After s p
+check-7 s p h = both-ways (map-refused count (decode s) 7 p) (bencode.after-law s p h)
+
+-- given by metainfo::read
+pub torrent-7 : (s : List ℕ) (p : ℕ) → length s ≤ mostText → readOf s ≡ refused 7 p ↔ After s p
+torrent-7 s p h = torrents.after-law s p h
+
+-- given by tracker::read
+pub reply-7 : (s : List ℕ) (p : ℕ) → length s ≤ mostText → map counted (replyOf s) ≡ refused 7 p ↔ After s p
+reply-7 s p h = both-ways (cited.reply-bencode s 7 p (omega arith)) (bencode.after-law s p h)
+
+-- ---- 8: "text (no frame or handshake) to read or write over 1,048,576 bytes, or piece to hash over 16,777,216; place 0"
+
+-- given by bencode::check
+pub check-8 : (s : List ℕ) (p : ℕ) → checkOf s ≡ refused 8 p ↔ ((mostText < length s) × (p ≡ 0))
+check-8 s p = both-ways (map-refused count (decode s) 8 p) (decode-8 s p)
+
+-- given by metainfo::read
+pub torrent-8 : (s : List ℕ) (p : ℕ) → readOf s ≡ refused 8 p ↔ ((mostText < length s) × (p ≡ 0))
+torrent-8 s p = torrents.long-law s p
+
+-- given by tracker::read
+pub reply-8 : (s : List ℕ) (p : ℕ) → map counted (replyOf s) ≡ refused 8 p ↔ ((mostText < length s) × (p ≡ 0))
+reply-8 s p = both-ways (cited.reply-bencode s 8 p (omega arith)) (decode-8 s p)
+
+-- given by sha1::digest
+pub digest-8 : (m o : List ℕ) (p : ℕ) → digestOf m o .answer ≡ refused 8 p ↔ ((longestPiece < length m) × (p ≡ 0))
+digest-8 m o p = let e = cited.digest-exactly m o 8 p in (λ h. let k = e .0 h in (k .1, k .2), λ h. e .1 (refl, h .0, h .1))
+
+-- given by contents::check_piece
+pub piece-check-8 : (s : List ℕ) (n : ℕ) (m : List ℕ) (p : ℕ) → piece.checkOf s n m ≡ refused 8 p ↔ ((readOf s ≡ refused 8 p) ⊎ ((t : Torrent) × (readOf s ≡ taken t) × Unchecked t n m 8 × (p ≡ 0)))
+piece-check-8 s n m p = cited.check-exactly s n m 8 p
+
+-- given by tracker::writing::write
+pub reply-writer-8 : (interval : ℕ) (peers o : List ℕ) (p : ℕ) → replyText interval peers o .answer ≡ refused 8 p ↔ (NotWritten interval peers o 8 × (p ≡ 0))
+reply-writer-8 interval peers o p = cited.reply-written interval peers o 8 p
+
+-- given by authoring::write
+pub torrent-writer-8 : (f : Fields) (o : List ℕ) (p : ℕ) → author.writeOf f o .answer ≡ refused 8 p ↔ (rules.NotWritten f o 8 × (p ≡ 0))
+torrent-writer-8 f o p = cited.torrent-written f o 8 p
+
+-- given by authoring::size
+pub torrent-size-8 : (f : Fields) (p : ℕ) → author.sizeOf f ≡ refused 8 p ↔ (Unsized f 8 × (p ≡ 0))
+torrent-size-8 f p = cited.torrent-sized f 8 p
+
+-- ---- 10: "key missing (offset of its dictionary), value of the wrong kind (its offset)"
+
+-- given by metainfo::read
+pub torrent-10 : (s : List ℕ) (p : ℕ) → readOf s ≡ refused 10 p ↔ NoTorrentText s 10 p
+torrent-10 s p = torrents.kind-law s p
+
+-- given by tracker::read
+pub reply-10 : (s : List ℕ) (p : ℕ) → map counted (replyOf s) ≡ refused 10 p ↔ NoReplyText s 10 p
+reply-10 s p = cited.reply-own s 10 p (omega arith)
+
+-- ---- 11: "number out of range; offset of the value"
+
+-- given by metainfo::read
+pub torrent-11 : (s : List ℕ) (p : ℕ) → readOf s ≡ refused 11 p ↔ NoTorrentText s 11 p
+torrent-11 s p = torrents.range-law s p
+
+-- given by tracker::read
+pub reply-11 : (s : List ℕ) (p : ℕ) → map counted (replyOf s) ≡ refused 11 p ↔ NoReplyText s 11 p
+reply-11 s p = cited.reply-own s 11 p (omega arith)
+
+-- given by blocks::block
+pub block-11 : (files : List Span) (pl p o n : ℕ) (out : List ℕ) (q : ℕ) → written (blockOf files pl p o n) out .answer ≡ refused 11 q ↔ (BlockCause files pl p o n (length out) 11 × (q ≡ 0))
+block-11 files pl p o n out q =
+    (blocks.block-refused-only files pl p o n out 11 q, λ h. ap (λ (l : Left). l .answer) (blocks.block-refused-every files pl p o n out 11 (h .0)) ∙ at-place (h .1))
+
+-- given by blocks::byte
+pub byte-11 : (files : List Span) (pl f o q : ℕ) → byteOf files pl f o ≡ refused 11 q ↔ (ByteCause files pl f o 11 × (q ≡ 0))
+byte-11 files pl f o q = (blocks.byte-refused-only files pl f o 11 q, λ h. blocks.byte-refused-every files pl f o 11 (h .0) ∙ at-place (h .1))
+
+-- given by blocks::piece_size
+pub piece-size-11 : (files : List Span) (pl p q : ℕ) → sizeOf files pl p ≡ refused 11 q ↔ (SizeCause files pl p 11 × (q ≡ 0))
+piece-size-11 files pl p q = (blocks.size-refused-only files pl p 11 q, λ h. blocks.size-refused-every files pl p 11 (h .0) ∙ at-place (h .1))
+
+-- given by tracker::writing::write
+pub reply-writer-11 : (interval : ℕ) (peers o : List ℕ) (p : ℕ) → replyText interval peers o .answer ≡ refused 11 p ↔ (NotWritten interval peers o 11 × (p ≡ 0))
+reply-writer-11 interval peers o p = cited.reply-written interval peers o 11 p
+
+-- given by authoring::write
+pub torrent-writer-11 : (f : Fields) (o : List ℕ) (p : ℕ) → author.writeOf f o .answer ≡ refused 11 p ↔ (rules.NotWritten f o 11 × (p ≡ 0))
+torrent-writer-11 f o p = cited.torrent-written f o 11 p
+
+-- given by authoring::size
+pub torrent-size-11 : (f : Fields) (p : ℕ) → author.sizeOf f ≡ refused 11 p ↔ (Unsized f 11 × (p ≡ 0))
+torrent-size-11 f p = cited.torrent-sized f 11 p
+
+-- ---- 12: "wrong length of pieces; its offset"
+
+-- given by metainfo::read
+pub torrent-12 : (s : List ℕ) (p : ℕ) → readOf s ≡ refused 12 p ↔ NoTorrentText s 12 p
+torrent-12 s p = torrents.pieces-law s p
+
+-- given by authoring::write
+pub torrent-writer-12 : (f : Fields) (o : List ℕ) (p : ℕ) → author.writeOf f o .answer ≡ refused 12 p ↔ (rules.NotWritten f o 12 × (p ≡ 0))
+torrent-writer-12 f o p = cited.torrent-written f o 12 p
+
+-- given by authoring::size
+pub torrent-size-12 : (f : Fields) (p : ℕ) → author.sizeOf f ≡ refused 12 p ↔ (Unsized f 12 × (p ≡ 0))
+torrent-size-12 f p = cited.torrent-sized f 12 p
+
+-- ---- 13: "bad name or path; offset of the string, or of an empty path list"
+
+-- given by metainfo::read
+pub torrent-13 : (s : List ℕ) (p : ℕ) → readOf s ≡ refused 13 p ↔ NoTorrentText s 13 p
+torrent-13 s p = torrents.name-law s p
+
+-- given by authoring::write
+pub torrent-writer-13 : (f : Fields) (o : List ℕ) (p : ℕ) → author.writeOf f o .answer ≡ refused 13 p ↔ (rules.NotWritten f o 13 × (p ≡ 0))
+torrent-writer-13 f o p = cited.torrent-written f o 13 p
+
+-- given by authoring::size
+pub torrent-size-13 : (f : Fields) (p : ℕ) → author.sizeOf f ≡ refused 13 p ↔ (Unsized f 13 × (p ≡ 0))
+torrent-size-13 f p = cited.torrent-sized f 13 p
+
+-- ---- 15: "bad peer entry length; offset of the string"
+
+-- given by tracker::read
+pub reply-15 : (s : List ℕ) (p : ℕ) → map counted (replyOf s) ≡ refused 15 p ↔ NoReplyText s 15 p
+reply-15 s p = cited.reply-own s 15 p (omega arith)
+
+-- given by tracker::writing::write
+pub reply-writer-15 : (interval : ℕ) (peers o : List ℕ) (p : ℕ) → replyText interval peers o .answer ≡ refused 15 p ↔ (NotWritten interval peers o 15 × (p ≡ 0))
+reply-writer-15 interval peers o p = cited.reply-written interval peers o 15 p
+
+-- ---- 20: "frame length over 16,393"
+
+-- given by wire::read_frame
+pub frame-20 : (s : List ℕ) (p : ℕ) → frames.readOf s ≡ refused 20 p ↔ (TooLong s × (p ≡ 0))
+frame-20 s p = cited.frame-20 s p
+
+-- given by the frame writers, of what follows the length
+pub write-20 : (rest o : List ℕ) (p : ℕ) → frames.writeOf rest o .answer ≡ refused 20 p ↔ ((longestFrame < length rest) × (p ≡ 0))
+write-20 rest o p = cited.write-20 rest o p
+
+-- given by yard, after an accepted start and any calls
+pub yard-20 : (p l k : ℕ) (y : Yard) (ok : Accepted p l k y) (cs : List Call) (c : Call) (place : ℕ) → step c (after p l k y cs .yard) .answer ≡ refused 20 place ↔ (Cause (length (y .seats)) (after p l k y cs .past) c 20 × (place ≡ 0))
+yard-20 p l k y ok cs c place = fair p l k y ok cs c 20 place
+
+-- ---- 21: "payload length wrong for its id"
+
+-- given by wire::read_frame
+pub frame-21 : (s : List ℕ) (p : ℕ) → frames.readOf s ≡ refused 21 p ↔ (All s × (Right s → ⊥) × (p ≡ 0))
+frame-21 s p = cited.frame-21 s p
+
+-- given by the frame writers
+pub write-21 : (rest o : List ℕ) (p : ℕ) → frames.writeOf rest o .answer ≡ refused 21 p ↔ ((length rest ≤ longestFrame) × (Allowed (getD rest 0 0) (length rest) → ⊥) × (p ≡ 0))
+write-21 rest o p = cited.write-21 rest o p
+
+-- given by yard, after an accepted start and any calls
+pub yard-21 : (p l k : ℕ) (y : Yard) (ok : Accepted p l k y) (cs : List Call) (c : Call) (place : ℕ) → step c (after p l k y cs .yard) .answer ≡ refused 21 place ↔ (Cause (length (y .seats)) (after p l k y cs .past) c 21 × (place ≡ 0))
+yard-21 p l k y ok cs c place = fair p l k y ok cs c 21 place
+
+-- ---- 22: "handshake's first 20 bytes wrong"
+
+-- given by wire::read_handshake, whose info hash has 20 bytes
+pub handshake-22 : (info s : List ℕ) (p : ℕ) → length info ≡ 20 → shakeOf info s ≡ refused 22 p ↔ (Misnamed s × (p ≡ 0))
+handshake-22 info s p h = cited.handshake-22 info s p h
+
+-- ---- 23: "handshake for another info hash"
+
+-- given by wire::read_handshake, whose info hash has 20 bytes
+pub handshake-23 : (info s : List ℕ) (p : ℕ) → length info ≡ 20 → shakeOf info s ≡ refused 23 p ↔ (Named s × (68 ≤ length s) × (infoIn s ≡ info → ⊥) × (p ≡ 0))
+handshake-23 info s p h = cited.handshake-23 info s p h
+
+-- ---- 30: "bitfield not first"
+
+-- given by yard, after an accepted start and any calls
+pub yard-30 : (p l k : ℕ) (y : Yard) (ok : Accepted p l k y) (cs : List Call) (c : Call) (place : ℕ) → step c (after p l k y cs .yard) .answer ≡ refused 30 place ↔ (Cause (length (y .seats)) (after p l k y cs .past) c 30 × (place ≡ 0))
+yard-30 p l k y ok cs c place = fair p l k y ok cs c 30 place
+
+-- ---- 31: "piece, file or entry number too large"
+
+-- given by yard, after an accepted start and any calls
+pub yard-31 : (p l k : ℕ) (y : Yard) (ok : Accepted p l k y) (cs : List Call) (c : Call) (place : ℕ) → step c (after p l k y cs .yard) .answer ≡ refused 31 place ↔ (Cause (length (y .seats)) (after p l k y cs .past) c 31 × (place ≡ 0))
+yard-31 p l k y ok cs c place = fair p l k y ok cs c 31 place
+
+-- given by blocks::block
+pub block-31 : (files : List Span) (pl p o n : ℕ) (out : List ℕ) (q : ℕ) → written (blockOf files pl p o n) out .answer ≡ refused 31 q ↔ (BlockCause files pl p o n (length out) 31 × (q ≡ 0))
+block-31 files pl p o n out q =
+    (blocks.block-refused-only files pl p o n out 31 q, λ h. ap (λ (l : Left). l .answer) (blocks.block-refused-every files pl p o n out 31 (h .0)) ∙ at-place (h .1))
+
+-- given by blocks::byte
+pub byte-31 : (files : List Span) (pl f o q : ℕ) → byteOf files pl f o ≡ refused 31 q ↔ (ByteCause files pl f o 31 × (q ≡ 0))
+byte-31 files pl f o q = (blocks.byte-refused-only files pl f o 31 q, λ h. blocks.byte-refused-every files pl f o 31 (h .0) ∙ at-place (h .1))
+
+-- given by blocks::piece_size
+pub piece-size-31 : (files : List Span) (pl p q : ℕ) → sizeOf files pl p ≡ refused 31 q ↔ (SizeCause files pl p 31 × (q ≡ 0))
+piece-size-31 files pl p q = (blocks.size-refused-only files pl p 31 q, λ h. blocks.size-refused-every files pl p 31 (h .0) ∙ at-place (h .1))
+
+-- given by contents::file
+pub file-31 : (s : List ℕ) (n p : ℕ) → file.entryOf s n ≡ refused 31 p ↔ ((t : Torrent) × (readOf s ≡ taken t) × (t .content .files ≤ n) × (p ≡ 0))
+file-31 s n p = cited.file-exactly s n p
+
+-- given by contents::piece_hash
+pub piece-hash-31 : (s : List ℕ) (n p : ℕ) → piece.hashOf s n ≡ refused 31 p ↔ ((t : Torrent) × (readOf s ≡ taken t) × (t .«piece_count» ≤ n) × (p ≡ 0))
+piece-hash-31 s n p = cited.hash-exactly s n p
+
+-- given by tracker::peer
+pub peer-31 : (s : List ℕ) (n p : ℕ) → then (replyOf s) (nthOf n) ≡ refused 31 p ↔ ((x : Answer (List Entry)) × (replyOf s ≡ taken x) × (entriesIn (counted x) ≤ n) × (p ≡ 0))
+peer-31 s n p = cited.peer-exactly s n p
+
+-- given by contents::check_piece
+pub piece-check-31 : (s : List ℕ) (n : ℕ) (m : List ℕ) (p : ℕ) → piece.checkOf s n m ≡ refused 31 p ↔ ((t : Torrent) × (readOf s ≡ taken t) × Unchecked t n m 31 × (p ≡ 0))
+piece-check-31 s n m p = cited.check-own s n m 31 p (omega arith)
+
+-- ---- 32: "bitfield length wrong"
+
+-- given by yard, after an accepted start and any calls
+pub yard-32 : (p l k : ℕ) (y : Yard) (ok : Accepted p l k y) (cs : List Call) (c : Call) (place : ℕ) → step c (after p l k y cs .yard) .answer ≡ refused 32 place ↔ (Cause (length (y .seats)) (after p l k y cs .past) c 32 × (place ≡ 0))
+yard-32 p l k y ok cs c place = fair p l k y ok cs c 32 place
+
+-- ---- 33: "spare bit set"
+
+-- given by yard, after an accepted start and any calls
+pub yard-33 : (p l k : ℕ) (y : Yard) (ok : Accepted p l k y) (cs : List Call) (c : Call) (place : ℕ) → step c (after p l k y cs .yard) .answer ≡ refused 33 place ↔ (Cause (length (y .seats)) (after p l k y cs .past) c 33 × (place ≡ 0))
+yard-33 p l k y ok cs c place = fair p l k y ok cs c 33 place
+
+-- ---- 34: "block or file offset outside its bounds, or a piece to check of the wrong length"
+
+-- given by yard, after an accepted start and any calls
+pub yard-34 : (p l k : ℕ) (y : Yard) (ok : Accepted p l k y) (cs : List Call) (c : Call) (place : ℕ) → step c (after p l k y cs .yard) .answer ≡ refused 34 place ↔ (Cause (length (y .seats)) (after p l k y cs .past) c 34 × (place ≡ 0))
+yard-34 p l k y ok cs c place = fair p l k y ok cs c 34 place
+
+-- given by blocks::block
+pub block-34 : (files : List Span) (pl p o n : ℕ) (out : List ℕ) (q : ℕ) → written (blockOf files pl p o n) out .answer ≡ refused 34 q ↔ (BlockCause files pl p o n (length out) 34 × (q ≡ 0))
+block-34 files pl p o n out q =
+    (blocks.block-refused-only files pl p o n out 34 q, λ h. ap (λ (l : Left). l .answer) (blocks.block-refused-every files pl p o n out 34 (h .0)) ∙ at-place (h .1))
+
+-- given by blocks::byte
+pub byte-34 : (files : List Span) (pl f o q : ℕ) → byteOf files pl f o ≡ refused 34 q ↔ (ByteCause files pl f o 34 × (q ≡ 0))
+byte-34 files pl f o q = (blocks.byte-refused-only files pl f o 34 q, λ h. blocks.byte-refused-every files pl f o 34 (h .0) ∙ at-place (h .1))
+
+-- given by contents::check_piece
+pub piece-check-34 : (s : List ℕ) (n : ℕ) (m : List ℕ) (p : ℕ) → piece.checkOf s n m ≡ refused 34 p ↔ ((t : Torrent) × (readOf s ≡ taken t) × Unchecked t n m 34 × (p ≡ 0))
+piece-check-34 s n m p = cited.check-own s n m 34 p (omega arith)
+
+-- ---- 35: "every seat taken"
+
+-- given by yard, after an accepted start and any calls
+pub yard-35 : (p l k : ℕ) (y : Yard) (ok : Accepted p l k y) (cs : List Call) (c : Call) (place : ℕ) → step c (after p l k y cs .yard) .answer ≡ refused 35 place ↔ (Cause (length (y .seats)) (after p l k y cs .past) c 35 × (place ≡ 0))
+yard-35 p l k y ok cs c place = fair p l k y ok cs c 35 place
+
+-- ---- 36: "seat number too large, or seat free"
+
+-- given by yard, after an accepted start and any calls
+pub yard-36 : (p l k : ℕ) (y : Yard) (ok : Accepted p l k y) (cs : List Call) (c : Call) (place : ℕ) → step c (after p l k y cs .yard) .answer ≡ refused 36 place ↔ (Cause (length (y .seats)) (after p l k y cs .past) c 36 × (place ≡ 0))
+yard-36 p l k y ok cs c place = fair p l k y ok cs c 36 place
+
+-- ---- 37: "lent output too short"
+
+-- given by yard, after an accepted start and any calls
+pub yard-37 : (p l k : ℕ) (y : Yard) (ok : Accepted p l k y) (cs : List Call) (c : Call) (place : ℕ) → step c (after p l k y cs .yard) .answer ≡ refused 37 place ↔ (Cause (length (y .seats)) (after p l k y cs .past) c 37 × (place ≡ 0))
+yard-37 p l k y ok cs c place = fair p l k y ok cs c 37 place
+
+-- given by blocks::block
+pub block-37 : (files : List Span) (pl p o n : ℕ) (out : List ℕ) (q : ℕ) → written (blockOf files pl p o n) out .answer ≡ refused 37 q ↔ (BlockCause files pl p o n (length out) 37 × (q ≡ 0))
+block-37 files pl p o n out q =
+    (blocks.block-refused-only files pl p o n out 37 q, λ h. ap (λ (l : Left). l .answer) (blocks.block-refused-every files pl p o n out 37 (h .0)) ∙ at-place (h .1))
+
+-- given by the writers of `writer`, a keepalive, a handshake and the listing: bytes w put at a place
+pub put-37 : (w : List ℕ) (at : ℕ) (o : List ℕ) (p : ℕ) → putOf w at o .answer ≡ refused 37 p ↔ ((length o < at + length w) × (p ≡ 0))
+put-37 w at o p = let e = cited.put-exactly w at o 37 p in (λ h. let k = e .0 h in (k .1, k .2), λ h. e .1 (refl, h .0, h .1))
+
+-- given by the frame writers
+pub write-37 : (rest o : List ℕ) (p : ℕ) → frames.writeOf rest o .answer ≡ refused 37 p ↔ (Allowed (getD rest 0 0) (length rest) × (length o < 4 + length rest) × (p ≡ 0))
+write-37 rest o p = cited.write-37 rest o p
+
+-- given by tracker::writing::write
+pub reply-writer-37 : (interval : ℕ) (peers o : List ℕ) (p : ℕ) → replyText interval peers o .answer ≡ refused 37 p ↔ (NotWritten interval peers o 37 × (p ≡ 0))
+reply-writer-37 interval peers o p = cited.reply-written interval peers o 37 p
+
+-- given by authoring::write
+pub torrent-writer-37 : (f : Fields) (o : List ℕ) (p : ℕ) → author.writeOf f o .answer ≡ refused 37 p ↔ (rules.NotWritten f o 37 × (p ≡ 0))
+torrent-writer-37 f o p = cited.torrent-written f o 37 p
+
+-- ---- 38: "yard sizes don't fit"
+
+-- given by yard, on any tables
+pub yard-38 : (y : Yard) (c : Call) (place : ℕ) → step c y .answer ≡ refused 38 place ↔ (Unfit y c × (place ≡ 0))
+yard-38 y c place = damage.sizes-exactly y c place
+
+-- ---- 39: "damaged: a count to be raised would pass its top, or one to be lowered is 0"
+
+-- given by yard, on any tables
+pub yard-39 : (y : Yard) (c : Call) (place : ℕ) → step c y .answer ≡ refused 39 place ↔ (Damaged y c × (place ≡ 0))
+yard-39 y c place = damage.damaged-exactly y c place
+
+-- never given by yard after an accepted start and any calls
+pub never-39 : (p l k : ℕ) (y : Yard) (ok : Accepted p l k y) (cs : List Call) (c : Call) (place : ℕ) → step c (after p l k y cs .yard) .answer ≡ refused 39 place → ⊥
+never-39 p l k y ok cs c place = never-damaged p l k y ok cs c place
+
+-- ---- wait: "more bytes are needed, nothing is used"
+
+-- given by wire::read_frame
+pub frame-wait : (s : List ℕ) → frames.readOf s ≡ taken frames.wait ↔ (Few s ⊎ causes.Cut s)
+frame-wait s = wait-exactly s
+
+-- given by wire::read_handshake, whose info hash has 20 bytes
+pub handshake-wait : (info s : List ℕ) → length info ≡ 20 → shakeOf info s ≡ taken handshake.wait ↔ (Named s × (length s < 68))
+handshake-wait info s h = shake-wait-exactly info s h
+
+-- given by yard, after an accepted start and any calls
+pub yard-wait : (p l k : ℕ) (y : Yard) (ok : Accepted p l k y) (cs : List Call) (c : Call) → step c (after p l k y cs .yard) .answer ≡ taken wait ↔ Waits (length (y .seats)) (after p l k y cs .past) c
+yard-wait p l k y ok cs c = fair-wait p l k y ok cs c
