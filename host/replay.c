@@ -20,8 +20,9 @@ static void stop(const char *why, const char *what) {
     exit(1);
 }
 
+/* Memory for exactly that many elements, so that a checker of memory sees each access past them. */
 static void *lent(size_t count, size_t size) {
-    void *p = calloc(count ? count : 1, size);
+    void *p = calloc(count, size);
     if (!p) stop("no memory", "");
     return p;
 }
@@ -52,10 +53,16 @@ static struct bytes unhex(const char *word) {
 
 /* The numbers of a word parted by commas, for the caller to free. */
 static uint64_t *numbers(char *word, size_t *count) {
-    uint64_t *list = lent(strlen(word) + 1, sizeof *list);
     *count = 0;
-    if (strcmp(word, "-"))
-        for (char *at = strtok(word, ","); at; at = strtok(NULL, ",")) list[(*count)++] = number(at);
+    if (strcmp(word, "-")) *count = 1;
+    for (const char *at = word; (at = strchr(at, ',')); at++) ++*count;
+    uint64_t *list = lent(*count, sizeof *list);
+    for (size_t k = 0; k < *count; k++) {
+        char *end = strchr(word, ',');
+        if (end) *end = 0;
+        list[k] = number(word);
+        word = end ? end + 1 : word;
+    }
     return list;
 }
 
@@ -217,28 +224,26 @@ static void handshake_call(struct bytes b, struct bytes info) {
 
 /* ---- writers */
 
-static void written(uint64_t r, uint64_t detail, const uint8_t *out) {
-    if (r) refused(r, detail);
-    else hex(out, detail);
-}
-
-static void write_call(char **w, struct bytes *b) {
-    static uint8_t out[LONGEST_TEXT + 1];
+static void write_call(char **w, struct bytes *b, const char *room_word) {
+    size_t room = least(number(room_word), LONGEST_TEXT + 1);
+    uint8_t *out = lent(room, 1);
     uint64_t detail = 0, r;
     if (!strcmp(w[0], "write-torrent"))
-        r = wardrail_write_torrent(b[1].data, b[1].count, b[2].data, b[2].count, number(w[3]), b[5].data, b[5].count, number(w[4]), out, least(number(w[6]), sizeof out), &detail);
+        r = wardrail_write_torrent(b[1].data, b[1].count, b[2].data, b[2].count, number(w[3]), b[5].data, b[5].count, number(w[4]), out, room, &detail);
     else if (!strcmp(w[0], "write-reply"))
-        r = wardrail_write_reply(number(w[1]), b[2].data, b[2].count, out, least(number(w[3]), sizeof out), &detail);
+        r = wardrail_write_reply(number(w[1]), b[2].data, b[2].count, out, room, &detail);
     else if (!strcmp(w[0], "write-handshake")) {
         if (b[1].count != 20 || b[2].count != 20) stop("a hash and a peer id have 20 bytes", "");
-        r = wardrail_write_handshake(b[1].data, b[2].data, out, least(number(w[3]), sizeof out), &detail);
-    } else if (!strcmp(w[1], "keepalive")) r = wardrail_write_keepalive(out, least(number(w[3]), sizeof out), &detail);
+        r = wardrail_write_handshake(b[1].data, b[2].data, out, room, &detail);
+    } else if (!strcmp(w[1], "keepalive")) r = wardrail_write_keepalive(out, room, &detail);
     else {
         uint64_t id = number(w[1]);
         if (id > 8) stop("ids are 0 to 8", w[1]);
-        r = wardrail_write_frame((uint8_t)id, b[2].data, b[2].count, out, least(number(w[3]), sizeof out), &detail);
+        r = wardrail_write_frame((uint8_t)id, b[2].data, b[2].count, out, room, &detail);
     }
-    written(r, detail, out);
+    if (r) refused(r, detail);
+    else hex(out, detail);
+    free(out);
 }
 
 /* ---- the yard */
@@ -253,6 +258,14 @@ struct yard {
 
 #define TABLES &y->head, y->seats, y->seats_count, y->rows, y->rows_count, y->holders, y->holders_count
 
+static void end_yard(struct yard *y) {
+    if (!y) return;
+    free(y->seats);
+    free(y->rows);
+    free(y->holders);
+    free(y);
+}
+
 /* A script's sizes over the limits are lent as sizes just over them: no table is larger than it need be. */
 static struct yard *start_call(struct yard *old, char **w) {
     struct yard *y = lent(1, sizeof *y);
@@ -264,15 +277,9 @@ static struct yard *start_call(struct yard *old, char **w) {
     y->rows = lent(y->rows_count, 1);
     y->holders = lent(y->holders_count, sizeof *y->holders);
     uint64_t r = wardrail_yard_start(TABLES, (uint32_t)pieces, (uint32_t)least(number(w[2]), UINT32_MAX), (uint32_t)least(number(w[3]), UINT32_MAX));
-    struct yard *gone = r ? y : old;
     if (r) refused(r, 0);
     else printf("started");
-    if (gone) {
-        free(gone->seats);
-        free(gone->rows);
-        free(gone->holders);
-        free(gone);
-    }
+    end_yard(r ? y : old);
     return r ? old : y;
 }
 
@@ -287,26 +294,28 @@ static void feed_call(struct yard *y, uint64_t seat, struct bytes b) {
 }
 
 static void mark_call(struct yard *y, char **w) {
-    uint8_t frame[16];
-    size_t room = least(number(w[3]), sizeof frame);
+    size_t room = least(number(w[3]), 16);
+    uint8_t *frame = lent(room, 1);
     bool on = number(w[2]) == 1;
     uint64_t seat = number(w[1]);
     uint64_t r = !strcmp(w[0], "choke") ? wardrail_yard_choke(TABLES, seat, on, frame, room) : wardrail_yard_interest(TABLES, seat, on, frame, room);
     if (r) refused(r, 0);
     else hex(frame, 5);
+    free(frame);
 }
 
 static void missing_call(struct yard *y, char **w) {
-    uint32_t page[MOST_SEATS + 1];
+    size_t room = least(number(w[2]), MOST_SEATS + 1);
+    uint32_t *page = lent(room, sizeof *page);
     struct wardrail_told told;
-    uint64_t r = wardrail_yard_missing(TABLES, number(w[1]), page, least(number(w[2]), MOST_SEATS + 1), &told);
-    if (r) {
-        refused(r, 0);
-        return;
+    uint64_t r = wardrail_yard_missing(TABLES, number(w[1]), page, room, &told);
+    if (r) refused(r, 0);
+    else {
+        if (!told.value) putchar('-');
+        for (size_t k = 0; k < told.value; k++) printf("%s%u", k ? "," : "", (unsigned)page[k]);
+        printf(" of %llu next %llu", (unsigned long long)told.total, (unsigned long long)told.next);
     }
-    if (!told.value) putchar('-');
-    for (size_t k = 0; k < told.value; k++) printf("%s%u", k ? "," : "", (unsigned)page[k]);
-    printf(" of %llu next %llu", (unsigned long long)told.total, (unsigned long long)told.next);
+    free(page);
 }
 
 static void seat_call(struct yard *y, uint64_t i) {
@@ -366,7 +375,7 @@ static const struct call {
     {"count", 2, 0, true},             {"seat", 2, 0, true},
 };
 
-static void text_call(char **w, struct bytes *b) {
+static void text_call(char **w, struct bytes *b, int count) {
     if (!strcmp(w[0], "bencode")) bencode_call(b[1]);
     else if (!strcmp(w[0], "torrent")) torrent_call(b[1]);
     else if (!strcmp(w[0], "file")) file_call(b[1], number(w[2]));
@@ -378,7 +387,7 @@ static void text_call(char **w, struct bytes *b) {
     else if (!strcmp(w[0], "frame")) frame_call(b[1]);
     else if (!strcmp(w[0], "handshake")) handshake_call(b[1], b[2]);
     else if (!strcmp(w[0], "sha1")) sha1_call(b[1]);
-    else write_call(w, b);
+    else write_call(w, b, w[count - 1]);
 }
 
 int main(void) {
@@ -403,9 +412,11 @@ int main(void) {
             if (c->bytes >> k & 1) b[k] = unhex(w[k]);
         if (!strcmp(w[0], "start")) y = start_call(y, w);
         else if (c->yard) yard_call(y, w);
-        else text_call(w, b);
+        else text_call(w, b, count);
         putchar('\n');
         for (int k = 1; k < count; k++) free(b[k].data);
     }
+    end_yard(y);
+    free(line);
     return 0;
 }

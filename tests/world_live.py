@@ -15,14 +15,15 @@ from http.server import BaseHTTPRequestHandler, ThreadingHTTPServer
 import libtorrent
 
 from world_replay import Differs, same, unhexed
-from world_torrents import ALONE, ANNOUNCE, MOST_ROOM, written
+from world_torrents import ALONE, ANNOUNCE, MOST_ROOM, SECONDS, written
 
-SECONDS = 60
 PEER_ID = b"-WR0000-tests/world."
 # Transmission takes one connection from an address, and the clients have 127.0.0.1
 OUR_ADDRESS = "127.0.0.2"
 PIECE_LENGTH = 1 << 14
 SEATS = 4
+# how often a client may hang up before it is a fault: a slow machine makes them impatient
+TRIES = 3
 HAVE, BITFIELD, REQUEST, PIECE = 4, 5, 6, 7
 
 
@@ -99,9 +100,15 @@ CLIENTS = [aria2, transmission, rasterbar]
 
 
 def free_port():
-    with socket.socket() as s:
-        s.bind(("127.0.0.1", 0))
-        return s.getsockname()[1]
+    """A port that nobody listens on, below those that a connection is given."""
+    while True:
+        port = random.randrange(10_000, 30_000)
+        with socket.socket() as s:
+            try:
+                s.bind(("127.0.0.1", port))
+                return port
+            except OSError:
+                pass  # it is in use
 
 
 # ---- one truck of the yard
@@ -122,7 +129,10 @@ class Truck:
         self.take(after)
 
     def send(self, *words):
-        self.socket.sendall(self.replay.ask_bytes(*words))
+        try:
+            self.socket.sendall(self.replay.ask_bytes(*words))
+        except ConnectionError:
+            raise HungUp(f"the client hung up; frames heard: {self.heard[-20:]}") from None
 
     def shake(self, info_hash):
         """Reads who the client is. Gives back the bytes that came after its handshake."""
@@ -197,7 +207,7 @@ def boarded(replay, package, port, cuts, until):
     while True:
         try:
             return Truck(replay, package, port, cuts, until)
-        except (HungUp, ConnectionError):
+        except HungUp:
             if time.monotonic() > until:
                 raise
             time.sleep(0.1)
@@ -229,30 +239,48 @@ def check_loaded(replay, package):
         same("count", replay.ask("count", piece), "1")
 
 
+# ---- with each client
+
+
+def with_each(scene, replay, folder, pieces):
+    """Plays a scene with each client, anew if it hung up. Tells what was heard of them."""
+    said = [played(scene, replay, folder / client.__name__, client, at).says() for at, client in enumerate(CLIENTS, pieces)]
+    return ", ".join(said)
+
+
+def played(scene, replay, folder, client, pieces):
+    for turn in range(1, TRIES + 1):
+        where = folder / str(turn)
+        where.mkdir(parents=True)
+        try:
+            return scene(replay, where, client, pieces, time.monotonic() + SECONDS)
+        except HungUp:
+            if turn == TRIES:
+                raise
+
+
 # ---- seeders
 
 
 def seeders(replay, folder):
     """Each client as a seeder, heard byte by byte and cut at random: its bitfield shows it as loaded, and it gives us a piece."""
-    said = []
-    for pieces, client in enumerate(CLIENTS, 37):
-        where = folder / client.__name__
-        where.mkdir()
-        package = Package(replay, where, ANNOUNCE, pieces)
-        port, until = free_port(), time.monotonic() + SECONDS
-        with client(package, package.full, port):
-            for cuts in (None, random.Random(pieces)):
-                with boarded(replay, package, port, cuts, until) as truck:
-                    while not truck.is_loaded():
-                        truck.listen()
-                    check_loaded(replay, package)
-                    if cuts:
-                        fetch(truck, package, pieces - 1)
-                    else:
-                        # one call a byte: each waits but those that end a frame
-                        same("waits", truck.waits, truck.fed - len(truck.heard))
-        said.append(truck.says())
-    return "loaded: " + ", ".join(said)
+    return "loaded: " + with_each(seeder, replay, folder, 37)
+
+
+def seeder(replay, where, client, pieces, until):
+    package, port = Package(replay, where, ANNOUNCE, pieces), free_port()
+    with client(package, package.full, port):
+        for cuts in (None, random.Random(pieces)):
+            with boarded(replay, package, port, cuts, until) as truck:
+                while not truck.is_loaded():
+                    truck.listen()
+                check_loaded(replay, package)
+                if cuts:
+                    fetch(truck, package, pieces - 1)
+                else:
+                    # one call a byte: each waits but those that end a frame
+                    same("waits", truck.waits, truck.fed - len(truck.heard))
+    return truck
 
 
 def fetch(truck, package, piece):
@@ -279,52 +307,49 @@ def leechers(replay, folder):
 
     It has many pieces and lacks few, since aria2 sends its bitfield again in place of many haves, which document 01 refuses by 30.
     """
-    said = []
-    for pieces, client in enumerate(CLIENTS, 801):
-        where = folder / client.__name__
-        where.mkdir()
-        port, source, until = free_port(), free_port(), time.monotonic() + SECONDS
-        # Transmission calls nobody on loopback, so the seeder has to call it; if both call they may both hang up
-        told = ([port], []) if client is transmission else ([], [source])
-        with tracker(replay, *told) as (announce, may_meet):
-            package = Package(replay, where, announce, pieces)
-            with rasterbar(package, package.full, source), client(package, package.begun, port):
-                with boarded(replay, package, port, random.Random(pieces), until) as truck:
-                    while BITFIELD not in truck.heard:
-                        truck.listen()
-                    same("seat", replay.ask("seat", 0).split()[:2], ["used", str(package.begun_pieces)])
-                    same("missing", replay.ask("missing", 0, 4), f"0 of 1 next {SEATS}")
-                    may_meet.set()
-                    while not truck.is_loaded():
-                        truck.listen()
-                    check_loaded(replay, package)
-                    same("haves", truck.heard.count(HAVE), pieces - package.begun_pieces)
-        said.append(truck.says())
-    return "came to be loaded: " + ", ".join(said)
+    return "came to be loaded: " + with_each(leecher, replay, folder, 801)
+
+
+def leecher(replay, where, client, pieces, until):
+    port, source = free_port(), free_port()
+    # Transmission calls nobody on loopback, so the seeder has to call it; if both call they may both hang up
+    told = ([port], []) if client is transmission else ([], [source])
+    with tracker(replay, *told) as (announce, may_meet):
+        package = Package(replay, where, announce, pieces)
+        with rasterbar(package, package.full, source), client(package, package.begun, port):
+            with boarded(replay, package, port, random.Random(pieces), until) as truck:
+                while BITFIELD not in truck.heard:
+                    truck.listen()
+                same("seat", replay.ask("seat", 0).split()[:2], ["used", str(package.begun_pieces)])
+                same("missing", replay.ask("missing", 0, 4), f"0 of 1 next {SEATS}")
+                may_meet.set()
+                while not truck.is_loaded():
+                    truck.listen()
+                check_loaded(replay, package)
+                same("haves", truck.heard.count(HAVE), pieces - package.begun_pieces)
+    return truck
 
 
 def served(replay, folder):
     """Each client with most pieces again: it gets the others from us, as the yard says that its requests are to be served."""
-    said = []
-    for pieces, client in enumerate(CLIENTS, 801):
-        where = folder / client.__name__
-        where.mkdir()
-        package = Package(replay, where, ANNOUNCE, pieces)
-        port, until = free_port(), time.monotonic() + SECONDS
-        with client(package, package.begun, port):
-            with boarded(replay, package, port, random.Random(pieces), until) as truck:
-                truck.send("write-frame", BITFIELD, all_of(pieces), MOST_ROOM)
-                truck.send("choke", 0, 0, 5)
-                given = set()
-                while len(given) < pieces - package.begun_pieces:
-                    truck.listen()
-                    given.update(serve(truck, package))
-                while (package.begun / "live.bin").read_bytes() != package.data:
-                    if time.monotonic() > until:
-                        raise Differs(f"{client.__name__} has not stored what it got")
-                    time.sleep(0.1)
-        said.append(truck.says())
-    return "got their last pieces from us: " + ", ".join(said)
+    return "got their last pieces from us: " + with_each(taker, replay, folder, 801)
+
+
+def taker(replay, where, client, pieces, until):
+    package, port = Package(replay, where, ANNOUNCE, pieces), free_port()
+    with client(package, package.begun, port):
+        with boarded(replay, package, port, random.Random(pieces), until) as truck:
+            truck.send("write-frame", BITFIELD, all_of(pieces), MOST_ROOM)
+            truck.send("choke", 0, 0, 5)
+            given = set()
+            while len(given) < pieces - package.begun_pieces:
+                truck.listen()
+                given.update(serve(truck, package))
+            while (package.begun / "live.bin").read_bytes() != package.data:
+                if time.monotonic() > until:
+                    raise Differs(f"{client.__name__} has not stored what it got")
+                time.sleep(0.1)
+    return truck
 
 
 def all_of(pieces):

@@ -11,7 +11,7 @@ from pathlib import Path
 
 ROOT = Path(__file__).resolve().parent.parent
 BUILD_SECONDS = 3600
-ANSWER_SECONDS = 30
+ANSWER_SECONDS = 120
 
 
 class Differs(Exception):

@@ -14,7 +14,8 @@ import libtorrent
 from world_replay import same, unhexed
 
 ANNOUNCE = b"http://127.0.0.1:9/announce"
-SECONDS = 60
+# for one client, or one run of a stock program; a slow machine may need some of them
+SECONDS = 300
 MOST_ROOM = 1 << 20
 # no name is looked up and no port is asked for: a session that keeps to this machine
 ALONE = {

@@ -1,0 +1,81 @@
+"""The one table of all benches, from what the programs of bench/ have printed.
+
+    python3 bench/table.py FOLDER CSV
+
+FOLDER has bench.txt, yard.txt, sha1.txt and sizes.txt. All numbers go to the file CSV, in microseconds; the table is printed.
+"""
+
+import csv
+import re
+import sys
+from pathlib import Path
+
+COLUMNS = ["what", "size", "of", "ours_us", "peer", "peer_us", "goal"]
+SHA1_BYTES = 16_777_216
+# a call of the yard may take 1.3 times as long as plain C
+YARD_GOAL = 1 / 1.3
+
+
+def main():
+    folder, target = map(Path, sys.argv[1:])
+    rows = readers((folder / "bench.txt").read_text()) + sha1((folder / "sha1.txt").read_text()) + yard((folder / "yard.txt").read_text())
+    sizes = [[*line.split(","), "", "", ""] for line in (folder / "sizes.txt").read_text().splitlines()]
+    with open(target, "w", newline="", encoding="ascii") as file:
+        out = csv.writer(file, lineterminator="\n")
+        out.writerow(COLUMNS)
+        out.writerows(rows + sizes)
+    print("| | ours, µs | | its time, µs | times as fast | goal | |\n|---|---|---|---|---|---|---|")
+    for what, _, _, ours, peer, theirs, goal in rows:
+        ratio = theirs / ours
+        wanted = f"{goal:.2f} | {'met' if ratio >= goal else '**missed**'}" if goal else "none |"
+        print(f"| {what} | {shown(ours)} | {peer} | {shown(theirs)} | {ratio:.2f} | {wanted} |")
+
+
+def shown(number):
+    return f"{number:,.0f}" if number >= 100 else f"{number:.3g}"
+
+
+def readers(said):
+    """The least times of bench.cpp's three races."""
+    reply, walked, torrent = re.split(r"^The same, every peer|^A torrent of ", said, flags=re.M)
+    torrent = torrent.split("\n\n", 2)[1]
+
+    def row(what, part, name, peer, goal):
+        size = int(re.search(r"(\d+) bytes", said if part is not torrent else said.split("A torrent of ")[1]).group(1))
+        return [what, size, "bytes", timed(part, name), peer, timed(part, peer), goal]
+
+    return [
+        row("a reply of 2,000 peers checked", reply, "wardrail_check", "bdecode", 2),
+        row("the same, all peers looked at", walked, "wardrail_reply, _listed_at", "bdecode", ""),
+        row("a torrent of 1,024 files read", torrent, "wardrail_torrent", "torrent_info, with its hash", 5),
+        row("its info hash", torrent, "wardrail_info_hash", "torrent_info, with its hash", 1.5),
+    ]
+
+
+def timed(part, name):
+    """The least of a row with median and least."""
+    return float(found(rf"^{re.escape(name)} +[\d.]+ +([\d.]+)", part))
+
+
+def found(form, said):
+    hit = re.search(form, said, re.M)
+    if not hit:
+        sys.exit(f"bench/table.py: nothing printed is like {form}")
+    return hit.group(1)
+
+
+def sha1(said):
+    ours, theirs = (SHA1_BYTES / float(found(rf"^{name} +(\d+) MB/s", said)) for name in ("wardrail_sha1", "unrolled C"))
+    return [["SHA-1 of 16 MiB", SHA1_BYTES, "bytes", ours, "unrolled C", theirs, 0.65]]
+
+
+def yard(said):
+    rows = []
+    for what in ("have", "full bitfield", "leave of a full truck", "page of 2,000 seats"):
+        ours, theirs = (float(found(rf"^{what} +{before}([\d.]+)", said)) / 1e3 for before in ("", r"[\d.]+ +"))
+        rows.append([what, 2000, "seats", ours, "plain C", theirs, YARD_GOAL])
+    return rows
+
+
+if __name__ == "__main__":
+    main()
