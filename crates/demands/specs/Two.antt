@@ -50,10 +50,14 @@ use Rattle.metainfo.specs.Reading.{paper as torrentPaper, readOf as torrentOf}
 use Rattle.metainfo.specs.Hashes.{infoHashOf}
 use Rattle.metainfo.specs.declared.Torrent.{Torrent}
 use Rattle.metainfo.specs.declared.Reading.{Reading}
-use Rattle.torrents.specs.Torrent.{Said, IsTorrent, lengthsIn}
-use Rattle.torrents.specs.Exact.{isSingle, filesUnder, StandsAt, EachAt, Shows}
+use Rattle.torrents.specs.Torrent.{OneFile, Files, single, many, Said, IsTorrent, lengthsIn, sizesOf}
+use Rattle.torrents.specs.Exact.{isSingle, filesUnder, StandsAt, PathAt, EachAt, Shows}
 use Rattle.torrents.proofs.Laws as torrents
 use Rattle.torrents.proofs.Determined as said
+use Rattle.contents.specs.Files.{filePaper, entryOf}
+use Rattle.contents.specs.Files.{single as oneEntry}
+use Rattle.contents.specs.declared.Entry as file-entry
+use Rattle.contents.specs.declared.Found as file
 use Rattle.contents.specs.Pieces.{checkPaper}
 use Rattle.contents.specs.Pieces.{checkOf as pieceOf}
 use Rattle.contents.specs.declared.Checked as piece
@@ -78,8 +82,10 @@ use Rattle.tracker.proofs.Exact.{reply-only, reply-every}
 use Rattle.tracker.proofs.Numbering.{entries-said}
 use Rattle.tracker.proofs.Walking.{walked}
 use Rattle.tracker.proofs.Rewriting as replies
-use Rattle.demands.specs.Two.Joins.{piece-tells, piece-yes, piece-no, block-parts, block-taken, block-takes, byte-taken, byte-takes, byte-found}
+use Rattle.demands.specs.Two.Joins.{reply-again, piece-tells, piece-yes, piece-no, block-parts, block-taken, block-takes, byte-taken, byte-takes, byte-found}
+use Rattle.demands.specs.Two.Numbered.{noFile, many-within, many-beyond, one-within, one-beyond, sum-one, part-bytes}
 mod Joins
+mod Numbered
 
 -- the bytes s are the value v as BEP 3 writes it, and v keeps the rules: integers of 64 bits, keys strictly ascending, at most 32 levels;
 -- at most 16,384 values, each key counted, and at most 1,048,576 bytes
@@ -139,6 +145,33 @@ module _ (s : List ℕ) (r : Reading) (c : torrentPaper r ≡ torrentOf s) where
       let w = subst (λ (y : Torrent). Shows s y t) z (h .2) in
       let f = w .files in
       (w .announce, w .info, w .name, w .pieces, w .piece-length, w .count, f .one, f .files, f .total, f .place, f .each)
+
+-- of contents::file: file number n of a torrent of many files has its length and path, and starts where those before it end; beyond the last it is 31
+pub file-exact : (s : List ℕ) (n : ℕ) (r : file.Found) → filePaper r ≡ entryOf s n → (v : Value) (t : Said) → Encodes s v → IsTorrent v t → (fs : List OneFile) → t .files ≡ many fs
+    → (n < length fs → (e : file-entry.Entry) × (filePaper r ≡ taken e) × (e .offset .0 ≡ sum (take n (sizesOf fs))) × (e .length ≡ getD fs n noFile .size) × PathAt s (e .path) (getD fs n noFile .path))
+    × (length fs ≤ n → filePaper r ≡ refused 31 0)
+file-exact s n r c v t e i fs f =
+    let h = torrents.torrent-exact s .every v t (fine e) i in
+    let w = h .2 .files in
+    let one = w .one ∙ ap isSingle f in
+    let all = w .files ∙ ap (λ (g : Files). length (lengthsIn g)) f in
+    let each = subst (λ (g : Files). EachAt s (h .0 .content .place + 1) g) f (w .each) in (
+      λ l. let k = many-within s n (h .0) (h .1) fs one all each l in (k .0, c ∙ k .1, omega (arith, k .2 .0), k .2 .1, k .2 .2),
+      λ l. c ∙ many-beyond s n (h .0) (h .1) fs one all each l,
+    )
+
+-- and of a torrent of one file: file 0 has its length and its name, and any other number is 31
+pub one-file-exact : (s : List ℕ) (n : ℕ) (r : file.Found) → filePaper r ≡ entryOf s n → (v : Value) (t : Said) → Encodes s v → IsTorrent v t → (m : ℕ) → t .files ≡ single m
+    → (n ≡ 0 → (e : file-entry.Entry) × (filePaper r ≡ taken e) × (e .offset .0 ≡ 0) × (e .length ≡ m) × (take (length (t .name)) (drop (e .path) s) ≡ t .name))
+    × (1 ≤ n → filePaper r ≡ refused 31 0)
+one-file-exact s n r c v t e i m f =
+    let h = torrents.torrent-exact s .every v t (fine e) i in
+    let w = h .2 .files in
+    let one = w .one ∙ ap isSingle f in
+    let all : h .0 .content .total ≡ m = w .total ∙ ap (λ (g : Files). sum (lengthsIn g)) f ∙ sum-one m in (
+      λ z. (oneEntry (h .0), c ∙ one-within s n (h .0) (h .1) one z, refl, all, part-bytes s (h .0 .name) (t .name) (h .2 .name)),
+      λ l. c ∙ one-beyond s n (h .0) (h .1) one l,
+    )
 
 -- a value says one thing as a torrent
 pub torrent-says-one : (s : List ℕ) (v : Value) (t u : Said) → Encodes s v → IsTorrent v t → IsTorrent v u → t ≡ u
@@ -243,10 +276,10 @@ reply-reads-back n bs o out r c q t =
     let d : drop q out ≡ drop q o = rw z at (b .1 .past) in
     (w, d, (b .2 .0, ap replyOf w ∙ b .2 .1, ap (λ (k : List ℕ). take (length bs) (drop (b .2 .0) k)) w ∙ b .2 .2))
 
--- a reply with only those keys, its peers a string, that is read: what was read, written again, is that text
+-- a reply with only those keys, its peers a string, that is read: written from what was read it is that text again, wherever there is room
 pub reply-rewrite : (s : List ℕ) (v w : Value) → Encodes s (dict (entry interval v (entry peers w empty))) → (n p : ℕ) (l : List Entry) → replyOf s ≡ taken (compact n p l)
-    → (bs : List ℕ) × (take (length bs) (drop p s) ≡ bs) × (l ≡ sixes bs) × (encode (dict (entry interval (int (pos n)) (entry peers (str bs) empty))) ≡ s)
-reply-rewrite s v w e n p l d = replies.rewrite s v w (fine e) n p l d
+    → (bs : List ℕ) × (take (length bs) (drop p s) ≡ bs) × (l ≡ sixes bs) × ((o : List ℕ) → replyWrite n bs o ≡ putOf s 0 o)
+reply-rewrite s v w e n p l d = reply-again s v w (fine e) n p l d
 
 -- of authoring::write; f are the fields
 pub torrent-reads-back : (f : Torrents) (o out : List ℕ) (r : Put) → left (putPaper r) out ≡ authorOf f o → (q : ℕ) → putPaper r ≡ taken q
@@ -299,7 +332,7 @@ module _ (s : List ℕ) (n : ℕ) (m : List ℕ) (r : piece.Checked) (c : checkP
 
 -- ---- 9. "Blocks map to file parts exactly."
 
--- of blocks::block: q + n bytes from offset q of piece p, of files of the lengths ns one after the other. The parts of a taken block are its bytes, once each and in
+-- of blocks::block: n bytes from offset q of piece p, of files of the lengths ns one after the other. The parts of a taken block are its bytes, once each and in
 -- order; none is empty, each lies within its file, and files ascend. They stand at the output's start as file, offset and length each, and past them it stays
 pub block-covers : (ns : List ℕ) (pl p q n : ℕ) (o out : List ℕ) (r : Parts) → parting (partsPaper r) out ≡ partsIn (blockOf (joined ns) pl p q n) o → (k : ℕ) → partsPaper r ≡ taken k
     → (ps : List Part) × (k ≡ length ps) × (out ≡ flat ps ++ drop (3 * k) o) × (placesOf (joined ns) ps ≡ run (p * pl + q) n) × Neat (joined ns) 0 ps

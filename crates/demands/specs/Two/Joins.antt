@@ -2,16 +2,22 @@
 use mathlib.Core.Path.{_≡_, refl, sym, ap, _∙_, subst}
 use mathlib.Core.Bool.{Bool, true, false, cond, _&&_}
 use mathlib.Core.List.{List, [], _∷_, _++_}
-use Prim.Native.Nat.{ℕ, _+_, _-_, _*_, _/_, _%_, _≤_, _<_, min}
+use Prim.Native.Nat.{ℕ, _+_, _-_, _*_, _%_, _^_, _≤_, _<_, min}
 use native.Mathlib.Omega.{arith}
 use native.Mathlib.Nat.{mod-lt}
-use borrow.Author.Tests.{ltb-true, eqb-true, leb-true, lt-ltb, le-leb}
+use borrow.Author.Tests.{ltb-true, eqb-true, leb-true, lt-ltb, le-ltb, le-leb}
 use lib.Dec.{ltb, leb, eqb}
+use lib.IntN.{pos}
 use lib.ListN.{length, getD, take, drop, length-drop, take-append-drop}
 use lib.Seq.{take-append-le, drop-append-le, drop-drop}
 use Rattle.refusal.specs.Paper.{Outcome, taken, refused, then}
-use Rattle.bencode.specs.Value.{Value}
+use Rattle.scalar.specs.Written.{keyLt}
+use Rattle.bencode.specs.Value.{Value, str, int, dict, empty, entry, count, Keeps}
 use Rattle.bencode.specs.Exact.{Fine}
+use Rattle.bencode.proofs.Exact.{fine-taken}
+use Rattle.walk.specs.Lookup.{lookup, sameKey}
+use Rattle.fields.specs.Values.{partOf, dictionaryAt}
+use Rattle.writer.specs.Put.{putOf}
 use Rattle.sha1.specs.Sha1.{sha1}
 use Rattle.sha1.specs.Digest.{same}
 use Rattle.blocks.specs.Rules.{sum, Lawful, piecesOf, lawful}
@@ -31,6 +37,14 @@ use Rattle.torrents.proofs.Laws.{torrent-exact}
 use Rattle.contents.specs.Pieces.{hashPart, pieceBytes, checkIn, checkOf}
 use Rattle.contents.proofs.Facts.{then-taken}
 use Rattle.contents.proofs.Hashing.{piece-check}
+use Rattle.tracker.specs.Keys.{interval, peers}
+use Rattle.tracker.specs.Entries.{Entry}
+use Rattle.tracker.specs.Reply.{Answer, compact, sixes, replyIn, replyOf}
+use Rattle.tracker.specs.Writing.{compactReply, textOf, writeOf}
+use Rattle.tracker.specs.Exact.{packs, IsReply, fails, has-string, has-list, shows-failure, shows-packs, shows-lists}
+use Rattle.tracker.specs.Exact.{Said as Told, Shows as Shown}
+use Rattle.tracker.proofs.Exact.{reply-only}
+use Rattle.tracker.proofs.Rewriting.{rewrite}
 
 no-way : {A : Type 0} → _≡_ {A = ℕ} 0 1 → A
 no-way e = absurd (omega arith)
@@ -110,6 +124,53 @@ module _ (s : List ℕ) (n : ℕ) (m : List ℕ) where
   piece-no e =
       let h = told false e in
       (h .0, h .1, h .2, h .3, h .4, h .5, λ a. let q = piece-tells (h .0) (h .1) (h .2) (h .3) (h .4) (h .5) .0 a in let z : _≡_ {A = ℕ} 0 1 = cc in omega arith)
+
+-- ---- a compact reply written again
+
+interval-peers : keyLt interval peers ≡ true
+unfolding keyLt
+interval-peers = refl
+
+said-small : (v : Value) (t : Told) (n : ℕ) (bs : List ℕ) → IsReply v t → t ≡ packs n bs → n ≤ 2147483647
+said-small v t n bs (fails es cs h) e = no-way (cc)
+said-small v t n bs (has-string es m cs w h l) e = let a : m ≡ n = cc in omega (arith, a, w .interval-small)
+said-small v t n bs (has-list es m vs l w h ps) e = no-way (cc)
+
+shown-small : (s : List ℕ) (x : Answer (List Entry)) (v : Value) (t : Told) (n p : ℕ) (l : List Entry) → Shown s x t → IsReply v t → x ≡ compact n p l → n ≤ 2147483647
+shown-small s x v t n p l (shows-failure q cs h) i e = no-way (cc)
+shown-small s x v t n p l (shows-packs m q cs h) i e = let a : m ≡ n = cc in omega (arith, a, said-small v (packs m cs) m cs i refl)
+shown-small s x v t n p l (shows-lists m q k j h) i e = no-way (cc)
+
+-- its entries are whole
+whole-sixes : (s : List ℕ) (n : ℕ) (bs : List ℕ) → Fine s (compactReply n bs) → (p : ℕ) (l : List Entry) → replyOf s ≡ taken (compact n p l) → length bs % 6 ≡ 0
+unfolding replyOf lookup sameKey
+whole-sixes s n bs f p l e =
+    go _ _ (leb n 2147483647) (eqb (length bs % 6) 0) refl (sym (ap (λ (o : Outcome Value). then o (λ v. then (dictionaryAt 0 v) replyIn)) (fine-taken s (compactReply n bs) f)) ∙ e)
+  where
+    go : (i j : ℕ) (a b : Bool) → eqb (length bs % 6) 0 ≡ b
+        → then (cond a (taken n) (refused 11 i)) (λ m. cond b (taken (compact m (partOf j bs .from) (sixes bs))) (refused 15 j)) ≡ taken (compact n p l) → length bs % 6 ≡ 0
+    go i j true true h q = eqb-true (length bs % 6) 0 h
+    go i j true false h q = no-way (cc)
+    go i j false b h q = no-way (cc)
+
+writes-again : (n : ℕ) (bs o s : List ℕ) → n ≤ 2147483647 → length bs % 6 ≡ 0 → length s ≤ 1048576 → textOf n bs ≡ s → writeOf n bs o ≡ putOf s 0 o
+unfolding writeOf
+writes-again n bs o s a b c g = rw (le-ltb 2147483647 n a, le-ltb 0 (length bs % 6) (omega (arith, b)), g, le-ltb 1048576 (length s) c)
+
+pub reply-again : (s : List ℕ) (v w : Value) → Fine s (dict (entry interval v (entry peers w empty))) → (n p : ℕ) (l : List Entry) → replyOf s ≡ taken (compact n p l)
+    → (bs : List ℕ) × (take (length bs) (drop p s) ≡ bs) × (l ≡ sixes bs) × ((o : List ℕ) → writeOf n bs o ≡ putOf s 0 o)
+unfolding Keeps count
+reply-again s v w f n p l e =
+    let b = rewrite s v w f n p l e in
+    let h = reply-only s (compact n p l) e in
+    let k = shown-small s (compact n p l) (h .0) (h .1) n p l (h .4) (h .3) refl in
+    let g : Fine s (compactReply n (b .0)) = record {
+      text = sym (b .3);
+      keeps = (31, refl, (refl, lt-ltb n (2 ^ 63) (omega (arith, k)), (interval-peers, tt, tt)));
+      few = omega arith;
+      short = f .short;
+    } in
+    (b .0, b .1, b .2, λ o. writes-again n (b .0) o s k (whole-sixes s n (b .0) g p l e) (f .short) (b .3))
 
 -- ---- blocks of files one after the other
 
