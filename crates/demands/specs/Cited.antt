@@ -35,6 +35,7 @@ use Rattle.wardrail.specs.Yards.{codeOf, toldOf, shownOf}
 use Rattle.wardrail.specs.declared.yards.Told.{Told}
 use Rattle.demands.specs.One.{Ref, now, Refused, Unused}
 pub mod Numbers
+pub mod Reasons
 
 -- ---- parts handed back
 

@@ -19,10 +19,12 @@ use Rattle.bencode.specs.Decode.{decode}
 use Rattle.causes.proofs.Laws as bencode
 use Rattle.walk.specs.Lookup.{Under}
 use Rattle.walk.specs.declared.Part.{Part}
-use Rattle.sha1.specs.Digest.{digestOf}
-use Rattle.sha1.proofs.Steps.{agreement-whole}
-use Rattle.sha1.proofs.Parts.{digest-over}
-use Rattle.sha1.proofs.Determined.{digest-refusal-keeps}
+use Rattle.sha1.specs.Digest.{digestOf, agreementOf}
+use Rattle.sha1.specs.Parts.{finishOf}
+use Rattle.sha1.specs.declared.stream.Stream.{Stream}
+use Rattle.sha1.proofs.Steps.{agreement-whole, agreement-over}
+use Rattle.sha1.proofs.Parts.{digest-over, finish-over}
+use Rattle.sha1.proofs.Determined.{digest-refusal-keeps, finish-refusal-keeps}
 use Rattle.wire.specs.Frames.{Allowed, writeOf}
 use Rattle.wire.specs.Frames.{readOf as readsOf}
 use Rattle.wire.specs.Handshake.{shakeOf}
@@ -42,7 +44,8 @@ use Rattle.tracker.proofs.Causes.{reply-causes, reply-refused}
 use Rattle.tracker.proofs.Numbering.{entry-within, entry-beyond}
 use Rattle.tracker.proofs.Rewriting as replies
 use Rattle.metainfo.specs.Reading.{readOf, bytesOf}
-use Rattle.metainfo.specs.Rules.{torrentOf}
+use Rattle.metainfo.specs.Hashes.{hashedIn, infoHashOf}
+use Rattle.metainfo.proofs.Hashing.{info-hash}
 use Rattle.metainfo.specs.declared.Torrent.{Torrent}
 use Rattle.authoring.specs.Writing as author
 use Rattle.authoring.specs.Rules as rules
@@ -392,3 +395,54 @@ file-exactly s n p = (λ e. go (readOf s) refl e, λ h. sym (numbering.number-pa
     go (taken t) f e = by-count (t .content .files) n
         (λ l. let y = entry-there s t f n l in taken-not (sym (y .1) ∙ e))
         (λ l. (t, f, l, sym (same-refusal {A = FileEntry} 31 0 31 p (numbering.number-past s t f n l ∙ e) .1)))
+
+-- ---- digests compared, and finished from parts
+
+pub agreement-exactly : (m expected : List ℕ) (p : ℕ) → agreementOf m expected ≡ refused 8 p ↔ ((longestPiece < length m) × (p ≡ 0))
+agreement-exactly m expected p = (
+  λ e. by-count (suc longestPiece) (length m) (λ h. taken-not (sym (agreement-whole m expected (omega arith)) ∙ e)) (λ h. (omega arith, sym (same-refusal {A = Bool} 8 0 8 p (sym (agreement-over m expected (omega arith)) ∙ e) .1))),
+  λ h. agreement-over m expected (h .0) ∙ at-place (h .1),
+)
+
+pub finish-exactly : (s : Stream) (o : List ℕ) (p : ℕ) → finishOf s o .answer ≡ refused 8 p ↔ ((longestPiece < s .length) × (p ≡ 0))
+finish-exactly s o p = (
+  λ e. let k = finish-refusal-keeps s o (refuses 8 p) (same-left (finishOf s o) 8 p e) refl in (k .0 .2, k .0 .1),
+  λ h. ap (λ l. l .answer) (finish-over s o (h .0)) ∙ at-place (h .1),
+)
+
+-- ---- calls that refuse as another does
+
+pub info-hash-alike : (s o : List ℕ) (k p : ℕ) → infoHashOf s o .answer ≡ refused k p ↔ readOf s ≡ refused k p
+info-hash-alike s o k p = go (readOf s) refl
+  where
+    go : (x : Outcome Torrent) → readOf s ≡ x → infoHashOf s o .answer ≡ refused k p ↔ readOf s ≡ refused k p
+    go (taken t) f = (λ e. taken-not (sym (ap (λ l. l .answer) (info-hash s o t f)) ∙ e), λ e. taken-not (sym f ∙ e))
+    go (refused r q) f =
+        let g : infoHashOf s o .answer ≡ refused r q = ap (λ (x : Outcome Torrent). hashedIn s o x .answer) f in
+        (λ e. let z = same-refusal {A = Unit {0}} r q k p (sym g ∙ e) in f ∙ refusal-is (z .0) (z .1), λ e. let z = same-refusal {A = Torrent} r q k p (sym f ∙ e) in g ∙ refusal-is (z .0) (z .1))
+
+pub hash-alike : (s : List ℕ) (n k p : ℕ) → k ≤ 30 → hashOf s n ≡ refused k p ↔ readOf s ≡ refused k p
+hash-alike s n k p l = both-ways (then-refused (readOf s) (hashIn n) k p) (
+  ⊎-elim (λ (h : readOf s ≡ refused k p). h) (λ (h : (t : Torrent) × (readOf s ≡ taken t) × (hashIn n t ≡ refused k p)). absurd (let c = in-hash (h .0) n k p .0 (h .2) .0 in omega arith)),
+  λ h. inl h,
+)
+
+pub file-alike : (s : List ℕ) (n k p : ℕ) → k ≤ 30 → file.entryOf s n ≡ refused k p ↔ readOf s ≡ refused k p
+file-alike s n k p l = (λ e. go (readOf s) refl e, λ h. sym (numbering.entry-refused s n k p (sym h)))
+  where
+    go : (o : Outcome Torrent) → readOf s ≡ o → file.entryOf s n ≡ refused k p → readOf s ≡ refused k p
+    go (refused r q) f e = let z = same-refusal {A = FileEntry} r q k p (numbering.entry-refused s n r q (sym f) ∙ e) in f ∙ refusal-is (z .0) (z .1)
+    go (taken t) f e = by-count (t .content .files) n
+        (λ h. let y = entry-there s t f n h in taken-not (sym (y .1) ∙ e))
+        (λ h. absurd (let z = same-refusal {A = FileEntry} 31 0 k p (numbering.number-past s t f n h ∙ e) .0 in omega arith))
+
+pub peer-alike : (s : List ℕ) (n k p : ℕ) → k ≤ 30 → then (replyOf s) (nthOf n) ≡ refused k p ↔ map counted (replyOf s) ≡ refused k p
+peer-alike s n k p l = both-ways (then-refused (replyOf s) (nthOf n) k p) (
+  ⊎-elim (λ (h : replyOf s ≡ refused k p). map-refused counted (replyOf s) k p .1 h) (λ (h : (x : Answer (List Entry)) × (replyOf s ≡ taken x) × (nthOf n x ≡ refused k p)). not-there (h .0) (h .2)),
+  λ h. inl (map-refused counted (replyOf s) k p .0 h),
+)
+  where
+    not-there : {P : Type 0} (x : Answer (List Entry)) → nthOf n x ≡ refused k p → P
+    not-there x e = by-count (entriesIn (counted x)) n
+        (λ h. let y = entry-within n x h in taken-not (sym (y .1) ∙ e))
+        (λ h. absurd (let z = same-refusal {A = Entry} 31 0 k p (sym (entry-beyond n x h) ∙ e) .0 in omega arith))

@@ -1,21 +1,26 @@
 -- Statement 4 of demand 1: "Given exactly when". Each number of document 01's table in its order: under the table's line, call by call, that the number
 -- is given at a place exactly when its cause holds there. A cause says that the checks before it are passed; the left side is what the contract of the
--- call says of its answer. Assumes nothing.
+-- call says of its answer. The causes: causes/specs/Causes (1 to 7), torrents/specs/Causes and tracker/specs/Causes (10 to 15), blocks/specs/Covers,
+-- wire/specs/Causes (20 to 23, wait), authoring/specs/Rules and tracker/specs/Faults (the writers), history/specs/Causes and Damage (the yard's
+-- words), and One/Causes. Assumes nothing.
 use mathlib.Core.Path.{_≡_, refl, sym, ap, _∙_}
 use mathlib.Core.Logic.{_⊎_, _↔_}
+use mathlib.Core.Bool.{true, false}
 use mathlib.Core.List.{List}
-use Prim.Native.Nat.{ℕ, _+_, _≤_, _<_}
+use Prim.Native.Nat.{ℕ, _+_, _*_, _≤_, _<_}
 use native.Mathlib.Omega.{arith}
 use lib.ListN.{length, getD}
 use Rattle.refusal.specs.Paper.{Outcome, taken, refused, map, then}
 use Rattle.refusal.specs.Limits.{mostText, longestPiece, longestFrame}
 use Rattle.writer.specs.Put.{putOf}
-use Rattle.bencode.specs.Value.{count}
+use Rattle.bencode.specs.Value as value
 use Rattle.bencode.specs.Decode.{decode}
 use Rattle.bencode.specs.Answers.{checkOf}
 use Rattle.causes.specs.Causes.{Cut, Byte, Order, Integer, Deep, Many, After}
 use Rattle.causes.proofs.Laws as bencode
-use Rattle.sha1.specs.Digest.{digestOf}
+use Rattle.sha1.specs.Digest.{digestOf, agreementOf}
+use Rattle.sha1.specs.Parts.{finishOf}
+use Rattle.sha1.specs.declared.stream.Stream.{Stream}
 use Rattle.blocks.specs.Spans.{Span}
 use Rattle.blocks.specs.Answers.{Left, written, blockOf, byteOf, sizeOf}
 use Rattle.blocks.specs.Covers.{BlockCause, ByteCause, SizeCause}
@@ -34,6 +39,7 @@ use Rattle.tracker.specs.Reading.{entriesIn}
 use Rattle.tracker.specs.Writing.{writeOf as replyText}
 use Rattle.tracker.specs.Faults.{NotWritten}
 use Rattle.metainfo.specs.Reading.{readOf}
+use Rattle.metainfo.specs.Hashes.{infoHashOf}
 use Rattle.metainfo.specs.declared.Torrent.{Torrent}
 use Rattle.authoring.specs.Writing as author
 use Rattle.authoring.specs.Writing.{Fields}
@@ -42,22 +48,47 @@ use Rattle.torrents.specs.Causes.{NoTorrentText}
 use Rattle.torrents.proofs.Laws as torrents
 use Rattle.contents.specs.Files as file
 use Rattle.contents.specs.Pieces as piece
+use Rattle.wire.specs.Message.{Message, have}
+use Rattle.wire.specs.Message.{bitfield as bits}
+use Rattle.tables.specs.Rows.{width, bitAt}
 use Rattle.tables.specs.Tables.{Yard, wait}
-use Rattle.tables.specs.Step.{Call, step}
-use Rattle.history.specs.Causes.{Cause, Waits}
+use Rattle.tables.specs.Step.{Call, start, sit, feed, missing, look, has, count, step}
+use Rattle.history.specs.History.{History, seated, fresh, pieces}
+use Rattle.history.specs.Causes.{Sits, Nobody, On, Marks, Says, Block, Fits, StartFits}
 use Rattle.history.specs.Damage.{Unfit, Damaged}
-use Rattle.history.specs.Run.{Accepted, after}
-use Rattle.history.proofs.Demand.{fair, fair-wait, never-damaged}
 use Rattle.history.proofs.Damage as damage
-use Rattle.demands.specs.One.Causes.{Unchecked, Unsized, NoReplyText}
+use Rattle.demands.specs.One.Causes.{Unchecked, Unsized, NoReplyText, Ran}
+use Rattle.demands.specs.Cited.Reasons as reasons
 use Rattle.demands.specs.Cited.Numbers as cited
 use Rattle.demands.specs.Cited.Numbers.{both-ways, map-refused, at-place, decode-8}
+
+-- ---- calls that refuse as another does: each number below is then given as by that one
+
+-- `metainfo::info_hash` as `metainfo::read`
+pub info-hash-alike : (s o : List ℕ) (k p : ℕ) → infoHashOf s o .answer ≡ refused k p ↔ readOf s ≡ refused k p
+info-hash-alike s o k p = cited.info-hash-alike s o k p
+
+-- `contents::piece_hash` as `metainfo::read`, but for 31
+pub piece-hash-alike : (s : List ℕ) (n k p : ℕ) → k ≤ 30 → piece.hashOf s n ≡ refused k p ↔ readOf s ≡ refused k p
+piece-hash-alike s n k p l = cited.hash-alike s n k p l
+
+-- `contents::file` as `metainfo::read`, but for 31
+pub file-alike : (s : List ℕ) (n k p : ℕ) → k ≤ 30 → file.entryOf s n ≡ refused k p ↔ readOf s ≡ refused k p
+file-alike s n k p l = cited.file-alike s n k p l
+
+-- `contents::check_piece` as `metainfo::read`, but for 8, 31 and 34
+pub piece-check-alike : (s : List ℕ) (n : ℕ) (m : List ℕ) (k p : ℕ) → piece.checkOf s n m ≡ refused k p ↔ ((readOf s ≡ refused k p) ⊎ ((t : Torrent) × (readOf s ≡ taken t) × Unchecked t n m k × (p ≡ 0)))
+piece-check-alike s n m k p = cited.check-exactly s n m k p
+
+-- `tracker::peer` as `tracker::read`, but for 31
+pub peer-alike : (s : List ℕ) (n k p : ℕ) → k ≤ 30 → then (replyOf s) (nthOf n) ≡ refused k p ↔ map counted (replyOf s) ≡ refused k p
+peer-alike s n k p l = cited.peer-alike s n k p l
 
 -- ---- 1: "the text ends where a byte is needed, or a string's length exceeds the bytes left after its colon; place: the text's length"
 
 -- given by bencode::check
 pub check-1 : (s : List ℕ) (p : ℕ) → length s ≤ mostText → checkOf s ≡ refused 1 p ↔ Cut s p
-check-1 s p h = both-ways (map-refused count (decode s) 1 p) (bencode.cut-law s p h)
+check-1 s p h = both-ways (map-refused value.count (decode s) 1 p) (bencode.cut-law s p h)
 
 -- given by metainfo::read
 pub torrent-1 : (s : List ℕ) (p : ℕ) → length s ≤ mostText → readOf s ≡ refused 1 p ↔ Cut s p
@@ -71,7 +102,7 @@ reply-1 s p h = both-ways (cited.reply-bencode s 1 p (omega arith)) (bencode.cut
 
 -- given by bencode::check
 pub check-2 : (s : List ℕ) (p : ℕ) → length s ≤ mostText → checkOf s ≡ refused 2 p ↔ Byte s p
-check-2 s p h = both-ways (map-refused count (decode s) 2 p) (bencode.byte-law s p h)
+check-2 s p h = both-ways (map-refused value.count (decode s) 2 p) (bencode.byte-law s p h)
 
 -- given by metainfo::read
 pub torrent-2 : (s : List ℕ) (p : ℕ) → length s ≤ mostText → readOf s ≡ refused 2 p ↔ Byte s p
@@ -85,7 +116,7 @@ reply-2 s p h = both-ways (cited.reply-bencode s 2 p (omega arith)) (bencode.byt
 
 -- given by bencode::check
 pub check-3 : (s : List ℕ) (p : ℕ) → length s ≤ mostText → checkOf s ≡ refused 3 p ↔ Order s p
-check-3 s p h = both-ways (map-refused count (decode s) 3 p) (bencode.order-law s p h)
+check-3 s p h = both-ways (map-refused value.count (decode s) 3 p) (bencode.order-law s p h)
 
 -- given by metainfo::read
 pub torrent-3 : (s : List ℕ) (p : ℕ) → length s ≤ mostText → readOf s ≡ refused 3 p ↔ Order s p
@@ -99,7 +130,7 @@ reply-3 s p h = both-ways (cited.reply-bencode s 3 p (omega arith)) (bencode.ord
 
 -- given by bencode::check
 pub check-4 : (s : List ℕ) (p : ℕ) → length s ≤ mostText → checkOf s ≡ refused 4 p ↔ Integer s p
-check-4 s p h = both-ways (map-refused count (decode s) 4 p) (bencode.integer-law s p h)
+check-4 s p h = both-ways (map-refused value.count (decode s) 4 p) (bencode.integer-law s p h)
 
 -- given by metainfo::read
 pub torrent-4 : (s : List ℕ) (p : ℕ) → length s ≤ mostText → readOf s ≡ refused 4 p ↔ Integer s p
@@ -113,7 +144,7 @@ reply-4 s p h = both-ways (cited.reply-bencode s 4 p (omega arith)) (bencode.int
 
 -- given by bencode::check
 pub check-5 : (s : List ℕ) (p : ℕ) → length s ≤ mostText → checkOf s ≡ refused 5 p ↔ Deep s p
-check-5 s p h = both-ways (map-refused count (decode s) 5 p) (bencode.deep-law s p h)
+check-5 s p h = both-ways (map-refused value.count (decode s) 5 p) (bencode.deep-law s p h)
 
 -- given by metainfo::read
 pub torrent-5 : (s : List ℕ) (p : ℕ) → length s ≤ mostText → readOf s ≡ refused 5 p ↔ Deep s p
@@ -127,7 +158,7 @@ reply-5 s p h = both-ways (cited.reply-bencode s 5 p (omega arith)) (bencode.dee
 
 -- given by bencode::check
 pub check-6 : (s : List ℕ) (p : ℕ) → length s ≤ mostText → checkOf s ≡ refused 6 p ↔ Many s p
-check-6 s p h = both-ways (map-refused count (decode s) 6 p) (bencode.many-law s p h)
+check-6 s p h = both-ways (map-refused value.count (decode s) 6 p) (bencode.many-law s p h)
 
 -- given by metainfo::read
 pub torrent-6 : (s : List ℕ) (p : ℕ) → length s ≤ mostText → readOf s ≡ refused 6 p ↔ Many s p
@@ -141,7 +172,7 @@ reply-6 s p h = both-ways (cited.reply-bencode s 6 p (omega arith)) (bencode.man
 
 -- given by bencode::check
 pub check-7 : (s : List ℕ) (p : ℕ) → length s ≤ mostText → checkOf s ≡ refused 7 p ↔ After s p
-check-7 s p h = both-ways (map-refused count (decode s) 7 p) (bencode.after-law s p h)
+check-7 s p h = both-ways (map-refused value.count (decode s) 7 p) (bencode.after-law s p h)
 
 -- given by metainfo::read
 pub torrent-7 : (s : List ℕ) (p : ℕ) → length s ≤ mostText → readOf s ≡ refused 7 p ↔ After s p
@@ -155,7 +186,7 @@ reply-7 s p h = both-ways (cited.reply-bencode s 7 p (omega arith)) (bencode.aft
 
 -- given by bencode::check
 pub check-8 : (s : List ℕ) (p : ℕ) → checkOf s ≡ refused 8 p ↔ ((mostText < length s) × (p ≡ 0))
-check-8 s p = both-ways (map-refused count (decode s) 8 p) (decode-8 s p)
+check-8 s p = both-ways (map-refused value.count (decode s) 8 p) (decode-8 s p)
 
 -- given by metainfo::read
 pub torrent-8 : (s : List ℕ) (p : ℕ) → readOf s ≡ refused 8 p ↔ ((mostText < length s) × (p ≡ 0))
@@ -168,6 +199,14 @@ reply-8 s p = both-ways (cited.reply-bencode s 8 p (omega arith)) (decode-8 s p)
 -- given by sha1::digest
 pub digest-8 : (m o : List ℕ) (p : ℕ) → digestOf m o .answer ≡ refused 8 p ↔ ((longestPiece < length m) × (p ≡ 0))
 digest-8 m o p = let e = cited.digest-exactly m o 8 p in (λ h. let k = e .0 h in (k .1, k .2), λ h. e .1 (refl, h .0, h .1))
+
+-- given by sha1::stream::finish
+pub finish-8 : (s : Stream) (o : List ℕ) (p : ℕ) → finishOf s o .answer ≡ refused 8 p ↔ ((longestPiece < s .length) × (p ≡ 0))
+finish-8 s o p = cited.finish-exactly s o p
+
+-- given by sha1::agrees
+pub agrees-8 : (m expected : List ℕ) (p : ℕ) → agreementOf m expected ≡ refused 8 p ↔ ((longestPiece < length m) × (p ≡ 0))
+agrees-8 m expected p = cited.agreement-exactly m expected p
 
 -- given by contents::check_piece
 pub piece-check-8 : (s : List ℕ) (n : ℕ) (m : List ℕ) (p : ℕ) → piece.checkOf s n m ≡ refused 8 p ↔ ((readOf s ≡ refused 8 p) ⊎ ((t : Torrent) × (readOf s ≡ taken t) × Unchecked t n m 8 × (p ≡ 0)))
@@ -278,9 +317,10 @@ frame-20 s p = cited.frame-20 s p
 pub write-20 : (rest o : List ℕ) (p : ℕ) → frames.writeOf rest o .answer ≡ refused 20 p ↔ ((longestFrame < length rest) × (p ≡ 0))
 write-20 rest o p = cited.write-20 rest o p
 
--- given by yard, after an accepted start and any calls
-pub yard-20 : (p l k : ℕ) (y : Yard) (ok : Accepted p l k y) (cs : List Call) (c : Call) (place : ℕ) → step c (after p l k y cs .yard) .answer ≡ refused 20 place ↔ (Cause (length (y .seats)) (after p l k y cs .past) c 20 × (place ≡ 0))
-yard-20 p l k y ok cs c place = fair p l k y ok cs c 20 place
+-- given by yard, of n seats, after an accepted start and any calls
+pub yard-20 : (n : ℕ) (h : History) (y : Yard) → Ran n h y → (c : Call) (place : ℕ) → step c y .answer ≡ refused 20 place
+    ↔ (((i : ℕ) × (s : List ℕ) × (c ≡ feed i s) × Sits n h i × TooLong s) × (place ≡ 0))
+yard-20 n h y r c place = both-ways (reasons.ran-fair n h y r c 20 place) (reasons.cause-20 n h c place)
 
 -- ---- 21: "payload length wrong for its id"
 
@@ -292,9 +332,10 @@ frame-21 s p = cited.frame-21 s p
 pub write-21 : (rest o : List ℕ) (p : ℕ) → frames.writeOf rest o .answer ≡ refused 21 p ↔ ((length rest ≤ longestFrame) × (Allowed (getD rest 0 0) (length rest) → ⊥) × (p ≡ 0))
 write-21 rest o p = cited.write-21 rest o p
 
--- given by yard, after an accepted start and any calls
-pub yard-21 : (p l k : ℕ) (y : Yard) (ok : Accepted p l k y) (cs : List Call) (c : Call) (place : ℕ) → step c (after p l k y cs .yard) .answer ≡ refused 21 place ↔ (Cause (length (y .seats)) (after p l k y cs .past) c 21 × (place ≡ 0))
-yard-21 p l k y ok cs c place = fair p l k y ok cs c 21 place
+-- given by yard, of n seats, after an accepted start and any calls
+pub yard-21 : (n : ℕ) (h : History) (y : Yard) → Ran n h y → (c : Call) (place : ℕ) → step c y .answer ≡ refused 21 place
+    ↔ (((i : ℕ) × (s : List ℕ) × (c ≡ feed i s) × Sits n h i × All s × (Right s → ⊥)) × (place ≡ 0))
+yard-21 n h y r c place = both-ways (reasons.ran-fair n h y r c 21 place) (reasons.cause-21 n h c place)
 
 -- ---- 22: "handshake's first 20 bytes wrong"
 
@@ -310,15 +351,20 @@ handshake-23 info s p h = cited.handshake-23 info s p h
 
 -- ---- 30: "bitfield not first"
 
--- given by yard, after an accepted start and any calls
-pub yard-30 : (p l k : ℕ) (y : Yard) (ok : Accepted p l k y) (cs : List Call) (c : Call) (place : ℕ) → step c (after p l k y cs .yard) .answer ≡ refused 30 place ↔ (Cause (length (y .seats)) (after p l k y cs .past) c 30 × (place ≡ 0))
-yard-30 p l k y ok cs c place = fair p l k y ok cs c 30 place
+-- given by yard, of n seats, after an accepted start and any calls
+pub yard-30 : (n : ℕ) (h : History) (y : Yard) → Ran n h y → (c : Call) (place : ℕ) → step c y .answer ≡ refused 30 place
+    ↔ (((i : ℕ) × (s : List ℕ) × (b : List ℕ) × (bytes : ℕ) × (c ≡ feed i s) × Sits n h i × Says s (bits b) bytes × (fresh h i ≡ false)) × (place ≡ 0))
+yard-30 n h y r c place = both-ways (reasons.ran-fair n h y r c 30 place) (reasons.cause-30 n h c place)
 
 -- ---- 31: "piece, file or entry number too large"
 
--- given by yard, after an accepted start and any calls
-pub yard-31 : (p l k : ℕ) (y : Yard) (ok : Accepted p l k y) (cs : List Call) (c : Call) (place : ℕ) → step c (after p l k y cs .yard) .answer ≡ refused 31 place ↔ (Cause (length (y .seats)) (after p l k y cs .past) c 31 × (place ≡ 0))
-yard-31 p l k y ok cs c place = fair p l k y ok cs c 31 place
+-- given by yard, of n seats, after an accepted start and any calls
+pub yard-31 : (n : ℕ) (h : History) (y : Yard) → Ran n h y → (c : Call) (place : ℕ) → step c y .answer ≡ refused 31 place
+    ↔ ((((i : ℕ) × (s : List ℕ) × (q : ℕ) × (bytes : ℕ) × (c ≡ feed i s) × Sits n h i × Says s (have q) bytes × (pieces h ≤ q))
+    ⊎ (((i : ℕ) × (s : List ℕ) × (m : Message (List ℕ)) × (q : ℕ) × (b : ℕ) × (k : ℕ) × (bytes : ℕ) × (c ≡ feed i s) × Sits n h i × Says s m bytes × Block q b k m × (pieces h ≤ q))
+    ⊎ (((i : ℕ) × (q : ℕ) × (c ≡ has i q) × (i < n) × (pieces h ≤ q))
+    ⊎ ((q : ℕ) × (c ≡ count q) × (pieces h ≤ q))))) × (place ≡ 0))
+yard-31 n h y r c place = both-ways (reasons.ran-fair n h y r c 31 place) (reasons.cause-31 n h c place)
 
 -- given by blocks::block
 pub block-31 : (files : List Span) (pl p o n : ℕ) (out : List ℕ) (q : ℕ) → written (blockOf files pl p o n) out .answer ≡ refused 31 q ↔ (BlockCause files pl p o n (length out) 31 × (q ≡ 0))
@@ -351,21 +397,24 @@ piece-check-31 s n m p = cited.check-own s n m 31 p (omega arith)
 
 -- ---- 32: "bitfield length wrong"
 
--- given by yard, after an accepted start and any calls
-pub yard-32 : (p l k : ℕ) (y : Yard) (ok : Accepted p l k y) (cs : List Call) (c : Call) (place : ℕ) → step c (after p l k y cs .yard) .answer ≡ refused 32 place ↔ (Cause (length (y .seats)) (after p l k y cs .past) c 32 × (place ≡ 0))
-yard-32 p l k y ok cs c place = fair p l k y ok cs c 32 place
+-- given by yard, of n seats, after an accepted start and any calls
+pub yard-32 : (n : ℕ) (h : History) (y : Yard) → Ran n h y → (c : Call) (place : ℕ) → step c y .answer ≡ refused 32 place
+    ↔ (((i : ℕ) × (s : List ℕ) × (b : List ℕ) × (bytes : ℕ) × (c ≡ feed i s) × Sits n h i × Says s (bits b) bytes × (fresh h i ≡ true) × (length b ≡ width (pieces h) → ⊥)) × (place ≡ 0))
+yard-32 n h y r c place = both-ways (reasons.ran-fair n h y r c 32 place) (reasons.cause-32 n h c place)
 
 -- ---- 33: "spare bit set"
 
--- given by yard, after an accepted start and any calls
-pub yard-33 : (p l k : ℕ) (y : Yard) (ok : Accepted p l k y) (cs : List Call) (c : Call) (place : ℕ) → step c (after p l k y cs .yard) .answer ≡ refused 33 place ↔ (Cause (length (y .seats)) (after p l k y cs .past) c 33 × (place ≡ 0))
-yard-33 p l k y ok cs c place = fair p l k y ok cs c 33 place
+-- given by yard, of n seats, after an accepted start and any calls
+pub yard-33 : (n : ℕ) (h : History) (y : Yard) → Ran n h y → (c : Call) (place : ℕ) → step c y .answer ≡ refused 33 place
+    ↔ (((i : ℕ) × (s : List ℕ) × (b : List ℕ) × (bytes : ℕ) × (q : ℕ) × (c ≡ feed i s) × Sits n h i × Says s (bits b) bytes × (fresh h i ≡ true) × (length b ≡ width (pieces h)) × (pieces h ≤ q) × (q < 8 * length b) × (bitAt b q ≡ true)) × (place ≡ 0))
+yard-33 n h y r c place = both-ways (reasons.ran-fair n h y r c 33 place) (reasons.cause-33 n h c place)
 
 -- ---- 34: "block or file offset outside its bounds, or a piece to check of the wrong length"
 
--- given by yard, after an accepted start and any calls
-pub yard-34 : (p l k : ℕ) (y : Yard) (ok : Accepted p l k y) (cs : List Call) (c : Call) (place : ℕ) → step c (after p l k y cs .yard) .answer ≡ refused 34 place ↔ (Cause (length (y .seats)) (after p l k y cs .past) c 34 × (place ≡ 0))
-yard-34 p l k y ok cs c place = fair p l k y ok cs c 34 place
+-- given by yard, of n seats, after an accepted start and any calls
+pub yard-34 : (n : ℕ) (h : History) (y : Yard) → Ran n h y → (c : Call) (place : ℕ) → step c y .answer ≡ refused 34 place
+    ↔ (((i : ℕ) × (s : List ℕ) × (m : Message (List ℕ)) × (q : ℕ) × (b : ℕ) × (k : ℕ) × (bytes : ℕ) × (c ≡ feed i s) × Sits n h i × Says s m bytes × Block q b k m × (q < pieces h) × (Fits h q b k → ⊥)) × (place ≡ 0))
+yard-34 n h y r c place = both-ways (reasons.ran-fair n h y r c 34 place) (reasons.cause-34 n h c place)
 
 -- given by blocks::block
 pub block-34 : (files : List Span) (pl p o n : ℕ) (out : List ℕ) (q : ℕ) → written (blockOf files pl p o n) out .answer ≡ refused 34 q ↔ (BlockCause files pl p o n (length out) 34 × (q ≡ 0))
@@ -382,21 +431,27 @@ piece-check-34 s n m p = cited.check-own s n m 34 p (omega arith)
 
 -- ---- 35: "every seat taken"
 
--- given by yard, after an accepted start and any calls
-pub yard-35 : (p l k : ℕ) (y : Yard) (ok : Accepted p l k y) (cs : List Call) (c : Call) (place : ℕ) → step c (after p l k y cs .yard) .answer ≡ refused 35 place ↔ (Cause (length (y .seats)) (after p l k y cs .past) c 35 × (place ≡ 0))
-yard-35 p l k y ok cs c place = fair p l k y ok cs c 35 place
+-- given by yard, of n seats, after an accepted start and any calls
+pub yard-35 : (n : ℕ) (h : History) (y : Yard) → Ran n h y → (c : Call) (place : ℕ) → step c y .answer ≡ refused 35 place
+    ↔ (((c ≡ sit) × ((i : ℕ) → i < n → seated h i ≡ true)) × (place ≡ 0))
+yard-35 n h y r c place = both-ways (reasons.ran-fair n h y r c 35 place) (reasons.cause-35 n h c place)
 
 -- ---- 36: "seat number too large, or seat free"
 
--- given by yard, after an accepted start and any calls
-pub yard-36 : (p l k : ℕ) (y : Yard) (ok : Accepted p l k y) (cs : List Call) (c : Call) (place : ℕ) → step c (after p l k y cs .yard) .answer ≡ refused 36 place ↔ (Cause (length (y .seats)) (after p l k y cs .past) c 36 × (place ≡ 0))
-yard-36 p l k y ok cs c place = fair p l k y ok cs c 36 place
+-- given by yard, of n seats, after an accepted start and any calls
+pub yard-36 : (n : ℕ) (h : History) (y : Yard) → Ran n h y → (c : Call) (place : ℕ) → step c y .answer ≡ refused 36 place
+    ↔ ((((i : ℕ) × On i c × Nobody n h i)
+    ⊎ (((first : ℕ) × (space : ℕ) × (c ≡ missing first space) × (n < first))
+    ⊎ (((i : ℕ) × (c ≡ look i) × (n ≤ i))
+    ⊎ ((i : ℕ) × (q : ℕ) × (c ≡ has i q) × (n ≤ i))))) × (place ≡ 0))
+yard-36 n h y r c place = both-ways (reasons.ran-fair n h y r c 36 place) (reasons.cause-36 n h c place)
 
 -- ---- 37: "lent output too short"
 
--- given by yard, after an accepted start and any calls
-pub yard-37 : (p l k : ℕ) (y : Yard) (ok : Accepted p l k y) (cs : List Call) (c : Call) (place : ℕ) → step c (after p l k y cs .yard) .answer ≡ refused 37 place ↔ (Cause (length (y .seats)) (after p l k y cs .past) c 37 × (place ≡ 0))
-yard-37 p l k y ok cs c place = fair p l k y ok cs c 37 place
+-- given by yard, of n seats, after an accepted start and any calls
+pub yard-37 : (n : ℕ) (h : History) (y : Yard) → Ran n h y → (c : Call) (place : ℕ) → step c y .answer ≡ refused 37 place
+    ↔ (((i : ℕ) × (space : ℕ) × Marks i space c × Sits n h i × (space < 5)) × (place ≡ 0))
+yard-37 n h y r c place = both-ways (reasons.ran-fair n h y r c 37 place) (reasons.cause-37 n h c place)
 
 -- given by blocks::block
 pub block-37 : (files : List Span) (pl p o n : ℕ) (out : List ℕ) (q : ℕ) → written (blockOf files pl p o n) out .answer ≡ refused 37 q ↔ (BlockCause files pl p o n (length out) 37 × (q ≡ 0))
@@ -421,6 +476,11 @@ torrent-writer-37 f o p = cited.torrent-written f o 37 p
 
 -- ---- 38: "yard sizes don't fit"
 
+-- given by yard, of n seats, after an accepted start and any calls
+pub start-38 : (n : ℕ) (h : History) (y : Yard) → Ran n h y → (c : Call) (place : ℕ) → step c y .answer ≡ refused 38 place
+    ↔ (((q : ℕ) × (l : ℕ) × (k : ℕ) × (c ≡ start q l k) × (StartFits h q l k → ⊥)) × (place ≡ 0))
+start-38 n h y r c place = both-ways (reasons.ran-fair n h y r c 38 place) (reasons.cause-38 n h c place)
+
 -- given by yard, on any tables
 pub yard-38 : (y : Yard) (c : Call) (place : ℕ) → step c y .answer ≡ refused 38 place ↔ (Unfit y c × (place ≡ 0))
 yard-38 y c place = damage.sizes-exactly y c place
@@ -432,8 +492,8 @@ pub yard-39 : (y : Yard) (c : Call) (place : ℕ) → step c y .answer ≡ refus
 yard-39 y c place = damage.damaged-exactly y c place
 
 -- never given by yard after an accepted start and any calls
-pub never-39 : (p l k : ℕ) (y : Yard) (ok : Accepted p l k y) (cs : List Call) (c : Call) (place : ℕ) → step c (after p l k y cs .yard) .answer ≡ refused 39 place → ⊥
-never-39 p l k y ok cs c place = never-damaged p l k y ok cs c place
+pub never-39 : (n : ℕ) (h : History) (y : Yard) → Ran n h y → (c : Call) (place : ℕ) → step c y .answer ≡ refused 39 place → ⊥
+never-39 n h y r c place = reasons.ran-undamaged n h y r c place
 
 -- ---- wait: "more bytes are needed, nothing is used"
 
@@ -445,6 +505,6 @@ frame-wait s = wait-exactly s
 pub handshake-wait : (info s : List ℕ) → length info ≡ 20 → shakeOf info s ≡ taken handshake.wait ↔ (Named s × (length s < 68))
 handshake-wait info s h = shake-wait-exactly info s h
 
--- given by yard, after an accepted start and any calls
-pub yard-wait : (p l k : ℕ) (y : Yard) (ok : Accepted p l k y) (cs : List Call) (c : Call) → step c (after p l k y cs .yard) .answer ≡ taken wait ↔ Waits (length (y .seats)) (after p l k y cs .past) c
-yard-wait p l k y ok cs c = fair-wait p l k y ok cs c
+-- given by yard, of n seats, after an accepted start and any calls
+pub yard-wait : (n : ℕ) (h : History) (y : Yard) → Ran n h y → (c : Call) → step c y .answer ≡ taken wait ↔ ((i : ℕ) × (s : List ℕ) × (c ≡ feed i s) × Sits n h i × (Few s ⊎ causes.Cut s))
+yard-wait n h y r c = reasons.ran-wait n h y r c

@@ -1,0 +1,158 @@
+-- The yard's causes, number by number, as One/Numbers.antt spells them. Assumes nothing.
+use mathlib.Core.Path.{_≡_, refl, sym, subst}
+use mathlib.Core.Logic.{_⊎_, inl, inr, _↔_}
+use mathlib.Core.Bool.{true, false}
+use mathlib.Core.List.{List}
+use Prim.Native.Nat.{ℕ, _*_, _≤_, _<_}
+use native.Mathlib.Omega.{arith}
+use lib.ListN.{length}
+use Rattle.refusal.specs.Paper.{taken, refused}
+use Rattle.wire.specs.Message.{Message, have}
+use Rattle.wire.specs.Message.{bitfield as bits}
+use Rattle.wire.specs.Causes.{TooLong, All, Right, Few, Cut}
+use Rattle.tables.specs.Rows.{width, bitAt}
+use Rattle.tables.specs.Tables.{Yard, wait}
+use Rattle.tables.specs.Step.{Call, start, sit, feed, missing, look, has, count, step}
+use Rattle.history.specs.History.{History, seated, fresh, pieces}
+use Rattle.history.specs.Causes.{Sits, Nobody, On, Marks, Says, Block, Fits, StartFits, Cause, Waits, cut-off, too-long, wrong-payload, not-first, no-such-have, no-such-block, no-such-has, no-such-count, wrong-length, spare-bit, past-piece, all-taken, nobody, past-list, past-look, past-has, no-room, unfit}
+use Rattle.history.proofs.Demand.{fair, fair-wait, never-damaged}
+use Rattle.demands.specs.One.Causes.{Ran, ran}
+
+module _ (n : ℕ) (h : History) where
+  abbrev At20 : Call → Type 0
+  At20 c = ((i : ℕ) × (s : List ℕ) × (c ≡ feed i s) × Sits n h i × TooLong s)
+
+  abbrev At21 : Call → Type 0
+  At21 c = ((i : ℕ) × (s : List ℕ) × (c ≡ feed i s) × Sits n h i × All s × (Right s → ⊥))
+
+  abbrev At30 : Call → Type 0
+  At30 c = ((i : ℕ) × (s : List ℕ) × (b : List ℕ) × (bytes : ℕ) × (c ≡ feed i s) × Sits n h i × Says s (bits b) bytes × (fresh h i ≡ false))
+
+  abbrev At31 : Call → Type 0
+  At31 c = (((i : ℕ) × (s : List ℕ) × (q : ℕ) × (bytes : ℕ) × (c ≡ feed i s) × Sits n h i × Says s (have q) bytes × (pieces h ≤ q)) ⊎ (((i : ℕ) × (s : List ℕ) × (m : Message (List ℕ)) × (q : ℕ) × (b : ℕ) × (k : ℕ) × (bytes : ℕ) × (c ≡ feed i s) × Sits n h i × Says s m bytes × Block q b k m × (pieces h ≤ q)) ⊎ (((i : ℕ) × (q : ℕ) × (c ≡ has i q) × (i < n) × (pieces h ≤ q)) ⊎ ((q : ℕ) × (c ≡ count q) × (pieces h ≤ q)))))
+
+  abbrev At32 : Call → Type 0
+  At32 c = ((i : ℕ) × (s : List ℕ) × (b : List ℕ) × (bytes : ℕ) × (c ≡ feed i s) × Sits n h i × Says s (bits b) bytes × (fresh h i ≡ true) × (length b ≡ width (pieces h) → ⊥))
+
+  abbrev At33 : Call → Type 0
+  At33 c = ((i : ℕ) × (s : List ℕ) × (b : List ℕ) × (bytes : ℕ) × (q : ℕ) × (c ≡ feed i s) × Sits n h i × Says s (bits b) bytes × (fresh h i ≡ true) × (length b ≡ width (pieces h)) × (pieces h ≤ q) × (q < 8 * length b) × (bitAt b q ≡ true))
+
+  abbrev At34 : Call → Type 0
+  At34 c = ((i : ℕ) × (s : List ℕ) × (m : Message (List ℕ)) × (q : ℕ) × (b : ℕ) × (k : ℕ) × (bytes : ℕ) × (c ≡ feed i s) × Sits n h i × Says s m bytes × Block q b k m × (q < pieces h) × (Fits h q b k → ⊥))
+
+  abbrev At35 : Call → Type 0
+  At35 c = ((c ≡ sit) × ((i : ℕ) → i < n → seated h i ≡ true))
+
+  abbrev At36 : Call → Type 0
+  At36 c = (((i : ℕ) × On i c × Nobody n h i) ⊎ (((first : ℕ) × (space : ℕ) × (c ≡ missing first space) × (n < first)) ⊎ (((i : ℕ) × (c ≡ look i) × (n ≤ i)) ⊎ ((i : ℕ) × (q : ℕ) × (c ≡ has i q) × (n ≤ i)))))
+
+  abbrev At37 : Call → Type 0
+  At37 c = ((i : ℕ) × (space : ℕ) × Marks i space c × Sits n h i × (space < 5))
+
+  abbrev At38 : Call → Type 0
+  At38 c = ((q : ℕ) × (l : ℕ) × (k : ℕ) × (c ≡ start q l k) × (StartFits h q l k → ⊥))
+
+  -- by the number of a cause
+  by-number : {P : Type 0} (c : Call) (m : ℕ) → Cause n h c m → (m ≡ 20 → At20 c → P) → (m ≡ 21 → At21 c → P) → (m ≡ 30 → At30 c → P) → (m ≡ 31 → At31 c → P) → (m ≡ 32 → At32 c → P) → (m ≡ 33 → At33 c → P) → (m ≡ 34 → At34 c → P) → (m ≡ 35 → At35 c → P) → (m ≡ 36 → At36 c → P) → (m ≡ 37 → At37 c → P) → (m ≡ 38 → At38 c → P) → P
+  by-number c number (too-long i s g0 g1) f20 f21 f30 f31 f32 f33 f34 f35 f36 f37 f38 = f20 refl (i, s, refl, g0, g1)
+  by-number c number (wrong-payload i s g0 g1 g2) f20 f21 f30 f31 f32 f33 f34 f35 f36 f37 f38 = f21 refl (i, s, refl, g0, g1, g2)
+  by-number c number (not-first i s b bytes g0 g1 g2) f20 f21 f30 f31 f32 f33 f34 f35 f36 f37 f38 = f30 refl (i, s, b, bytes, refl, g0, g1, g2)
+  by-number c number (no-such-have i s q bytes g0 g1 g2) f20 f21 f30 f31 f32 f33 f34 f35 f36 f37 f38 = f31 refl (inl (i, s, q, bytes, refl, g0, g1, g2))
+  by-number c number (no-such-block i s m q b k bytes g0 g1 g2 g3) f20 f21 f30 f31 f32 f33 f34 f35 f36 f37 f38 = f31 refl (inr (inl (i, s, m, q, b, k, bytes, refl, g0, g1, g2, g3)))
+  by-number c number (no-such-has i q g0 g1) f20 f21 f30 f31 f32 f33 f34 f35 f36 f37 f38 = f31 refl (inr (inr (inl (i, q, refl, g0, g1))))
+  by-number c number (no-such-count q g0) f20 f21 f30 f31 f32 f33 f34 f35 f36 f37 f38 = f31 refl (inr (inr (inr (q, refl, g0))))
+  by-number c number (wrong-length i s b bytes g0 g1 g2 g3) f20 f21 f30 f31 f32 f33 f34 f35 f36 f37 f38 = f32 refl (i, s, b, bytes, refl, g0, g1, g2, g3)
+  by-number c number (spare-bit i s b bytes q g0 g1 g2 g3 g4 g5 g6) f20 f21 f30 f31 f32 f33 f34 f35 f36 f37 f38 = f33 refl (i, s, b, bytes, q, refl, g0, g1, g2, g3, g4, g5, g6)
+  by-number c number (past-piece i s m q b k bytes g0 g1 g2 g3 g4) f20 f21 f30 f31 f32 f33 f34 f35 f36 f37 f38 = f34 refl (i, s, m, q, b, k, bytes, refl, g0, g1, g2, g3, g4)
+  by-number c number (all-taken g0) f20 f21 f30 f31 f32 f33 f34 f35 f36 f37 f38 = f35 refl (refl, g0)
+  by-number c number (nobody d i g0 g1) f20 f21 f30 f31 f32 f33 f34 f35 f36 f37 f38 = f36 refl (inl (i, g0, g1))
+  by-number c number (past-list first space g0) f20 f21 f30 f31 f32 f33 f34 f35 f36 f37 f38 = f36 refl (inr (inl (first, space, refl, g0)))
+  by-number c number (past-look i g0) f20 f21 f30 f31 f32 f33 f34 f35 f36 f37 f38 = f36 refl (inr (inr (inl (i, refl, g0))))
+  by-number c number (past-has i q g0) f20 f21 f30 f31 f32 f33 f34 f35 f36 f37 f38 = f36 refl (inr (inr (inr (i, q, refl, g0))))
+  by-number c number (no-room d i space g0 g1 g2) f20 f21 f30 f31 f32 f33 f34 f35 f36 f37 f38 = f37 refl (i, space, g0, g1, g2)
+  by-number c number (unfit q l k g0) f20 f21 f30 f31 f32 f33 f34 f35 f36 f37 f38 = f38 refl (q, l, k, refl, g0)
+
+  from-20 : {c : Call} → At20 c → Cause n h c 20
+  from-20 {c} (i, s, e, g0, g1) = subst (λ (d : Call). Cause n h d 20) (sym e) (too-long i s g0 g1)
+
+  from-21 : {c : Call} → At21 c → Cause n h c 21
+  from-21 {c} (i, s, e, g0, g1, g2) = subst (λ (d : Call). Cause n h d 21) (sym e) (wrong-payload i s g0 g1 g2)
+
+  from-30 : {c : Call} → At30 c → Cause n h c 30
+  from-30 {c} (i, s, b, bytes, e, g0, g1, g2) = subst (λ (d : Call). Cause n h d 30) (sym e) (not-first i s b bytes g0 g1 g2)
+
+  from-31 : {c : Call} → At31 c → Cause n h c 31
+  from-31 {c} (inl (i, s, q, bytes, e, g0, g1, g2)) = subst (λ (d : Call). Cause n h d 31) (sym e) (no-such-have i s q bytes g0 g1 g2)
+  from-31 {c} (inr (inl (i, s, m, q, b, k, bytes, e, g0, g1, g2, g3))) = subst (λ (d : Call). Cause n h d 31) (sym e) (no-such-block i s m q b k bytes g0 g1 g2 g3)
+  from-31 {c} (inr (inr (inl (i, q, e, g0, g1)))) = subst (λ (d : Call). Cause n h d 31) (sym e) (no-such-has i q g0 g1)
+  from-31 {c} (inr (inr (inr (q, e, g0)))) = subst (λ (d : Call). Cause n h d 31) (sym e) (no-such-count q g0)
+
+  from-32 : {c : Call} → At32 c → Cause n h c 32
+  from-32 {c} (i, s, b, bytes, e, g0, g1, g2, g3) = subst (λ (d : Call). Cause n h d 32) (sym e) (wrong-length i s b bytes g0 g1 g2 g3)
+
+  from-33 : {c : Call} → At33 c → Cause n h c 33
+  from-33 {c} (i, s, b, bytes, q, e, g0, g1, g2, g3, g4, g5, g6) = subst (λ (d : Call). Cause n h d 33) (sym e) (spare-bit i s b bytes q g0 g1 g2 g3 g4 g5 g6)
+
+  from-34 : {c : Call} → At34 c → Cause n h c 34
+  from-34 {c} (i, s, m, q, b, k, bytes, e, g0, g1, g2, g3, g4) = subst (λ (d : Call). Cause n h d 34) (sym e) (past-piece i s m q b k bytes g0 g1 g2 g3 g4)
+
+  from-35 : {c : Call} → At35 c → Cause n h c 35
+  from-35 {c} (e, g0) = subst (λ (d : Call). Cause n h d 35) (sym e) (all-taken g0)
+
+  from-36 : {c : Call} → At36 c → Cause n h c 36
+  from-36 {c} (inl (i, g0, g1)) = nobody c i g0 g1
+  from-36 {c} (inr (inl (first, space, e, g0))) = subst (λ (d : Call). Cause n h d 36) (sym e) (past-list first space g0)
+  from-36 {c} (inr (inr (inl (i, e, g0)))) = subst (λ (d : Call). Cause n h d 36) (sym e) (past-look i g0)
+  from-36 {c} (inr (inr (inr (i, q, e, g0)))) = subst (λ (d : Call). Cause n h d 36) (sym e) (past-has i q g0)
+
+  from-37 : {c : Call} → At37 c → Cause n h c 37
+  from-37 {c} (i, space, g0, g1, g2) = no-room c i space g0 g1 g2
+
+  from-38 : {c : Call} → At38 c → Cause n h c 38
+  from-38 {c} (q, l, k, e, g0) = subst (λ (d : Call). Cause n h d 38) (sym e) (unfit q l k g0)
+
+  pub cause-20 : (c : Call) (place : ℕ) → (Cause n h c 20 × (place ≡ 0)) ↔ (((i : ℕ) × (s : List ℕ) × (c ≡ feed i s) × Sits n h i × TooLong s) × (place ≡ 0))
+  cause-20 c place = (λ q. (by-number c 20 (q .0) (λ e x. x) (λ e x. absurd (omega arith)) (λ e x. absurd (omega arith)) (λ e x. absurd (omega arith)) (λ e x. absurd (omega arith)) (λ e x. absurd (omega arith)) (λ e x. absurd (omega arith)) (λ e x. absurd (omega arith)) (λ e x. absurd (omega arith)) (λ e x. absurd (omega arith)) (λ e x. absurd (omega arith)), q .1), λ q. (from-20 (q .0), q .1))
+
+  pub cause-21 : (c : Call) (place : ℕ) → (Cause n h c 21 × (place ≡ 0)) ↔ (((i : ℕ) × (s : List ℕ) × (c ≡ feed i s) × Sits n h i × All s × (Right s → ⊥)) × (place ≡ 0))
+  cause-21 c place = (λ q. (by-number c 21 (q .0) (λ e x. absurd (omega arith)) (λ e x. x) (λ e x. absurd (omega arith)) (λ e x. absurd (omega arith)) (λ e x. absurd (omega arith)) (λ e x. absurd (omega arith)) (λ e x. absurd (omega arith)) (λ e x. absurd (omega arith)) (λ e x. absurd (omega arith)) (λ e x. absurd (omega arith)) (λ e x. absurd (omega arith)), q .1), λ q. (from-21 (q .0), q .1))
+
+  pub cause-30 : (c : Call) (place : ℕ) → (Cause n h c 30 × (place ≡ 0)) ↔ (((i : ℕ) × (s : List ℕ) × (b : List ℕ) × (bytes : ℕ) × (c ≡ feed i s) × Sits n h i × Says s (bits b) bytes × (fresh h i ≡ false)) × (place ≡ 0))
+  cause-30 c place = (λ q. (by-number c 30 (q .0) (λ e x. absurd (omega arith)) (λ e x. absurd (omega arith)) (λ e x. x) (λ e x. absurd (omega arith)) (λ e x. absurd (omega arith)) (λ e x. absurd (omega arith)) (λ e x. absurd (omega arith)) (λ e x. absurd (omega arith)) (λ e x. absurd (omega arith)) (λ e x. absurd (omega arith)) (λ e x. absurd (omega arith)), q .1), λ q. (from-30 (q .0), q .1))
+
+  pub cause-31 : (c : Call) (place : ℕ) → (Cause n h c 31 × (place ≡ 0)) ↔ ((((i : ℕ) × (s : List ℕ) × (q : ℕ) × (bytes : ℕ) × (c ≡ feed i s) × Sits n h i × Says s (have q) bytes × (pieces h ≤ q)) ⊎ (((i : ℕ) × (s : List ℕ) × (m : Message (List ℕ)) × (q : ℕ) × (b : ℕ) × (k : ℕ) × (bytes : ℕ) × (c ≡ feed i s) × Sits n h i × Says s m bytes × Block q b k m × (pieces h ≤ q)) ⊎ (((i : ℕ) × (q : ℕ) × (c ≡ has i q) × (i < n) × (pieces h ≤ q)) ⊎ ((q : ℕ) × (c ≡ count q) × (pieces h ≤ q))))) × (place ≡ 0))
+  cause-31 c place = (λ q. (by-number c 31 (q .0) (λ e x. absurd (omega arith)) (λ e x. absurd (omega arith)) (λ e x. absurd (omega arith)) (λ e x. x) (λ e x. absurd (omega arith)) (λ e x. absurd (omega arith)) (λ e x. absurd (omega arith)) (λ e x. absurd (omega arith)) (λ e x. absurd (omega arith)) (λ e x. absurd (omega arith)) (λ e x. absurd (omega arith)), q .1), λ q. (from-31 (q .0), q .1))
+
+  pub cause-32 : (c : Call) (place : ℕ) → (Cause n h c 32 × (place ≡ 0)) ↔ (((i : ℕ) × (s : List ℕ) × (b : List ℕ) × (bytes : ℕ) × (c ≡ feed i s) × Sits n h i × Says s (bits b) bytes × (fresh h i ≡ true) × (length b ≡ width (pieces h) → ⊥)) × (place ≡ 0))
+  cause-32 c place = (λ q. (by-number c 32 (q .0) (λ e x. absurd (omega arith)) (λ e x. absurd (omega arith)) (λ e x. absurd (omega arith)) (λ e x. absurd (omega arith)) (λ e x. x) (λ e x. absurd (omega arith)) (λ e x. absurd (omega arith)) (λ e x. absurd (omega arith)) (λ e x. absurd (omega arith)) (λ e x. absurd (omega arith)) (λ e x. absurd (omega arith)), q .1), λ q. (from-32 (q .0), q .1))
+
+  pub cause-33 : (c : Call) (place : ℕ) → (Cause n h c 33 × (place ≡ 0)) ↔ (((i : ℕ) × (s : List ℕ) × (b : List ℕ) × (bytes : ℕ) × (q : ℕ) × (c ≡ feed i s) × Sits n h i × Says s (bits b) bytes × (fresh h i ≡ true) × (length b ≡ width (pieces h)) × (pieces h ≤ q) × (q < 8 * length b) × (bitAt b q ≡ true)) × (place ≡ 0))
+  cause-33 c place = (λ q. (by-number c 33 (q .0) (λ e x. absurd (omega arith)) (λ e x. absurd (omega arith)) (λ e x. absurd (omega arith)) (λ e x. absurd (omega arith)) (λ e x. absurd (omega arith)) (λ e x. x) (λ e x. absurd (omega arith)) (λ e x. absurd (omega arith)) (λ e x. absurd (omega arith)) (λ e x. absurd (omega arith)) (λ e x. absurd (omega arith)), q .1), λ q. (from-33 (q .0), q .1))
+
+  pub cause-34 : (c : Call) (place : ℕ) → (Cause n h c 34 × (place ≡ 0)) ↔ (((i : ℕ) × (s : List ℕ) × (m : Message (List ℕ)) × (q : ℕ) × (b : ℕ) × (k : ℕ) × (bytes : ℕ) × (c ≡ feed i s) × Sits n h i × Says s m bytes × Block q b k m × (q < pieces h) × (Fits h q b k → ⊥)) × (place ≡ 0))
+  cause-34 c place = (λ q. (by-number c 34 (q .0) (λ e x. absurd (omega arith)) (λ e x. absurd (omega arith)) (λ e x. absurd (omega arith)) (λ e x. absurd (omega arith)) (λ e x. absurd (omega arith)) (λ e x. absurd (omega arith)) (λ e x. x) (λ e x. absurd (omega arith)) (λ e x. absurd (omega arith)) (λ e x. absurd (omega arith)) (λ e x. absurd (omega arith)), q .1), λ q. (from-34 (q .0), q .1))
+
+  pub cause-35 : (c : Call) (place : ℕ) → (Cause n h c 35 × (place ≡ 0)) ↔ (((c ≡ sit) × ((i : ℕ) → i < n → seated h i ≡ true)) × (place ≡ 0))
+  cause-35 c place = (λ q. (by-number c 35 (q .0) (λ e x. absurd (omega arith)) (λ e x. absurd (omega arith)) (λ e x. absurd (omega arith)) (λ e x. absurd (omega arith)) (λ e x. absurd (omega arith)) (λ e x. absurd (omega arith)) (λ e x. absurd (omega arith)) (λ e x. x) (λ e x. absurd (omega arith)) (λ e x. absurd (omega arith)) (λ e x. absurd (omega arith)), q .1), λ q. (from-35 (q .0), q .1))
+
+  pub cause-36 : (c : Call) (place : ℕ) → (Cause n h c 36 × (place ≡ 0)) ↔ ((((i : ℕ) × On i c × Nobody n h i) ⊎ (((first : ℕ) × (space : ℕ) × (c ≡ missing first space) × (n < first)) ⊎ (((i : ℕ) × (c ≡ look i) × (n ≤ i)) ⊎ ((i : ℕ) × (q : ℕ) × (c ≡ has i q) × (n ≤ i))))) × (place ≡ 0))
+  cause-36 c place = (λ q. (by-number c 36 (q .0) (λ e x. absurd (omega arith)) (λ e x. absurd (omega arith)) (λ e x. absurd (omega arith)) (λ e x. absurd (omega arith)) (λ e x. absurd (omega arith)) (λ e x. absurd (omega arith)) (λ e x. absurd (omega arith)) (λ e x. absurd (omega arith)) (λ e x. x) (λ e x. absurd (omega arith)) (λ e x. absurd (omega arith)), q .1), λ q. (from-36 (q .0), q .1))
+
+  pub cause-37 : (c : Call) (place : ℕ) → (Cause n h c 37 × (place ≡ 0)) ↔ (((i : ℕ) × (space : ℕ) × Marks i space c × Sits n h i × (space < 5)) × (place ≡ 0))
+  cause-37 c place = (λ q. (by-number c 37 (q .0) (λ e x. absurd (omega arith)) (λ e x. absurd (omega arith)) (λ e x. absurd (omega arith)) (λ e x. absurd (omega arith)) (λ e x. absurd (omega arith)) (λ e x. absurd (omega arith)) (λ e x. absurd (omega arith)) (λ e x. absurd (omega arith)) (λ e x. absurd (omega arith)) (λ e x. x) (λ e x. absurd (omega arith)), q .1), λ q. (from-37 (q .0), q .1))
+
+  pub cause-38 : (c : Call) (place : ℕ) → (Cause n h c 38 × (place ≡ 0)) ↔ (((q : ℕ) × (l : ℕ) × (k : ℕ) × (c ≡ start q l k) × (StartFits h q l k → ⊥)) × (place ≡ 0))
+  cause-38 c place = (λ q. (by-number c 38 (q .0) (λ e x. absurd (omega arith)) (λ e x. absurd (omega arith)) (λ e x. absurd (omega arith)) (λ e x. absurd (omega arith)) (λ e x. absurd (omega arith)) (λ e x. absurd (omega arith)) (λ e x. absurd (omega arith)) (λ e x. absurd (omega arith)) (λ e x. absurd (omega arith)) (λ e x. absurd (omega arith)) (λ e x. x), q .1), λ q. (from-38 (q .0), q .1))
+
+-- demand 3's laws, of a yard that has come so far
+pub ran-fair : (n : ℕ) (h : History) (y : Yard) → Ran n h y → (c : Call) (number place : ℕ) → step c y .answer ≡ refused number place ↔ (Cause n h c number × (place ≡ 0))
+ran-fair n h y (ran p l k z ok cs) c number place = fair p l k z ok cs c number place
+
+pub ran-wait : (n : ℕ) (h : History) (y : Yard) → Ran n h y → (c : Call) → step c y .answer ≡ taken wait ↔ ((i : ℕ) × (s : List ℕ) × (c ≡ feed i s) × Sits n h i × (Few s ⊎ Cut s))
+ran-wait n h y (ran p l k z ok cs) c = let f = fair-wait p l k z ok cs c in (λ e. go c (f .0 e), λ q. f .1 (subst (Waits n h) (sym (q .2)) (cut-off (q .0) (q .1) (q .3) (q .4))))
+  where
+    go : (c : Call) → Waits n h c → (i : ℕ) × (s : List ℕ) × (c ≡ feed i s) × Sits n h i × (Few s ⊎ Cut s)
+    go c (cut-off i s g w) = (i, s, refl, g, w)
+
+pub ran-undamaged : (n : ℕ) (h : History) (y : Yard) → Ran n h y → (c : Call) (place : ℕ) → step c y .answer ≡ refused 39 place → ⊥
+ran-undamaged n h y (ran p l k z ok cs) c place = never-damaged p l k z ok cs c place
