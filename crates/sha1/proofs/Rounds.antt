@@ -1,19 +1,20 @@
 -- The schedule word by word and the rounds one by one, as the code computes them. Assumes nothing.
 use mathlib.Core.Path.{_≡_, refl, sym, ap, subst, _∙_}
 use mathlib.Core.Bool.{cond}
-use mathlib.Core.List.{List, [], _∷_}
+use mathlib.Core.List.{List, [], _∷_, _++_}
 use Prim.Native.Nat.{ℕ, zero, suc, _+_, _-_, _*_, _≤_, _<_}
+use native.Mathlib.Nat.{add-zero, add-suc}
 use native.Mathlib.Numerals.{add-one}
 use native.Mathlib.Omega.{arith}
-use lib.ListN.{length, take, getD, set, length-set}
-use lib.Seq.{take-suc-set, getD-take, getD-set-other, take-all}
+use lib.ListN.{length, take, getD, set, length-set, length-append, List·getD-append}
+use lib.Seq.{take-suc-set, getD-take}
 use lib.Dec.{ltb}
 use borrow.Author.Tests.{lt-ltb, le-ltb}
 use Rattle.refusal.specs.BigEndian.{bigEndian}
 use Rattle.refusal.proofs.Places.{four-there}
 use Rattle.digest.specs.Words.{ch, parity, maj, word}
 use Rattle.sha1.specs.Sha1.{mixed, schedule, rounds, step, f, k}
-use Rattle.sha1.specs.Rounds.{Done}
+use Rattle.sha1.specs.Rounds.{Made, Done, roundOf}
 use Rattle.sha1.specs.declared.block.Hash.{Hash}
 
 -- a store at t makes the first t words of the schedule the first t + 1
@@ -37,44 +38,89 @@ late b w t v h e q =
     rw (le-ltb t 16 h)
     (cc (q, seen b w t (t - 3) e (omega arith), seen b w t (t - 8) e (omega arith), seen b w t (t - 14) e (omega arith), seen b w t (t - 16) e (omega arith)))
 
--- a word that is stored later changes no round before it
-pub rounds-set : (h : Hash) (w : List ℕ) (t v i : ℕ) → i ≤ t → rounds h (set w t v) i ≡ rounds h w i
-unfolding rounds
-rounds-set h w t v zero p = refl
-rounds-set h w t v (suc i) p = rw (rounds-set h w t v i (omega arith), getD-set-other w t i v 0 (λ (e : i ≡ t). omega arith)) refl
+-- ---- the words of the schedule, one after the other
 
--- one more round
-pub onward : (h g r : Hash) (w : List ℕ) (t : ℕ) → g ≡ rounds h w t → r ≡ step g (f t (g .b) (g .c) (g .d)) (k t) (getD w t 0) → r ≡ rounds h w (t + 1)
+pub begun : (b w : List ℕ) → length w ≡ 80 → Made b 0 w
+unfolding schedule
+begun b w l = (l, refl)
+
+pub made-early : (b w : List ℕ) (t v : ℕ) → t < 16 → length b ≡ 64
+    → v ≡ bigEndian (getD b (4 * t) 0 ∷ getD b (4 * t + 1) 0 ∷ getD b (4 * t + 2) 0 ∷ getD b (4 * t + 3) 0 ∷ []) → Made b t w → Made b (t + 1) (set w t v)
+made-early b w t v h l q d = (length-set w t v ∙ d .0, grow b w t v (omega arith) (d .1) (early b t v h l q))
+
+pub made-late : (b w : List ℕ) (t u v : ℕ) → 16 ≤ t → t < 80 → u ≡ t + 1 → v ≡ mixed w t → Made b t w → Made b u (set w t v)
+made-late b w t u v h h' e q d =
+    (length-set w t v ∙ d .0, ap (λ (i : ℕ). take i (set w t v)) e ∙ grow b w t v (omega arith) (d .1) (late b w t v h (d .1) q) ∙ ap (schedule b) (sym e))
+
+-- ---- the words that the rounds read
+
+length-schedule : (b : List ℕ) (n : ℕ) → length (schedule b n) ≡ n
+unfolding schedule
+length-schedule b zero = refl
+length-schedule b (suc n) =
+    length-append (schedule b n) (cond (ltb n 16) (word b n) (mixed (schedule b n) n) ∷ []) ∙ ap (λ (i : ℕ). i + 1) (length-schedule b n) ∙ add-one n
+
+-- a word does not depend on how many more are made
+kept : (b : List ℕ) (n j i : ℕ) → i < n → getD (schedule b (n + j)) i 0 ≡ getD (schedule b n) i 0
+unfolding schedule
+kept b n zero i h = ap (λ (m : ℕ). getD (schedule b m) i 0) (add-zero n)
+kept b n (suc j) i h =
+    let l : length (schedule b (n + j)) ≡ n + j = length-schedule b (n + j) in
+    ap (λ (m : ℕ). getD (schedule b m) i 0) (add-suc n j)
+    ∙ List·getD-append (schedule b (n + j)) (cond (ltb (n + j) 16) (word b (n + j)) (mixed (schedule b (n + j)) (n + j)) ∷ []) 0 i (omega arith)
+    ∙ kept b n j i h
+
+-- a word that has been written is the whole schedule's
+there : (b w : List ℕ) (n i : ℕ) → Made b n w → i < n → n ≤ 80 → getD w i 0 ≡ getD (schedule b 80) i 0
+there b w n i d h p =
+    let e : n + (80 - n) ≡ 80 = omega arith in
+    seen b w n i (d .1) h ∙ sym (kept b n (80 - n) i h) ∙ ap (λ (m : ℕ). getD (schedule b m) i 0) e
+
+-- ---- the rounds
+
+onward : (h g r : Hash) (w : List ℕ) (t : ℕ) → g ≡ rounds h w t → r ≡ roundOf t g (getD w t 0) → r ≡ rounds h w (t + 1)
 unfolding rounds
 onward h g r w t e q = rw add-one (cc)
 
+pub none : (h : Hash) (b : List ℕ) → Done h b 0 h
+unfolding rounds
+none h b = refl
+
+module _ (h : Hash) (b w : List ℕ) (n : ℕ) (d : Made b n w) (p : n ≤ 80) where
+  -- one more round
+  next : (g r : Hash) (t u : ℕ) → Done h b t g → t < n → u ≡ t + 1 → r ≡ roundOf t g (getD w t 0) → Done h b u r
+  next g r t u e q v s =
+      let x : getD w t 0 ≡ getD (schedule b 80) t 0 = there b w n t d q p in
+      onward h g r (schedule b 80) t e (s ∙ ap (roundOf t g) x) ∙ ap (rounds h (schedule b 80)) (sym v)
+
+  -- five more
+  pub five : (g r₁ r₂ r₃ r₄ r₅ : Hash) (t : ℕ) → Done h b t g → t + 5 ≤ n → r₁ ≡ roundOf t g (getD w t 0) → r₂ ≡ roundOf (t + 1) r₁ (getD w (t + 1) 0)
+      → r₃ ≡ roundOf (t + 2) r₂ (getD w (t + 2) 0) → r₄ ≡ roundOf (t + 3) r₃ (getD w (t + 3) 0) → r₅ ≡ roundOf (t + 4) r₄ (getD w (t + 4) 0)
+      → Done h b (t + 5) r₅
+  five g r₁ r₂ r₃ r₄ r₅ t e q e₁ e₂ e₃ e₄ e₅ =
+      let d₁ : Done h b (t + 1) r₁ = next g r₁ t (t + 1) e (omega arith) (omega arith) e₁ in
+      let d₂ : Done h b (t + 2) r₂ = next r₁ r₂ (t + 1) (t + 2) d₁ (omega arith) (omega arith) e₂ in
+      let d₃ : Done h b (t + 3) r₃ = next r₂ r₃ (t + 2) (t + 3) d₂ (omega arith) (omega arith) e₃ in
+      let d₄ : Done h b (t + 4) r₄ = next r₃ r₄ (t + 3) (t + 4) d₃ (omega arith) (omega arith) e₄ in
+      next r₄ r₅ (t + 4) (t + 5) d₄ (omega arith) (omega arith) e₅
+
+-- the last of some rounds, and of some words
+pub arrived : (h g : Hash) (b : List ℕ) (t n : ℕ) → t ≡ n → Done h b t g → Done h b n g
+arrived h g b t n e d = d ∙ ap (rounds h (schedule b 80)) e
+
+pub filled-to : (b w : List ℕ) (t n : ℕ) → t ≡ n → Made b t w → Made b n w
+filled-to b w t n e d = subst (λ (i : ℕ). Made b i w) e d
+
 -- the function and the constant of a round, by its number
 module _ (g r : Hash) (t u : ℕ) {v : ℕ} where
-  pub phase1 : t < 20 → v ≡ ch (g .b) (g .c) (g .d) → r ≡ step g v 0x5a827999 u → r ≡ step g (f t (g .b) (g .c) (g .d)) (k t) u
+  pub phase1 : t < 20 → v ≡ ch (g .b) (g .c) (g .d) → r ≡ step g v 0x5a827999 u → r ≡ roundOf t g u
   phase1 h q e = rw (lt-ltb t 20 h, ← q) e
 
-  pub phase2 : 20 ≤ t → t < 40 → v ≡ parity (g .b) (g .c) (g .d) → r ≡ step g v 0x6ed9eba1 u → r ≡ step g (f t (g .b) (g .c) (g .d)) (k t) u
+  pub phase2 : 20 ≤ t → t < 40 → v ≡ parity (g .b) (g .c) (g .d) → r ≡ step g v 0x6ed9eba1 u → r ≡ roundOf t g u
   phase2 h h' q e = rw (le-ltb t 20 h, lt-ltb t 40 h', ← q) e
 
-  pub phase3 : 40 ≤ t → t < 60 → v ≡ maj (g .b) (g .c) (g .d) → r ≡ step g v 0x8f1bbcdc u → r ≡ step g (f t (g .b) (g .c) (g .d)) (k t) u
+  pub phase3 : 40 ≤ t → t < 60 → v ≡ maj (g .b) (g .c) (g .d) → r ≡ step g v 0x8f1bbcdc u → r ≡ roundOf t g u
   phase3 h h' q e = rw (le-ltb t 20 (omega arith), le-ltb t 40 h, lt-ltb t 60 h', ← q) e
 
-  pub phase4 : 60 ≤ t → v ≡ parity (g .b) (g .c) (g .d) → r ≡ step g v 0xca62c1d6 u → r ≡ step g (f t (g .b) (g .c) (g .d)) (k t) u
+  pub phase4 : 60 ≤ t → v ≡ parity (g .b) (g .c) (g .d) → r ≡ step g v 0xca62c1d6 u → r ≡ roundOf t g u
   phase4 h q e = rw (le-ltb t 20 (omega arith), le-ltb t 40 (omega arith), le-ltb t 60 h, ← q) e
-
-module _ (h g : Hash) (b w : List ℕ) where
-  -- one more round on a block, which stores its word and then uses it
-  pub further : (r : Hash) (t v : ℕ) → t < 80 → Done h b t g w → v ≡ cond (ltb t 16) (word b t) (mixed (schedule b t) t)
-      → r ≡ step g (f t (g .b) (g .c) (g .d)) (k t) (getD (set w t v) t 0) → Done h b (t + 1) r (set w t v)
-  further r t v p d q e =
-      (length-set w t v ∙ d .0, grow b w t v (omega arith) (d .1) q, onward h g r (set w t v) t (d .2 ∙ sym (rounds-set h w t v t (omega arith))) e)
-
-  -- the last of some rounds
-  pub arrived : (t n : ℕ) → t ≤ n → n ≤ t → Done h b t g w → Done h b n g w
-  arrived t n p p' d =
-      let q : t ≡ n = omega arith in
-      subst (λ (i : ℕ). Done h b i g w) q d
-
-  -- all of them
-  pub ended : Done h b 80 g w → g ≡ rounds h (schedule b 80) 80
-  ended d = d .2 ∙ ap (λ (l : List ℕ). rounds h l 80) (sym (take-all 80 w (omega arith)) ∙ d .1)

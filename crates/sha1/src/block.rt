@@ -1,13 +1,13 @@
 // SHA-1 of one block: 6.1.2 of FIPS 180-4.
 ghost use mathlib.Core.Path.{_≡_};
-ghost use Prim.Native.Nat.{ℕ, _/_, _<_, _≤_};
+ghost use Prim.Native.Nat.{ℕ, _+_, _<_, _≤_};
 ghost use mathlib.Core.List.{List};
 ghost use lib.ListN.{length};
 ghost use Rattle.digest.specs.Words.{rotl};
 ghost use Rattle.digest.specs.Message.{hashed};
 ghost use Rattle.sha1.specs.declared.block.Hash.{Hash};
 ghost use Rattle.sha1.specs.Sha1.{step, plus, mixed, compress, output};
-ghost use Rattle.sha1.specs.Rounds.{Done};
+ghost use Rattle.sha1.specs.Rounds.{Made, Done, roundOf};
 use digest::word::add;
 use digest::word::byte0;
 use digest::word::byte1;
@@ -32,10 +32,11 @@ pub fn whole(first: Hash, m: &[u8]) -> Hash
     ensures { λ r. ⌜ r ≡ hashed compress first (now (m .entry)) ⌝ }
 {
     let n = m.len() / 64;
+    let mut w = [0u32; 80];
     let mut h = first;
     let mut i = 0;
     while i < n {
-        h = block(h, &m[64 * i..64 * i + 64]);
+        h = compressed(h, &m[64 * i..64 * i + 64], &mut w);
         i += 1;
     }
     h
@@ -46,13 +47,7 @@ pub fn block(h: Hash, b: &[u8]) -> Hash
     requires { ⌜ length (now b) ≡ 64 ⌝ }
     ensures { λ r. ⌜ r ≡ compress h (now (b .entry)) ⌝ }
 {
-    let mut w = [0u32; 80];
-    let loaded = rounds_to_16(h, b, &mut w);
-    let first = rounds_to_20(loaded, &mut w);
-    let second = rounds_to_40(first, &mut w);
-    let third = rounds_to_60(second, &mut w);
-    let last = rounds_to_80(third, &mut w);
-    sum(last, h)
+    whole(h, b)
 }
 
 // The digest's bytes.
@@ -83,75 +78,176 @@ pub fn spread(h: Hash) -> [u8; 20]
     ]
 }
 
-// Steps 1 and 3 at once, since both then run beside each other: each word of the schedule is made in the round that uses it.
-fn rounds_to_16(h: Hash, b: &[u8], w: &mut [u32]) -> Hash
+// Steps 1 to 4. The words of the schedule are made twenty rounds before they are used, so that no round waits for its word.
+fn compressed(h: Hash, b: &[u8], w: &mut [u32]) -> Hash
     requires { ⌜ (length (now b) ≡ 64) × (length (now w) ≡ 80) ⌝ }
-    ensures { λ r. ⌜ Done h (now (b .entry)) 16 r (now (w .exit)) ⌝ }
+    ensures { λ r. ⌜ r ≡ compress h (now (b .entry)) ⌝ }
 {
-    let mut g = h;
+    words_to_16(b, w);
+    words_to_20(w);
+    let first = rounds_to_20(h, w);
+    let second = rounds_to_40(first, w);
+    let third = rounds_to_60(second, w);
+    let last = rounds_to_80(third, w);
+    sum(last, h)
+}
+
+fn words_to_16(b: &[u8], w: &mut [u32])
+    requires { ⌜ (length (now b) ≡ 64) × (length (now w) ≡ 80) ⌝ }
+    ensures { λ _. ⌜ Made (now (b .entry)) 16 (now (w .exit)) ⌝ }
+{
     let mut t = 0;
     while t < 16 {
         w[t] = joined(b[4 * t], b[4 * t + 1], b[4 * t + 2], b[4 * t + 3]);
-        g = round(g, choose(g.b, g.c, g.d), 0x5a827999, w[t]);
         t += 1;
     }
-    g
+}
+
+fn words_to_20(w: &mut [u32])
+    requires { ⌜ length (now w) ≡ 80 ⌝ }
+    ensures { λ _. ⌜ ((b : List ℕ) → Made b 16 (now (w .entry)) → Made b 20 (now (w .exit))) ⌝ }
+{
+    let mut t = 16;
+    while t < 20 {
+        w[t] = mixed(w, t);
+        t += 1;
+    }
 }
 
 fn rounds_to_20(before: Hash, w: &mut [u32]) -> Hash
     requires { ⌜ length (now w) ≡ 80 ⌝ }
-    ensures { λ r. ⌜ ((h : Hash) (b : List ℕ) → Done h b 16 before (now (w .entry)) → Done h b 20 r (now (w .exit))) ⌝ }
+    ensures { λ r. ⌜ ((h : Hash) (b : List ℕ) → Done h b 0 before → Made b 20 (now (w .entry)) → Done h b 20 r × Made b 40 (now (w .exit))) ⌝ }
 {
     let mut g = before;
-    let mut t = 16;
+    let mut t = 0;
     while t < 20 {
-        w[t] = mixed(w, t);
-        g = round(g, choose(g.b, g.c, g.d), 0x5a827999, w[t]);
-        t += 1;
+        five_words(w, t + 20);
+        g = five_first(g, w, t);
+        t += 5;
     }
     g
 }
 
 fn rounds_to_40(before: Hash, w: &mut [u32]) -> Hash
     requires { ⌜ length (now w) ≡ 80 ⌝ }
-    ensures { λ r. ⌜ ((h : Hash) (b : List ℕ) → Done h b 20 before (now (w .entry)) → Done h b 40 r (now (w .exit))) ⌝ }
+    ensures { λ r. ⌜ ((h : Hash) (b : List ℕ) → Done h b 20 before → Made b 40 (now (w .entry)) → Done h b 40 r × Made b 60 (now (w .exit))) ⌝ }
 {
     let mut g = before;
     let mut t = 20;
     while t < 40 {
-        w[t] = mixed(w, t);
-        g = round(g, odd(g.b, g.c, g.d), 0x6ed9eba1, w[t]);
-        t += 1;
+        five_words(w, t + 20);
+        g = five_second(g, w, t);
+        t += 5;
     }
     g
 }
 
 fn rounds_to_60(before: Hash, w: &mut [u32]) -> Hash
     requires { ⌜ length (now w) ≡ 80 ⌝ }
-    ensures { λ r. ⌜ ((h : Hash) (b : List ℕ) → Done h b 40 before (now (w .entry)) → Done h b 60 r (now (w .exit))) ⌝ }
+    ensures { λ r. ⌜ ((h : Hash) (b : List ℕ) → Done h b 40 before → Made b 60 (now (w .entry)) → Done h b 60 r × Made b 80 (now (w .exit))) ⌝ }
 {
     let mut g = before;
     let mut t = 40;
     while t < 60 {
-        w[t] = mixed(w, t);
-        g = round(g, most(g.b, g.c, g.d), 0x8f1bbcdc, w[t]);
-        t += 1;
+        five_words(w, t + 20);
+        g = five_third(g, w, t);
+        t += 5;
     }
     g
 }
 
-fn rounds_to_80(before: Hash, w: &mut [u32]) -> Hash
+fn rounds_to_80(before: Hash, w: &[u32]) -> Hash
     requires { ⌜ length (now w) ≡ 80 ⌝ }
-    ensures { λ r. ⌜ ((h : Hash) (b : List ℕ) → Done h b 60 before (now (w .entry)) → Done h b 80 r (now (w .exit))) ⌝ }
+    ensures { λ r. ⌜ ((h : Hash) (b : List ℕ) → Done h b 60 before → Made b 80 (now (w .entry)) → Done h b 80 r) ⌝ }
 {
     let mut g = before;
     let mut t = 60;
     while t < 80 {
-        w[t] = mixed(w, t);
-        g = round(g, odd(g.b, g.c, g.d), 0xca62c1d6, w[t]);
-        t += 1;
+        g = five_last(g, w, t);
+        t += 5;
     }
     g
+}
+
+// Step 1, five words from t on.
+fn five_words(w: &mut [u32], t: usize)
+    requires { ⌜ (16 ≤ t) × (t + 5 ≤ 80) × (length (now w) ≡ 80) ⌝ }
+    ensures { λ _. ⌜ ((b : List ℕ) → Made b t (now (w .entry)) → Made b (t + 5) (now (w .exit))) ⌝ }
+{
+    w[t] = mixed(w, t);
+    w[t + 1] = mixed(w, t + 1);
+    w[t + 2] = mixed(w, t + 2);
+    w[t + 3] = mixed(w, t + 3);
+    w[t + 4] = mixed(w, t + 4);
+}
+
+// Step 3, five rounds from t on: after five each value stands where it stood, so that none is moved.
+fn five_first(g: Hash, w: &[u32], t: usize) -> Hash
+    requires { ⌜ (t + 5 ≤ 20) × (length (now w) ≡ 80) ⌝ }
+    ensures { λ r. ⌜ ((h : Hash) (b : List ℕ) (n : ℕ) → Done h b t g → Made b n (now (w .entry)) → t + 5 ≤ n → n ≤ 80 → Done h b (t + 5) r) ⌝ }
+{
+    let one = first(g, w[t]);
+    let two = first(one, w[t + 1]);
+    let three = first(two, w[t + 2]);
+    let four = first(three, w[t + 3]);
+    first(four, w[t + 4])
+}
+
+fn five_second(g: Hash, w: &[u32], t: usize) -> Hash
+    requires { ⌜ (20 ≤ t) × (t + 5 ≤ 40) × (length (now w) ≡ 80) ⌝ }
+    ensures { λ r. ⌜ ((h : Hash) (b : List ℕ) (n : ℕ) → Done h b t g → Made b n (now (w .entry)) → t + 5 ≤ n → n ≤ 80 → Done h b (t + 5) r) ⌝ }
+{
+    let one = second(g, w[t]);
+    let two = second(one, w[t + 1]);
+    let three = second(two, w[t + 2]);
+    let four = second(three, w[t + 3]);
+    second(four, w[t + 4])
+}
+
+fn five_third(g: Hash, w: &[u32], t: usize) -> Hash
+    requires { ⌜ (40 ≤ t) × (t + 5 ≤ 60) × (length (now w) ≡ 80) ⌝ }
+    ensures { λ r. ⌜ ((h : Hash) (b : List ℕ) (n : ℕ) → Done h b t g → Made b n (now (w .entry)) → t + 5 ≤ n → n ≤ 80 → Done h b (t + 5) r) ⌝ }
+{
+    let one = third(g, w[t]);
+    let two = third(one, w[t + 1]);
+    let three = third(two, w[t + 2]);
+    let four = third(three, w[t + 3]);
+    third(four, w[t + 4])
+}
+
+fn five_last(g: Hash, w: &[u32], t: usize) -> Hash
+    requires { ⌜ (60 ≤ t) × (t + 5 ≤ 80) × (length (now w) ≡ 80) ⌝ }
+    ensures { λ r. ⌜ ((h : Hash) (b : List ℕ) (n : ℕ) → Done h b t g → Made b n (now (w .entry)) → t + 5 ≤ n → n ≤ 80 → Done h b (t + 5) r) ⌝ }
+{
+    let one = last(g, w[t]);
+    let two = last(one, w[t + 1]);
+    let three = last(two, w[t + 2]);
+    let four = last(three, w[t + 3]);
+    last(four, w[t + 4])
+}
+
+fn first(g: Hash, w: u32) -> Hash
+    ensures { λ r. ⌜ ((t : ℕ) → t < 20 → r ≡ roundOf t g w) ⌝ }
+{
+    round(g, choose(g.b, g.c, g.d), 0x5a827999, w)
+}
+
+fn second(g: Hash, w: u32) -> Hash
+    ensures { λ r. ⌜ ((t : ℕ) → 20 ≤ t → t < 40 → r ≡ roundOf t g w) ⌝ }
+{
+    round(g, odd(g.b, g.c, g.d), 0x6ed9eba1, w)
+}
+
+fn third(g: Hash, w: u32) -> Hash
+    ensures { λ r. ⌜ ((t : ℕ) → 40 ≤ t → t < 60 → r ≡ roundOf t g w) ⌝ }
+{
+    round(g, most(g.b, g.c, g.d), 0x8f1bbcdc, w)
+}
+
+fn last(g: Hash, w: u32) -> Hash
+    ensures { λ r. ⌜ ((t : ℕ) → 60 ≤ t → t < 80 → r ≡ roundOf t g w) ⌝ }
+{
+    round(g, odd(g.b, g.c, g.d), 0xca62c1d6, w)
 }
 
 // Step 1: word t of the message schedule from 16 on.

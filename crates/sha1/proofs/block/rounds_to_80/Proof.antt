@@ -1,45 +1,27 @@
 -- `rounds_to_80` meets its contract: where the rounds before are done, t of them are done at each turn. Assumes nothing.
-use Rattle.sha1.proofs.Rounds.{late, phase4, further, arrived}
-use Rattle.sha1.specs.declared.block.Hash.{Hash}
-use Rattle.sha1.specs.Rounds.{Done}
-use lib.ListN.{length, getD, set, length-set}
-use borrow.Author.Needs.{needs}
-use native.Mathlib.Omega.{arith}
-use Prim.Native.Nat.{ℕ, _-_, _≤_}
-use mathlib.Core.List.{List}
 use mathlib.Core.Path.{_≡_}
+use mathlib.Core.List.{List}
+use Prim.Native.Nat.{ℕ, _+_, _-_, _%_, _≤_}
+use native.Mathlib.Omega.{arith}
+use borrow.Author.Needs.{needs}
+use lib.ListN.{length}
+use Rattle.sha1.specs.declared.block.Hash.{Hash}
+use Rattle.sha1.specs.Rounds.{Made, Done}
+use Rattle.sha1.proofs.Rounds.{arrived}
 use Rattle.sha1.proofs.block.rounds_to_80.Statement.{statement}
 use Rattle.sha1.proofs.block.rounds_to_80.Tie as tie
 
 abbrev Inv-loop : tie.InvT-loop
-Inv-loop w₀ g₀ t₀ w g t = (60 ≤ t) × (t ≤ 80) × (length w ≡ 80) × ((h : Hash) (b : List ℕ) → Done h b 60 g₀ w₀ → Done h b t g w)
+Inv-loop w g₀ t₀ g t = (60 ≤ t) × (t ≤ 80) × (t % 5 ≡ 0) × ((h : Hash) (b : List ℕ) → Done h b 60 g₀ → Made b 80 w → Done h b t g)
 
 abbrev μ-loop : tie.MeasureT-loop
-μ-loop w₀ g₀ t₀ w g t = 80 - t
+μ-loop w g₀ t₀ g t = 80 - t
 
 loop-holds : tie.Need-loop-holds Inv-loop μ-loop
-loop-holds c = (omega arith, omega arith, omega arith, λ h b d. d)
+loop-holds c = (omega arith, omega arith, omega arith, λ h b d m. d)
 
-mixed-requires : tie.Need-mixed-requires Inv-loop μ-loop
-mixed-requires c κs = search needs
-
-mul-w : tie.Need-mul-w Inv-loop μ-loop
-mul-w c = omega arith
-
-slice-write-w : tie.Need-slice-write-w Inv-loop μ-loop
-slice-write-w c = omega arith
-
-odd-requires : tie.Need-odd-requires Inv-loop μ-loop
-odd-requires c κs = search needs
-
-mul-round : tie.Need-mul-round Inv-loop μ-loop
-mul-round c = omega arith
-
-slice-read-round : tie.Need-slice-read-round Inv-loop μ-loop
-slice-read-round c = simp length-set (omega arith)
-
-round-requires : tie.Need-round-requires Inv-loop μ-loop
-round-requires c κs = search needs
+five-last-requires : tie.Need-five-last-requires Inv-loop μ-loop
+five-last-requires c κs = search needs
 
 add-t : tie.Need-add-t Inv-loop μ-loop
 add-t c = omega arith
@@ -49,43 +31,15 @@ loop-less c = omega arith
 
 loop-again : tie.Need-loop-again Inv-loop μ-loop
 loop-again c =
-    let l = c .before .before .before .before .before .before .loop in
-    let m = c .before .before .before .mixed in
-    let r = c .round .result in (
-      omega arith,
-      omega arith,
-      simp length-set (omega arith),
-      λ h b d.
-          let e = l .inv .3 h b d in
-          further h (l .g) b (l .w) r (l .t) (m .result) (omega arith) e
-          (late b (l .w) (l .t) (m .result) (omega arith) (e .1) (m .ensures))
-          (phase4 (l .g) r (l .t) (getD (set (l .w) (l .t) (m .result)) (l .t) 0) (omega arith) (c .before .before .odd .ensures) (c .round .ensures)),
-    )
-
-same-length : tie.Need-same-length Inv-loop μ-loop
-same-length c = search needs
+    let l = c .before .before .loop in
+    (omega arith, omega arith, omega arith, λ h b d m. c .five-last .ensures h b 80 (l .inv .3 h b d m) m (omega arith) (omega arith))
 
 returns : tie.Need-returns Inv-loop μ-loop
 returns c =
     let l = c .before .loop in
-    λ h b d. arrived h (l .g) b (l .w) (l .t) 80 (omega arith) (omega arith) (l .inv .3 h b d)
+    λ h b d m. arrived h (l .g) b (l .t) 80 (omega arith) (l .inv .3 h b d m)
 
 pub rounds-to-80-spec : {M : Type 1} → statement M
 rounds-to-80-spec =
     tie.close
-    (tie.spec
-    Inv-loop
-    μ-loop
-    loop-holds
-    mixed-requires
-    mul-w
-    slice-write-w
-    odd-requires
-    mul-round
-    slice-read-round
-    round-requires
-    add-t
-    loop-less
-    loop-again
-    same-length
-    returns)
+    (tie.spec Inv-loop μ-loop loop-holds five-last-requires add-t loop-less loop-again returns)

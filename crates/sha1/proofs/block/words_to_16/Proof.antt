@@ -1,24 +1,22 @@
--- `rounds_to_16` meets its contract: after t turns t rounds are done, on the block's own words. Assumes nothing.
-use Rattle.sha1.specs.Sha1.{schedule, rounds}
-use Rattle.sha1.proofs.Rounds.{early, phase1, further, arrived}
-use Rattle.sha1.specs.Rounds.{Done}
-use lib.ListN.{getD, set, length-set}
-use borrow.Author.Needs.{needs}
-use native.Mathlib.Omega.{arith}
+-- `words_to_16` meets its contract: the block's own words, one at each turn. Assumes nothing.
+use mathlib.Core.Path.{_≡_}
 use Prim.Native.Nat.{_-_, _≤_}
-use mathlib.Core.Path.{refl}
-use Rattle.sha1.proofs.block.rounds_to_16.Statement.{statement}
-use Rattle.sha1.proofs.block.rounds_to_16.Tie as tie
+use native.Mathlib.Omega.{arith}
+use borrow.Author.Needs.{needs}
+use lib.ListN.{length}
+use Rattle.sha1.specs.Rounds.{Made}
+use Rattle.sha1.proofs.Rounds.{begun, made-early, filled-to}
+use Rattle.sha1.proofs.block.words_to_16.Statement.{statement}
+use Rattle.sha1.proofs.block.words_to_16.Tie as tie
 
 abbrev Inv-loop : tie.InvT-loop
-Inv-loop b w₀ g₀ t₀ w g t = (t ≤ 16) × Done g₀ b t g w
+Inv-loop b w₀ t₀ w t = (t ≤ 16) × (length b ≡ 64) × Made b t w
 
 abbrev μ-loop : tie.MeasureT-loop
-μ-loop b w₀ g₀ t₀ w g t = 16 - t
+μ-loop b w₀ t₀ w t = 16 - t
 
 loop-holds : tie.Need-loop-holds Inv-loop μ-loop
-unfolding schedule rounds
-loop-holds c = (omega arith, (omega arith, refl, refl))
+loop-holds c = (omega arith, omega arith, begun (c .before .before .args .b .now) (c .before .before .args .w .now) (omega arith))
 
 mul-joined : tie.Need-mul-joined Inv-loop μ-loop
 mul-joined c = omega arith
@@ -62,18 +60,6 @@ mul-w c = omega arith
 slice-write-w : tie.Need-slice-write-w Inv-loop μ-loop
 slice-write-w c = omega arith
 
-choose-requires : tie.Need-choose-requires Inv-loop μ-loop
-choose-requires c κs = search needs
-
-mul-round : tie.Need-mul-round Inv-loop μ-loop
-mul-round c = omega arith
-
-slice-read-round : tie.Need-slice-read-round Inv-loop μ-loop
-slice-read-round c = simp length-set (omega arith)
-
-round-requires : tie.Need-round-requires Inv-loop μ-loop
-round-requires c κs = search needs
-
 add-t : tie.Need-add-t Inv-loop μ-loop
 add-t c = omega arith
 
@@ -82,15 +68,8 @@ loop-less c = omega arith
 
 loop-again : tie.Need-loop-again Inv-loop μ-loop
 loop-again c =
-    let l = c .before .before .before .before .before .before .before .before .before .loop in
-    let s = c .before .before .before .before .before .before .before .before .before .before .before .before .args in
-    let m = c .before .before .before .joined in
-    let r = c .round .result in (
-      omega arith,
-      further (s .h) (l .g) (s .b .now) (l .w) r (l .t) (m .result) (omega arith) (l .inv .1)
-          (early (s .b .now) (l .t) (m .result) (omega arith) (omega arith) (m .ensures))
-          (phase1 (l .g) r (l .t) (getD (set (l .w) (l .t) (m .result)) (l .t) 0) (omega arith) (c .before .before .choose .ensures) (c .round .ensures)),
-    )
+    let l = c .before .before .before .before .before .before .loop in
+    (omega arith, l .inv .1, made-early (c .before .before .before .before .before .before .before .before .before .args .b .now) (l .w) (l .t) (c .joined .result) (omega arith) (omega arith) (c .joined .ensures) (l .inv .2))
 
 same-length : tie.Need-same-length Inv-loop μ-loop
 same-length c = search needs
@@ -98,11 +77,10 @@ same-length c = search needs
 returns : tie.Need-returns Inv-loop μ-loop
 returns c =
     let l = c .before .loop in
-    let s = c .before .before .before .before .args in
-    arrived (s .h) (l .g) (s .b .now) (l .w) (l .t) 16 (omega arith) (omega arith) (l .inv .1)
+    filled-to (c .before .before .before .before .args .b .now) (l .w) (l .t) 16 (omega arith) (l .inv .2)
 
-pub rounds-to-16-spec : {M : Type 1} → statement M
-rounds-to-16-spec =
+pub words-to-16-spec : {M : Type 1} → statement M
+words-to-16-spec =
     tie.close
     (tie.spec
     Inv-loop
@@ -122,10 +100,6 @@ rounds-to-16-spec =
     joined-requires
     mul-w
     slice-write-w
-    choose-requires
-    mul-round
-    slice-read-round
-    round-requires
     add-t
     loop-less
     loop-again
