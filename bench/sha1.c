@@ -1,4 +1,4 @@
-/* Times SHA-1 of 16 MiB: wardrail_sha1 beside a plain C of the same shape, an unrolled C and OpenSSL, in turn in one process. bench/run builds and runs it. */
+/* Times SHA-1 of 16 MiB and of 256 KiB, which stay in the cache: wardrail_sha1 beside a plain C, an unrolled C and OpenSSL, in turn in one process, by the process's own time. bench/run builds and runs it. */
 #include <openssl/evp.h>
 
 #include <stdint.h>
@@ -9,13 +9,13 @@
 
 uint64_t wardrail_sha1(const uint8_t *message, size_t count, uint8_t *digest);
 
-enum { SIZE = 16777216, RUNS = 15 };
+enum { MOST = 16777216 };
 
 static uint32_t turned(uint32_t x, int n) { return x << n | x >> (32 - n); }
 
 static uint32_t word(const uint8_t *b) { return (uint32_t)b[0] << 24 | (uint32_t)b[1] << 16 | (uint32_t)b[2] << 8 | b[3]; }
 
-/* One block with all 80 words kept and a loop for each twenty rounds: the shape of the proved code. */
+/* One block with all 80 words kept, as in the proved code, but made before the rounds, one a turn, and a loop for each twenty rounds, one a turn. */
 static void plain_block(uint32_t *h, const uint8_t *p) {
     uint32_t w[80], a = h[0], b = h[1], c = h[2], d = h[3], e = h[4];
     for (int t = 0; t < 16; t++) w[t] = word(p + 4 * t);
@@ -56,41 +56,42 @@ static void unrolled_block(uint32_t *h, const uint8_t *p) {
     h[0] += a, h[1] += b, h[2] += c, h[3] += d, h[4] += e;
 }
 
-/* The digest of whole blocks: SIZE is a multiple of 64, so the padding is a block of its own. */
-static void hashed(void (*block)(uint32_t *, const uint8_t *), const uint8_t *m, uint8_t *digest) {
+/* The digest of n bytes, a multiple of 64, so that the padding is a block of its own. */
+static void hashed(void (*block)(uint32_t *, const uint8_t *), const uint8_t *m, size_t n, uint8_t *digest) {
     uint32_t h[5] = {0x67452301, 0xefcdab89, 0x98badcfe, 0x10325476, 0xc3d2e1f0};
     uint8_t end[64] = {128};
-    for (size_t i = 0; i < SIZE; i += 64) block(h, m + i);
-    for (int i = 0; i < 8; i++) end[63 - i] = (uint8_t)((uint64_t)SIZE * 8 >> 8 * i);
+    for (size_t i = 0; i < n; i += 64) block(h, m + i);
+    for (int i = 0; i < 8; i++) end[63 - i] = (uint8_t)((uint64_t)n * 8 >> 8 * i);
     block(h, end);
     for (int i = 0; i < 20; i++) digest[i] = (uint8_t)(h[i / 4] >> (24 - i % 4 * 8));
 }
 
-static void by_wardrail(const uint8_t *m, uint8_t *d) { wardrail_sha1(m, SIZE, d); }
-static void by_plain(const uint8_t *m, uint8_t *d) { hashed(plain_block, m, d); }
-static void by_unrolled(const uint8_t *m, uint8_t *d) { hashed(unrolled_block, m, d); }
-static void by_openssl(const uint8_t *m, uint8_t *d) { EVP_Digest(m, SIZE, d, NULL, EVP_sha1(), NULL); }
+static void by_wardrail(const uint8_t *m, size_t n, uint8_t *d) { wardrail_sha1(m, n, d); }
+static void by_plain(const uint8_t *m, size_t n, uint8_t *d) { hashed(plain_block, m, n, d); }
+static void by_unrolled(const uint8_t *m, size_t n, uint8_t *d) { hashed(unrolled_block, m, n, d); }
+static void by_openssl(const uint8_t *m, size_t n, uint8_t *d) { EVP_Digest(m, n, d, NULL, EVP_sha1(), NULL); }
+
+enum { WAYS = 4 };
+static const struct {
+    const char *name;
+    void (*hash)(const uint8_t *, size_t, uint8_t *);
+} ways[WAYS] = {{"wardrail_sha1", by_wardrail}, {"plain C, 80 words", by_plain}, {"unrolled C", by_unrolled}, {"OpenSSL", by_openssl}};
 
 static double seconds(void) {
     struct timespec t;
-    clock_gettime(CLOCK_MONOTONIC, &t);
+    clock_gettime(CLOCK_PROCESS_CPUTIME_ID, &t);
     return (double)t.tv_sec + (double)t.tv_nsec / 1e9;
 }
 
-int main(int count, char **words) {
-    static const struct {
-        const char *name;
-        void (*hash)(const uint8_t *, uint8_t *);
-    } ways[] = {{"wardrail_sha1", by_wardrail}, {"plain C, 80 words", by_plain}, {"unrolled C", by_unrolled}, {"OpenSSL", by_openssl}};
-    double least[4] = {1e9, 1e9, 1e9, 1e9};
-    uint8_t *m = malloc(SIZE), digest[20], first[20];
-    if (!m) return 1;
-    for (size_t i = 0; i < SIZE; i++) m[i] = (uint8_t)(i * 167 + i / 251);
-    by_openssl(m, first);
-    for (int run = 0; run < RUNS; run++)
-        for (int k = 0; k < 4; k++) {
+/* The least time of each way over the first n bytes of m; 1 where one gives another digest. */
+static int race(const uint8_t *m, size_t n, int runs, const char *size, const char *note) {
+    double least[WAYS] = {1e9, 1e9, 1e9, 1e9};
+    uint8_t digest[20], first[20];
+    by_openssl(m, n, first);
+    for (int run = 0; run < runs; run++)
+        for (int k = 0; k < WAYS; k++) {
             const double start = seconds();
-            ways[k].hash(m, digest);
+            ways[k].hash(m, n, digest);
             const double spent = seconds() - start;
             if (memcmp(digest, first, 20) != 0) {
                 fprintf(stderr, "bench: %s gives another digest\n", ways[k].name);
@@ -98,8 +99,18 @@ int main(int count, char **words) {
             }
             if (spent < least[k]) least[k] = spent;
         }
-    printf("SHA-1 of 16 MiB, the least of %d runs%s%s\n", RUNS, count > 1 ? ", " : "", count > 1 ? words[1] : "");
-    for (int k = 0; k < 4; k++) printf("%-20s %8.0f MB/s   of unrolled C %5.2f\n", ways[k].name, SIZE / least[k] / 1e6, least[2] / least[k]);
-    free(m);
+    printf("SHA-1 of %s, the least of %d runs%s\n", size, runs, note);
+    for (int k = 0; k < WAYS; k++) printf("%-20s %8.0f MB/s   of unrolled C %5.2f\n", ways[k].name, (double)n / least[k] / 1e6, least[2] / least[k]);
     return 0;
+}
+
+int main(int count, char **words) {
+    char note[100] = "";
+    uint8_t *m = malloc(MOST);
+    if (!m) return 1;
+    for (size_t i = 0; i < MOST; i++) m[i] = (uint8_t)(i * 167 + i / 251);
+    if (count > 1) snprintf(note, sizeof note, ", %s", words[1]);
+    const int fault = race(m, MOST, 15, "16 MiB", note) || race(m, 262144, 600, "256 KiB", note);
+    free(m);
+    return fault;
 }
