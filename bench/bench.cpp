@@ -1,4 +1,6 @@
 // Times the readers beside libtorrent's on one reply and one torrent, and wardrail_check by the byte on the texts that cost it most. bench/run builds and runs it.
+#include "../host/wardrail.h"
+
 #include <libtorrent/bdecode.hpp>
 #include <libtorrent/torrent_info.hpp>
 
@@ -13,14 +15,6 @@
 #include <functional>
 #include <string>
 #include <vector>
-
-extern "C" {
-uint64_t wardrail_check(const uint8_t *text, size_t count, uint64_t *detail);
-uint64_t wardrail_reply(const uint8_t *text, size_t count, uint64_t detail[4]);
-uint64_t wardrail_listed_at(const uint8_t *text, size_t count, size_t at, uint64_t detail[6]);
-uint64_t wardrail_torrent(const uint8_t *text, size_t count, uint64_t detail[14]);
-uint64_t wardrail_info_hash(const uint8_t *text, size_t count, uint8_t digest[20]);
-}
 
 namespace {
 

@@ -24,11 +24,11 @@ def main():
         out = csv.writer(file, lineterminator="\n")
         out.writerow(COLUMNS)
         out.writerows(rows + sizes)
-    print("| | ours, µs | | its time, µs | times as fast | goal | |\n|---|---|---|---|---|---|---|")
+    print("| | ours, µs | beside | its time, µs | times as fast | goal | |\n|---|---|---|---|---|---|---|")
     for what, _, _, ours, peer, theirs, goal in rows:
         ratio = theirs / ours
-        wanted = f"{goal:.2f} | {'met' if ratio >= goal else '**missed**'}" if goal else "none |"
-        print(f"| {what} | {shown(ours)} | {peer} | {shown(theirs)} | {ratio:.2f} | {wanted} |")
+        wanted = f"{goal:.3g} | {'met' if ratio >= goal else '**missed**'}" if goal else "none |"
+        print(f"| {what} | {shown(ours)} | {peer} | {shown(theirs)} | {ratio:.3g} | {wanted} |")
 
 
 def shown(number):

@@ -3,7 +3,8 @@
  * EVERY CALL that can refuse answers 0, or the number of the refusal by the table of document 01. What else it has to say
  * goes into `detail`, a number or a short array that the call writes whole each time: on 0 what is said at the call below;
  * on a refusal its first number is the place (a byte offset, and 0 for every refusal from 20 on) and the others are 0.
- * On a refusal nothing else that is lent changes. A call keeps no state, takes no memory and never fails otherwise.
+ * On a refusal nothing else that is lent changes. A call keeps no state, takes no memory and never fails otherwise; calls may
+ * run at once in several threads as long as none writes what another is passed.
  *
  * WHAT A CALLER OWES. A slice is a pointer and a count: the pointer is not null, also where the count is 0, is aligned for
  * its type, and that many elements are there. An array has as many elements as is written. What a call writes (not const)
@@ -27,7 +28,7 @@ extern "C" {
 
 WARDRAIL_ASSERT(sizeof(size_t) == 8, "the library counts in 64 bits");
 
-/* ---- Refusals */
+/* ---- Refusals: what the numbers mean */
 
 enum wardrail_refusal {
     WARDRAIL_CUT = 1,       /* the text ends where a byte is needed */
@@ -71,7 +72,7 @@ uint64_t wardrail_check(const uint8_t *text, size_t text_count, uint64_t *detail
  * [12] how many files, [13] the total. */
 uint64_t wardrail_torrent(const uint8_t *text, size_t text_count, uint64_t detail[14]);
 
-/* Writes the info hash; refuses as wardrail_torrent does, and has no place to tell. */
+/* Writes the info hash, SHA-1 of the bytes of info. Refuses as wardrail_torrent does, which tells the place. */
 uint64_t wardrail_info_hash(const uint8_t *text, size_t text_count, uint8_t digest[20]);
 
 /* File `number` of a torrent, from 0: the torrent's refusals, then 31. On 0: [0] its offset in the joined content,
@@ -88,10 +89,11 @@ uint64_t wardrail_file_at(const uint8_t *text, size_t text_count, size_t at, uin
  * Any text and offset is answered: 1 to 7, 10 for another kind, 13 for what may not be a name. */
 uint64_t wardrail_element_at(const uint8_t *text, size_t text_count, size_t at, uint64_t detail[4]);
 
-/* The part of the text that is a piece's hash, 20 bytes: the torrent's refusals, then 31. */
+/* A piece's hash: the torrent's refusals, then 31. On 0: [0] the part of the text that it is, 20 bytes. */
 uint64_t wardrail_piece_hash(const uint8_t *text, size_t text_count, uint32_t piece, uint64_t detail[2]);
 
-/* Whether these bytes are a piece: the torrent's refusals, then 31, 8, 34. On 0 `detail` is 1 for yes and 0 for no. */
+/* Whether these bytes are a piece, by its hash: the torrent's refusals, then 31, 8 for more than 16,777,216 bytes, 34 for another
+ * length than the piece has. On 0 `detail` is 1 for yes and 0 for no. */
 uint64_t wardrail_piece_check(const uint8_t *text, size_t text_count, uint32_t piece, const uint8_t *bytes, size_t bytes_count,
                               uint64_t *detail);
 
@@ -107,10 +109,11 @@ uint64_t wardrail_reply(const uint8_t *text, size_t text_count, uint64_t detail[
 uint64_t wardrail_peer(const uint8_t *text, size_t text_count, size_t number, uint64_t detail[6]);
 
 /* The entry of a list at an offset: first [3] of wardrail_reply, then [5] of the answer before, as many times as there are
- * entries. On 0: [0] the part of the peer id, [2] the part of the ip, [4] the port, [5] the next offset. */
+ * entries. On 0: [0] the part of the peer id, [2] the part of the ip, [4] the port, [5] the next offset. Any text and offset is
+ * answered: 1 to 7, 10, 11, 15. */
 uint64_t wardrail_listed_at(const uint8_t *text, size_t text_count, size_t at, uint64_t detail[6]);
 
-/* The same for an entry of six bytes. On 0: [0] to [3] the bytes of the address, [4] the port, [5] the next offset. */
+/* The same for an entry of six bytes: 1. On 0: [0] to [3] the bytes of the address, [4] the port, [5] the next offset. */
 uint64_t wardrail_packed_at(const uint8_t *text, size_t text_count, size_t at, uint64_t detail[6]);
 
 /* ---- Where a block falls */
