@@ -1,4 +1,3 @@
 pub mod Lines
-pub mod Star
 pub mod Runs
 pub mod Places
