@@ -42,9 +42,9 @@ def ensures(tables, words, written):
     return said
 
 fns = {
-    'wardrail::yards::code': dict(params=[val('a', 'Answer')], result='u64', ensures=lambda r, v, z: f"{r} ≡ codeOf (paper {v['a']})"),
-    'wardrail::yards::tell': dict(params=[val('a', 'Answer'), val('was', 'Told')], result='Told', ensures=lambda r, v, z: f"{r} ≡ toldOf (paper {v['a']}) {v['was']}"),
-    'wardrail::yards::shown': dict(params=[val('a', 'Answer'), val('was', 'Seat')], result='Seat', ensures=lambda r, v, z: f"{r} ≡ shownOf (paper {v['a']}) {v['was']}"),
+    'telling::code': dict(params=[val('a', 'Answer')], result='u64', ensures=lambda r, v, z: f"{r} ≡ codeOf (paper {v['a']})"),
+    'telling::tell': dict(params=[val('a', 'Answer'), val('was', 'Told')], result='Told', ensures=lambda r, v, z: f"{r} ≡ toldOf (paper {v['a']}) {v['was']}"),
+    'telling::shown': dict(params=[val('a', 'Answer'), val('seen', 'Seat')], result='Seat', ensures=lambda r, v, z: f"{r} ≡ shownOf (paper {v['a']}) {v['seen']}"),
 }
 TOLD_BY = {'told': 'toldOf', 'seen': 'shownOf'}
 says = {}
@@ -57,16 +57,17 @@ for name, (tables, more, words, told, written) in CALLS.items():
     follows = lambda f: f"ap (λ (x : {whole}). {f}) ({first})"
     parts = [f"{'e3' if told else 'e2'} ∙ {follows(f'codeOf ({answer})')}"]
     if told: parts.append(f"e2 ∙ {follows(TOLD_BY[told[0]] + f' ({answer}) ' + told[0])}")
-    if written: parts.append('e1 .1')
-    parts.append(follows('x .yard') if changes else 'refl')
-    says[name] = ', '.join(parts)
+    if changes: parts.append(follows('x .yard'))
+    # what stands beside Steps, Tells, Looks or Shows
+    beside = (['e1 .1'] if written else []) + ([] if changes else ['refl'])
+    says[name] = ', '.join([f"({', '.join(parts)})", *beside] if beside else parts)
 SPECS = '''use Rattle.refusal.specs.Paper.{Outcome}
 use Rattle.tables.specs.Tables.{Said, Out, paper, out, yardOf}
 use Rattle.tables.specs.Step as Step
-use Rattle.wardrail.specs.Yards.{codeOf, toldOf, shownOf}
+use Rattle.telling.specs.Telling.{codeOf, toldOf, shownOf}
 use lib.Seq.{sets}
 '''
-owner = dict.fromkeys(['Head', 'Seat', 'Answer'], 'tables') | {'Told': 'wardrail::yards'}
+owner = dict.fromkeys(['Head', 'Seat', 'Answer'], 'tables') | {'Told': 'telling'}
 structs = dict.fromkeys(['Head', 'Seat', 'Told'])
 for name in sys.argv[1:] or says:
     Thin('wardrail', structs, {'Answer'}, fns, SPECS, owner, 'scans').gen(f'yards::wardrail_yard_{name}', says[name])

@@ -30,9 +30,9 @@ use Rattle.tables.proofs.Keeping.{Keeps, step-keeps}
 use Rattle.tables.proofs.Keeping.{Unused as Unspoken}
 use Rattle.seating.specs.Steps.{begun}
 use Rattle.seating.specs.declared.Begun.{Begun}
-use Rattle.wardrail.specs.Said.{numberOf}
-use Rattle.wardrail.specs.Yards.{codeOf, toldOf, shownOf}
-use Rattle.wardrail.specs.declared.yards.Told.{Told}
+use Rattle.rows.specs.Said.{numberOf}
+use Rattle.telling.specs.Telling.{codeOf, toldOf, shownOf}
+use Rattle.telling.specs.declared.Told.{Told}
 use Rattle.demands.specs.One.{Ref, now, Refused, Unused}
 pub mod Numbers
 pub mod Reasons

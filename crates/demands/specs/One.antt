@@ -30,6 +30,8 @@ pub mod Hearing
 pub mod Scans
 pub mod Lines
 pub mod Yard
+pub mod Rows
+pub mod Telling
 pub mod HostTexts
 pub mod HostParts
 pub mod HostWriters

@@ -1,17 +1,16 @@
 // SHA-1 of a message that comes in parts, for C. The message so far is held in six words, the hash value after its whole
 // blocks and how many bytes it has, and in 64 bytes, those after its whole blocks.
-ghost use mathlib.Core.Path.{_≡_};
 ghost use Rattle.sha1.specs.Parts.{begun, addOf, finishOf};
-ghost use Rattle.wardrail.specs.Said.{numberOf};
-ghost use Rattle.wardrail.specs.Hashing.{wordsOf, stateOf};
-use crate::hashed_number;
+ghost use Rattle.rows.specs.Hashing.{stateOf, Holds, Digested};
+use rows::hashed_number;
+use rows::hashing::state;
+use rows::hashing::words_of;
 use sha1::stream;
-use sha1::stream::Stream;
 
 // The empty message.
 #[no_mangle]
 pub extern "C" fn wardrail_sha1_start(words: &mut [u32; 6], tail: &mut [u8; 64])
-    ensures { λ _. ⌜ (now (words .exit) ≡ wordsOf begun) × (now (tail .exit) ≡ begun .tail) ⌝ }
+    ensures { λ _. ⌜ Holds begun (now (words .exit)) (now (tail .exit)) ⌝ }
 {
     let s = stream::start();
     let w = words_of(s);
@@ -23,7 +22,7 @@ pub extern "C" fn wardrail_sha1_start(words: &mut [u32; 6], tail: &mut [u8; 64])
 // The message with a part after it.
 #[no_mangle]
 pub extern "C" fn wardrail_sha1_add(words: &mut [u32; 6], tail: &mut [u8; 64], part: &[u8])
-    ensures { λ _. ⌜ (now (words .exit) ≡ wordsOf (addOf (stateOf (now (words .entry)) (now (tail .entry))) (now (part .entry)))) × (now (tail .exit) ≡ addOf (stateOf (now (words .entry)) (now (tail .entry))) (now (part .entry)) .tail) ⌝ }
+    ensures { λ _. ⌜ Holds (addOf (stateOf (now (words .entry)) (now (tail .entry))) (now (part .entry))) (now (words .exit)) (now (tail .exit)) ⌝ }
 {
     let s = stream::add(state(*words, *tail), part);
     let w = words_of(s);
@@ -39,27 +38,7 @@ pub extern "C" fn wardrail_sha1_finish(
     tail: &[u8; 64],
     digest: &mut [u8; 20],
 ) -> u64
-    ensures { λ r. ⌜ (r ≡ numberOf (finishOf (stateOf (now (words .entry)) (now (tail .entry))) (now (digest .entry)) .answer)) × (now (digest .exit) ≡ finishOf (stateOf (now (words .entry)) (now (tail .entry))) (now (digest .entry)) .out) ⌝ }
+    ensures { λ r. ⌜ Digested (finishOf (stateOf (now (words .entry)) (now (tail .entry))) (now (digest .entry))) r (now (digest .exit)) ⌝ }
 {
     hashed_number(stream::finish(state(*words, *tail), digest))
-}
-
-fn words_of(s: Stream) -> [u32; 6]
-    ensures { λ r. ⌜ r ≡ wordsOf s ⌝ }
-{
-    [s.hash.a, s.hash.b, s.hash.c, s.hash.d, s.hash.e, s.length]
-}
-
-fn state(w: [u32; 6], tail: [u8; 64]) -> Stream
-    ensures { λ r. ⌜ r ≡ stateOf w tail ⌝ }
-{
-    let mut s = stream::start();
-    s.hash.a = w[0];
-    s.hash.b = w[1];
-    s.hash.c = w[2];
-    s.hash.d = w[3];
-    s.hash.e = w[4];
-    s.tail = tail;
-    s.length = w[5];
-    s
 }

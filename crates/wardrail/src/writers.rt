@@ -1,18 +1,15 @@
 // Writers for C, each at the start of `out`. `detail` becomes how many bytes were written, or the refusal's place.
 // A refusal leaves `out` as it was, and what is past the written part stays.
-ghost use mathlib.Core.Path.{_≡_};
 ghost use mathlib.Core.List.{_∷_};
-ghost use Rattle.writer.specs.Put.{paper, putOf};
+ghost use Rattle.writer.specs.Put.{putOf};
 ghost use Rattle.wire.specs.Message.{keepalive, encode};
 ghost use Rattle.wire.specs.Frames.{writeOf as frameOf};
 ghost use Rattle.wire.specs.Handshake.{handshake, zeros};
 ghost use Rattle.tracker.specs.Writing.{writeOf as replyTextOf};
 ghost use Rattle.authoring.specs.Writing.{fields, sizeOf, writeOf as torrentTextOf};
-ghost use Rattle.authoring.specs.Writing.{paper as sizedPaper};
-ghost use Rattle.wardrail.specs.Said.{numberOf, detailOf};
-ghost use Rattle.wardrail.specs.Writers.{Wrote};
-use authoring::Sized;
-use writer::Put;
+ghost use Rattle.rows.specs.Said.{detailOf, Tells};
+ghost use Rattle.rows.specs.Writers.{Wrote};
+use rows::writers;
 
 // A frame of any id and payload.
 #[no_mangle]
@@ -25,17 +22,18 @@ pub extern "C" fn wardrail_write_frame(
     ensures { λ r. ⌜ Wrote (frameOf (id ∷ now (payload .entry)) (now (out .entry))) r (now (detail .exit)) (now (out .exit)) ⌝ }
 {
     let put = wire::write::raw(out, id, payload);
-    *detail = put_detail(put);
-    put_number(put)
+    *detail = writers::put_detail(put);
+    writers::put_number(put)
 }
 
+// A keepalive.
 #[no_mangle]
 pub extern "C" fn wardrail_write_keepalive(out: &mut [u8], detail: &mut u64) -> u64
     ensures { λ r. ⌜ Wrote (putOf (encode keepalive) 0 (now (out .entry))) r (now (detail .exit)) (now (out .exit)) ⌝ }
 {
     let put = wire::write::keepalive(out);
-    *detail = put_detail(put);
-    put_number(put)
+    *detail = writers::put_detail(put);
+    writers::put_number(put)
 }
 
 // The handshake, its free bytes 0.
@@ -49,8 +47,8 @@ pub extern "C" fn wardrail_write_handshake(
     ensures { λ r. ⌜ Wrote (putOf (handshake zeros (now (info .entry)) (now (peer .entry))) 0 (now (out .entry))) r (now (detail .exit)) (now (out .exit)) ⌝ }
 {
     let put = wire::write::handshake(out, info, peer);
-    *detail = put_detail(put);
-    put_number(put)
+    *detail = writers::put_detail(put);
+    writers::put_number(put)
 }
 
 // A torrent of one file.
@@ -67,8 +65,8 @@ pub extern "C" fn wardrail_write_torrent(
     ensures { λ r. ⌜ Wrote (torrentTextOf (fields (now (announce .entry)) (now (name .entry)) «piece_length» (now (pieces .entry)) length) (now (out .entry))) r (now (detail .exit)) (now (out .exit)) ⌝ }
 {
     let put = authoring::write(out, announce, name, piece_length, pieces, length);
-    *detail = put_detail(put);
-    put_number(put)
+    *detail = writers::put_detail(put);
+    writers::put_number(put)
 }
 
 // How many bytes of output that torrent needs.
@@ -81,11 +79,11 @@ pub extern "C" fn wardrail_torrent_size(
     length: u64,
     detail: &mut u64,
 ) -> u64
-    ensures { λ r. ⌜ (r ≡ numberOf (sizeOf (fields (now (announce .entry)) (now (name .entry)) «piece_length» (now (pieces .entry)) length))) × (now (detail .exit) ≡ detailOf (sizeOf (fields (now (announce .entry)) (now (name .entry)) «piece_length» (now (pieces .entry)) length))) ⌝ }
+    ensures { λ r. ⌜ Tells detailOf (sizeOf (fields (now (announce .entry)) (now (name .entry)) «piece_length» (now (pieces .entry)) length)) r (now (detail .exit)) ⌝ }
 {
     let sized = authoring::size(announce, name, piece_length, pieces, length);
-    *detail = sized_detail(sized);
-    sized_number(sized)
+    *detail = writers::sized_detail(sized);
+    writers::sized_number(sized)
 }
 
 // A compact reply.
@@ -99,42 +97,6 @@ pub extern "C" fn wardrail_write_reply(
     ensures { λ r. ⌜ Wrote (replyTextOf interval (now (peers .entry)) (now (out .entry))) r (now (detail .exit)) (now (out .exit)) ⌝ }
 {
     let put = tracker::writing::write(out, interval, peers);
-    *detail = put_detail(put);
-    put_number(put)
-}
-
-fn put_number(p: Put) -> u64
-    ensures { λ n. ⌜ n ≡ numberOf (paper p) ⌝ }
-{
-    match p {
-        Put::To(_) => 0,
-        Put::Refused(r) => r.number as u64,
-    }
-}
-
-fn put_detail(p: Put) -> u64
-    ensures { λ d. ⌜ d ≡ detailOf (paper p) ⌝ }
-{
-    match p {
-        Put::To(n) => n as u64,
-        Put::Refused(r) => r.place as u64,
-    }
-}
-
-fn sized_number(s: Sized) -> u64
-    ensures { λ n. ⌜ n ≡ numberOf (sizedPaper s) ⌝ }
-{
-    match s {
-        Sized::Bytes(_) => 0,
-        Sized::Refused(r) => r.number as u64,
-    }
-}
-
-fn sized_detail(s: Sized) -> u64
-    ensures { λ d. ⌜ d ≡ detailOf (sizedPaper s) ⌝ }
-{
-    match s {
-        Sized::Bytes(n) => n as u64,
-        Sized::Refused(r) => r.place as u64,
-    }
+    *detail = writers::put_detail(put);
+    writers::put_number(put)
 }

@@ -10,37 +10,41 @@ use Rattle.metainfo.specs.Reading.{fileAt}
 use Rattle.contents.specs.Files.{entryOf}
 use Rattle.contents.specs.Paths.{elementOf}
 use Rattle.contents.specs.Pieces.{hashOf, checkOf}
-use Rattle.wardrail.specs.Files.{fileDetail, walkedDetail, elementDetail, partDetail, yesDetail}
-use Rattle.wardrail.specs.Frames.{frameDetail, shakeDetail}
-use Rattle.wardrail.specs.Mapping.{spotDetail}
-use Rattle.wardrail.specs.Said.{numberOf, detailOf}
-use Rattle.wardrail.proofs.Told as laws
+use Rattle.rows.specs.Files.{fileDetail, walkedDetail, elementDetail, partDetail, yesDetail}
+use Rattle.rows.specs.Frames.{frameDetail, shakeDetail}
+use Rattle.rows.specs.Mapping.{spotDetail, Parted}
+use Rattle.rows.specs.Said.{detailOf, Tells}
+use Rattle.rows.proofs.Keeping as laws
 use Rattle.demands.specs.One.{Lent, now, Determined1, Determined2}
 
 -- wardrail::files::wardrail_file
 abbrev file-ensures : (text : Lent (List ℕ)) (number : ℕ) → ℕ → Lent (List ℕ) → Type 0
-file-ensures text number r detail = (r ≡ numberOf (entryOf (now (text .entry)) number)) × (now (detail .exit) ≡ fileDetail (entryOf (now (text .entry)) number))
+file-ensures text number r detail =
+    Tells fileDetail (entryOf (now (text .entry)) number) r (now (detail .exit))
 
 pub file-determined : (text : Lent (List ℕ)) (number : ℕ) → Determined1 (file-ensures text number)
 file-determined text number detail r r′ detail₁ detail₂ e f = (e .0 ∙ sym (f .0), e .1 ∙ sym (f .1))
 
 -- wardrail::files::wardrail_file_at
 abbrev file-at-ensures : (text : Lent (List ℕ)) (at : ℕ) → ℕ → Lent (List ℕ) → Type 0
-file-at-ensures text at r detail = (r ≡ numberOf (fileAt (now (text .entry)) at)) × (now (detail .exit) ≡ walkedDetail (fileAt (now (text .entry)) at))
+file-at-ensures text at r detail =
+    Tells walkedDetail (fileAt (now (text .entry)) at) r (now (detail .exit))
 
 pub file-at-determined : (text : Lent (List ℕ)) (at : ℕ) → Determined1 (file-at-ensures text at)
 file-at-determined text at detail r r′ detail₁ detail₂ e f = (e .0 ∙ sym (f .0), e .1 ∙ sym (f .1))
 
 -- wardrail::files::wardrail_element_at
 abbrev element-at-ensures : (text : Lent (List ℕ)) (at : ℕ) → ℕ → Lent (List ℕ) → Type 0
-element-at-ensures text at r detail = (r ≡ numberOf (elementOf (now (text .entry)) at)) × (now (detail .exit) ≡ elementDetail (elementOf (now (text .entry)) at))
+element-at-ensures text at r detail =
+    Tells elementDetail (elementOf (now (text .entry)) at) r (now (detail .exit))
 
 pub element-at-determined : (text : Lent (List ℕ)) (at : ℕ) → Determined1 (element-at-ensures text at)
 element-at-determined text at detail r r′ detail₁ detail₂ e f = (e .0 ∙ sym (f .0), e .1 ∙ sym (f .1))
 
 -- wardrail::files::wardrail_piece_hash
 abbrev piece-hash-ensures : (text : Lent (List ℕ)) (piece : ℕ) → ℕ → Lent (List ℕ) → Type 0
-piece-hash-ensures text piece r detail = (r ≡ numberOf (hashOf (now (text .entry)) piece)) × (now (detail .exit) ≡ partDetail (hashOf (now (text .entry)) piece))
+piece-hash-ensures text piece r detail =
+    Tells partDetail (hashOf (now (text .entry)) piece) r (now (detail .exit))
 
 pub piece-hash-determined : (text : Lent (List ℕ)) (piece : ℕ) → Determined1 (piece-hash-ensures text piece)
 piece-hash-determined text piece detail r r′ detail₁ detail₂ e f = (e .0 ∙ sym (f .0), e .1 ∙ sym (f .1))
@@ -48,14 +52,15 @@ piece-hash-determined text piece detail r r′ detail₁ detail₂ e f = (e .0 �
 -- wardrail::files::wardrail_piece_check
 abbrev piece-check-ensures : (text : Lent (List ℕ)) (piece : ℕ) (bytes : Lent (List ℕ)) → ℕ → Lent ℕ → Type 0
 piece-check-ensures text piece bytes r detail =
-    (r ≡ numberOf (checkOf (now (text .entry)) piece (now (bytes .entry)))) × (now (detail .exit) ≡ yesDetail (checkOf (now (text .entry)) piece (now (bytes .entry))))
+    Tells yesDetail (checkOf (now (text .entry)) piece (now (bytes .entry))) r (now (detail .exit))
 
 pub piece-check-determined : (text : Lent (List ℕ)) (piece : ℕ) (bytes : Lent (List ℕ)) → Determined1 (piece-check-ensures text piece bytes)
 piece-check-determined text piece bytes detail r r′ detail₁ detail₂ e f = (e .0 ∙ sym (f .0), e .1 ∙ sym (f .1))
 
 -- wardrail::frames::wardrail_frame
 abbrev frame-ensures : (bytes : Lent (List ℕ)) → ℕ → Lent (List ℕ) → Type 0
-frame-ensures bytes r detail = (r ≡ numberOf (readOf (now (bytes .entry)))) × (now (detail .exit) ≡ frameDetail (readOf (now (bytes .entry))))
+frame-ensures bytes r detail =
+    Tells frameDetail (readOf (now (bytes .entry))) r (now (detail .exit))
 
 pub frame-determined : (bytes : Lent (List ℕ)) → Determined1 (frame-ensures bytes)
 frame-determined bytes detail r r′ detail₁ detail₂ e f = (e .0 ∙ sym (f .0), e .1 ∙ sym (f .1))
@@ -63,7 +68,7 @@ frame-determined bytes detail r r′ detail₁ detail₂ e f = (e .0 ∙ sym (f 
 -- wardrail::frames::wardrail_handshake
 abbrev handshake-ensures : (bytes info : Lent (List ℕ)) → ℕ → Lent (List ℕ) → Type 0
 handshake-ensures bytes info r detail =
-    (r ≡ numberOf (shakeOf (now (info .entry)) (now (bytes .entry)))) × (now (detail .exit) ≡ shakeDetail (shakeOf (now (info .entry)) (now (bytes .entry))))
+    Tells shakeDetail (shakeOf (now (info .entry)) (now (bytes .entry))) r (now (detail .exit))
 
 pub handshake-determined : (bytes info : Lent (List ℕ)) → Determined1 (handshake-ensures bytes info)
 handshake-determined bytes info detail r r′ detail₁ detail₂ e f = (e .0 ∙ sym (f .0), e .1 ∙ sym (f .1))
@@ -71,18 +76,18 @@ handshake-determined bytes info detail r r′ detail₁ detail₂ e f = (e .0 �
 -- wardrail::mapping::wardrail_block
 abbrev block-ensures : (lengths : Lent (List ℕ)) («piece_length» piece offset count : ℕ) → ℕ → Lent (List ℕ) → Lent ℕ → Type 0
 block-ensures lengths «piece_length» piece offset count r out detail =
-    (r ≡ numberOf (written (blockOf (joined (now (lengths .entry))) «piece_length» piece offset count) (now (out .entry)) .answer)) × (now (detail .exit) ≡ detailOf (written (blockOf (joined (now (lengths .entry))) «piece_length» piece offset count) (now (out .entry)) .answer)) × (now (out .exit) ≡ written (blockOf (joined (now (lengths .entry))) «piece_length» piece offset count) (now (out .entry)) .out)
+    Parted (written (blockOf (joined (now (lengths .entry))) «piece_length» piece offset count) (now (out .entry))) r (now (detail .exit)) (now (out .exit))
 
 pub block-determined : (lengths : Lent (List ℕ)) («piece_length» piece offset count : ℕ) → Determined2 (block-ensures lengths «piece_length» piece offset count)
 block-determined lengths «piece_length» piece offset count out detail r r′ out₁ out₂ detail₁ detail₂ e f = (e .0 ∙ sym (f .0), e .2 ∙ sym (f .2), e .1 ∙ sym (f .1))
 
 pub block-keeps : (lengths : Lent (List ℕ)) («piece_length» piece offset count : ℕ) → (r : ℕ) (out : Lent (List ℕ)) (detail : Lent ℕ) → block-ensures lengths «piece_length» piece offset count r out detail → (r ≡ 0 → ⊥) → now (out .exit) ≡ now (out .entry)
-block-keeps lengths «piece_length» piece offset count r out detail e k = laws.block-keeps _ _ r r _ _ _ _ _ _ e k
+block-keeps lengths «piece_length» piece offset count r out detail e k = laws.block-keeps (now (lengths .entry)) «piece_length» piece offset count (now (out .entry)) r (now (detail .exit)) (now (out .exit)) e k
 
 -- wardrail::mapping::wardrail_byte
 abbrev byte-ensures : (lengths : Lent (List ℕ)) («piece_length» file offset : ℕ) → ℕ → Lent (List ℕ) → Type 0
 byte-ensures lengths «piece_length» file offset r detail =
-    (r ≡ numberOf (byteOf (joined (now (lengths .entry))) «piece_length» file offset)) × (now (detail .exit) ≡ spotDetail (byteOf (joined (now (lengths .entry))) «piece_length» file offset))
+    Tells spotDetail (byteOf (joined (now (lengths .entry))) «piece_length» file offset) r (now (detail .exit))
 
 pub byte-determined : (lengths : Lent (List ℕ)) («piece_length» file offset : ℕ) → Determined1 (byte-ensures lengths «piece_length» file offset)
 byte-determined lengths «piece_length» file offset detail r r′ detail₁ detail₂ e f = (e .0 ∙ sym (f .0), e .1 ∙ sym (f .1))
@@ -90,7 +95,7 @@ byte-determined lengths «piece_length» file offset detail r r′ detail₁ det
 -- wardrail::mapping::wardrail_piece_size
 abbrev piece-size-ensures : (lengths : Lent (List ℕ)) («piece_length» piece : ℕ) → ℕ → Lent ℕ → Type 0
 piece-size-ensures lengths «piece_length» piece r detail =
-    (r ≡ numberOf (sizeOf (joined (now (lengths .entry))) «piece_length» piece)) × (now (detail .exit) ≡ detailOf (sizeOf (joined (now (lengths .entry))) «piece_length» piece))
+    Tells detailOf (sizeOf (joined (now (lengths .entry))) «piece_length» piece) r (now (detail .exit))
 
 pub piece-size-determined : (lengths : Lent (List ℕ)) («piece_length» piece : ℕ) → Determined1 (piece-size-ensures lengths «piece_length» piece)
 piece-size-determined lengths «piece_length» piece detail r r′ detail₁ detail₂ e f = (e .0 ∙ sym (f .0), e .1 ∙ sym (f .1))

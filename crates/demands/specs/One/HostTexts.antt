@@ -10,18 +10,19 @@ use Rattle.tracker.specs.Entries.{listedAt, packedAt}
 use Rattle.tracker.specs.Reply.{replyOf, nthOf, counted}
 use Rattle.metainfo.specs.Hashes.{infoHashOf}
 use Rattle.metainfo.specs.Reading.{readOf}
-use Rattle.wardrail.specs.Hashing.{wordsOf, stateOf}
-use Rattle.wardrail.specs.Peers.{peerDetail}
-use Rattle.wardrail.specs.Replies.{replyDetail, entryDetail}
-use Rattle.wardrail.specs.Said.{numberOf, detailOf}
-use Rattle.wardrail.specs.Torrents.{torrentDetail}
+use Rattle.rows.specs.Hashing.{stateOf, Holds, Digested}
+use Rattle.rows.specs.Peers.{peerDetail}
+use Rattle.rows.specs.Replies.{replyDetail, entryDetail}
+use Rattle.rows.specs.Said.{detailOf, Tells}
+use Rattle.rows.specs.Torrents.{torrentDetail}
 use Rattle.sha1.proofs.Determined as laws
 use Rattle.demands.specs.Cited.{by-number, refuses, same-left, hash-kept}
 use Rattle.demands.specs.One.{Lent, now, Determined1, Keeps1, Determined2}
 
 -- wardrail::wardrail_check
 abbrev check-ensures : (text : Lent (List ℕ)) → ℕ → Lent ℕ → Type 0
-check-ensures text r detail = (r ≡ numberOf (checkOf (now (text .entry)))) × (now (detail .exit) ≡ detailOf (checkOf (now (text .entry))))
+check-ensures text r detail =
+    Tells detailOf (checkOf (now (text .entry))) r (now (detail .exit))
 
 pub check-determined : (text : Lent (List ℕ)) → Determined1 (check-ensures text)
 check-determined text detail r r′ detail₁ detail₂ e f = (e .0 ∙ sym (f .0), e .1 ∙ sym (f .1))
@@ -29,7 +30,7 @@ check-determined text detail r r′ detail₁ detail₂ e f = (e .0 ∙ sym (f .
 -- wardrail::wardrail_sha1
 abbrev sha1-ensures : (message : Lent (List ℕ)) → ℕ → Lent (List ℕ) → Type 0
 sha1-ensures message r digest =
-    (r ≡ numberOf (digestOf (now (message .entry)) (now (digest .entry)) .answer)) × (now (digest .exit) ≡ digestOf (now (message .entry)) (now (digest .entry)) .out)
+    Digested (digestOf (now (message .entry)) (now (digest .entry))) r (now (digest .exit))
 
 pub sha1-determined : (message : Lent (List ℕ)) → Determined1 (sha1-ensures message)
 sha1-determined message digest r r′ digest₁ digest₂ e f = (e .0 ∙ sym (f .0), e .1 ∙ sym (f .1))
@@ -40,7 +41,8 @@ sha1-keeps message r digest e k =
 
 -- wardrail::hashing::wardrail_sha1_start
 abbrev sha1-start-ensures : Unit {0} → Lent (List ℕ) → Lent (List ℕ) → Type 0
-sha1-start-ensures r words tail = (now (words .exit) ≡ wordsOf begun) × (now (tail .exit) ≡ begun .tail)
+sha1-start-ensures r words tail =
+    Holds begun (now (words .exit)) (now (tail .exit))
 
 pub sha1-start-determined : Determined2 sha1-start-ensures
 sha1-start-determined words tail r r′ words₁ words₂ tail₁ tail₂ e f = (refl, e .0 ∙ sym (f .0), e .1 ∙ sym (f .1))
@@ -50,7 +52,7 @@ sha1-start-determined words tail r r′ words₁ words₂ tail₁ tail₂ e f = 
 -- wardrail::hashing::wardrail_sha1_add
 abbrev sha1-add-ensures : (part : Lent (List ℕ)) → Unit {0} → Lent (List ℕ) → Lent (List ℕ) → Type 0
 sha1-add-ensures part r words tail =
-    (now (words .exit) ≡ wordsOf (addOf (stateOf (now (words .entry)) (now (tail .entry))) (now (part .entry)))) × (now (tail .exit) ≡ addOf (stateOf (now (words .entry)) (now (tail .entry))) (now (part .entry)) .tail)
+    Holds (addOf (stateOf (now (words .entry)) (now (tail .entry))) (now (part .entry))) (now (words .exit)) (now (tail .exit))
 
 pub sha1-add-determined : (part : Lent (List ℕ)) → Determined2 (sha1-add-ensures part)
 sha1-add-determined part words tail r r′ words₁ words₂ tail₁ tail₂ e f = (refl, e .0 ∙ sym (f .0), e .1 ∙ sym (f .1))
@@ -60,7 +62,7 @@ sha1-add-determined part words tail r r′ words₁ words₂ tail₁ tail₂ e f
 -- wardrail::hashing::wardrail_sha1_finish
 abbrev sha1-finish-ensures : (words tail : Lent (List ℕ)) → ℕ → Lent (List ℕ) → Type 0
 sha1-finish-ensures words tail r digest =
-    (r ≡ numberOf (finishOf (stateOf (now (words .entry)) (now (tail .entry))) (now (digest .entry)) .answer)) × (now (digest .exit) ≡ finishOf (stateOf (now (words .entry)) (now (tail .entry))) (now (digest .entry)) .out)
+    Digested (finishOf (stateOf (now (words .entry)) (now (tail .entry))) (now (digest .entry))) r (now (digest .exit))
 
 pub sha1-finish-determined : (words tail : Lent (List ℕ)) → Determined1 (sha1-finish-ensures words tail)
 sha1-finish-determined words tail digest r r′ digest₁ digest₂ e f = (e .0 ∙ sym (f .0), e .1 ∙ sym (f .1))
@@ -72,35 +74,39 @@ sha1-finish-keeps words tail r digest e k =
 -- wardrail::peers::wardrail_peer
 abbrev peer-ensures : (text : Lent (List ℕ)) (number : ℕ) → ℕ → Lent (List ℕ) → Type 0
 peer-ensures text number r detail =
-    (r ≡ numberOf (then (replyOf (now (text .entry))) (nthOf number))) × (now (detail .exit) ≡ peerDetail (then (replyOf (now (text .entry))) (nthOf number)))
+    Tells peerDetail (then (replyOf (now (text .entry))) (nthOf number)) r (now (detail .exit))
 
 pub peer-determined : (text : Lent (List ℕ)) (number : ℕ) → Determined1 (peer-ensures text number)
 peer-determined text number detail r r′ detail₁ detail₂ e f = (e .0 ∙ sym (f .0), e .1 ∙ sym (f .1))
 
 -- wardrail::replies::wardrail_reply
 abbrev reply-ensures : (text : Lent (List ℕ)) → ℕ → Lent (List ℕ) → Type 0
-reply-ensures text r detail = (r ≡ numberOf (map counted (replyOf (now (text .entry))))) × (now (detail .exit) ≡ replyDetail (map counted (replyOf (now (text .entry)))))
+reply-ensures text r detail =
+    Tells replyDetail (map counted (replyOf (now (text .entry)))) r (now (detail .exit))
 
 pub reply-determined : (text : Lent (List ℕ)) → Determined1 (reply-ensures text)
 reply-determined text detail r r′ detail₁ detail₂ e f = (e .0 ∙ sym (f .0), e .1 ∙ sym (f .1))
 
 -- wardrail::replies::wardrail_listed_at
 abbrev listed-at-ensures : (text : Lent (List ℕ)) (at : ℕ) → ℕ → Lent (List ℕ) → Type 0
-listed-at-ensures text at r detail = (r ≡ numberOf (listedAt (now (text .entry)) at)) × (now (detail .exit) ≡ entryDetail (listedAt (now (text .entry)) at))
+listed-at-ensures text at r detail =
+    Tells entryDetail (listedAt (now (text .entry)) at) r (now (detail .exit))
 
 pub listed-at-determined : (text : Lent (List ℕ)) (at : ℕ) → Determined1 (listed-at-ensures text at)
 listed-at-determined text at detail r r′ detail₁ detail₂ e f = (e .0 ∙ sym (f .0), e .1 ∙ sym (f .1))
 
 -- wardrail::replies::wardrail_packed_at
 abbrev packed-at-ensures : (text : Lent (List ℕ)) (at : ℕ) → ℕ → Lent (List ℕ) → Type 0
-packed-at-ensures text at r detail = (r ≡ numberOf (packedAt (now (text .entry)) at)) × (now (detail .exit) ≡ entryDetail (packedAt (now (text .entry)) at))
+packed-at-ensures text at r detail =
+    Tells entryDetail (packedAt (now (text .entry)) at) r (now (detail .exit))
 
 pub packed-at-determined : (text : Lent (List ℕ)) (at : ℕ) → Determined1 (packed-at-ensures text at)
 packed-at-determined text at detail r r′ detail₁ detail₂ e f = (e .0 ∙ sym (f .0), e .1 ∙ sym (f .1))
 
 -- wardrail::torrents::wardrail_torrent
 abbrev torrent-ensures : (text : Lent (List ℕ)) → ℕ → Lent (List ℕ) → Type 0
-torrent-ensures text r detail = (r ≡ numberOf (readOf (now (text .entry)))) × (now (detail .exit) ≡ torrentDetail (readOf (now (text .entry))))
+torrent-ensures text r detail =
+    Tells torrentDetail (readOf (now (text .entry))) r (now (detail .exit))
 
 pub torrent-determined : (text : Lent (List ℕ)) → Determined1 (torrent-ensures text)
 torrent-determined text detail r r′ detail₁ detail₂ e f = (e .0 ∙ sym (f .0), e .1 ∙ sym (f .1))
@@ -108,7 +114,7 @@ torrent-determined text detail r r′ detail₁ detail₂ e f = (e .0 ∙ sym (f
 -- wardrail::torrents::wardrail_info_hash
 abbrev info-hash-ensures : (text : Lent (List ℕ)) → ℕ → Lent (List ℕ) → Type 0
 info-hash-ensures text r digest =
-    (r ≡ numberOf (infoHashOf (now (text .entry)) (now (digest .entry)) .answer)) × (now (digest .exit) ≡ infoHashOf (now (text .entry)) (now (digest .entry)) .out)
+    Digested (infoHashOf (now (text .entry)) (now (digest .entry))) r (now (digest .exit))
 
 pub info-hash-determined : (text : Lent (List ℕ)) → Determined1 (info-hash-ensures text)
 info-hash-determined text digest r r′ digest₁ digest₂ e f = (e .0 ∙ sym (f .0), e .1 ∙ sym (f .1))

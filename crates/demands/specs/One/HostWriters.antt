@@ -9,32 +9,35 @@ use Rattle.wire.specs.Message.{keepalive, encode}
 use Rattle.tracker.specs.Writing.{writeOf as replyTextOf}
 use Rattle.authoring.specs.Writing.{writeOf as torrentTextOf}
 use Rattle.authoring.specs.Writing.{fields, sizeOf}
-use Rattle.wardrail.specs.Said.{numberOf, detailOf}
-use Rattle.wardrail.specs.Writers.{Wrote}
-use Rattle.wardrail.proofs.Wrote as laws
+use Rattle.rows.specs.Said.{detailOf, Tells}
+use Rattle.rows.specs.Writers.{Wrote}
+use Rattle.rows.proofs.Determined as laws
+use Rattle.rows.proofs.Keeping as kept
 use Rattle.demands.specs.One.{Lent, now, Determined2, Determined1}
 
 -- wardrail::writers::wardrail_write_frame
 abbrev write-frame-ensures : (id : ℕ) (payload : Lent (List ℕ)) → ℕ → Lent (List ℕ) → Lent ℕ → Type 0
-write-frame-ensures id payload r out detail = Wrote (frameOf (id ∷ now (payload .entry)) (now (out .entry))) r (now (detail .exit)) (now (out .exit))
+write-frame-ensures id payload r out detail =
+    Wrote (frameOf (id ∷ now (payload .entry)) (now (out .entry))) r (now (detail .exit)) (now (out .exit))
 
 pub write-frame-determined : (id : ℕ) (payload : Lent (List ℕ)) → Determined2 (write-frame-ensures id payload)
 write-frame-determined id payload out detail r r′ out₁ out₂ detail₁ detail₂ e f =
     let t = laws.wrote-determined (frameOf (id ∷ now (payload .entry)) (now out)) r r′ (now detail₁) (now detail₂) (now out₁) (now out₂) e f in (t .0, t .2, t .1)
 
 pub write-frame-keeps : (id : ℕ) (payload : Lent (List ℕ)) → (r : ℕ) (out : Lent (List ℕ)) (detail : Lent ℕ) → write-frame-ensures id payload r out detail → (r ≡ 0 → ⊥) → now (out .exit) ≡ now (out .entry)
-write-frame-keeps id payload r out detail e k = laws.write-frame-keeps _ _ r _ _ e k
+write-frame-keeps id payload r out detail e k = kept.write-frame-keeps _ _ r _ _ e k
 
 -- wardrail::writers::wardrail_write_keepalive
 abbrev write-keepalive-ensures : ℕ → Lent (List ℕ) → Lent ℕ → Type 0
-write-keepalive-ensures r out detail = Wrote (putOf (encode keepalive) 0 (now (out .entry))) r (now (detail .exit)) (now (out .exit))
+write-keepalive-ensures r out detail =
+    Wrote (putOf (encode keepalive) 0 (now (out .entry))) r (now (detail .exit)) (now (out .exit))
 
 pub write-keepalive-determined : Determined2 write-keepalive-ensures
 write-keepalive-determined out detail r r′ out₁ out₂ detail₁ detail₂ e f =
     let t = laws.wrote-determined (putOf (encode keepalive) 0 (now out)) r r′ (now detail₁) (now detail₂) (now out₁) (now out₂) e f in (t .0, t .2, t .1)
 
 pub write-keepalive-keeps : (r : ℕ) (out : Lent (List ℕ)) (detail : Lent ℕ) → write-keepalive-ensures r out detail → (r ≡ 0 → ⊥) → now (out .exit) ≡ now (out .entry)
-write-keepalive-keeps r out detail e k = laws.put-keeps _ _ r _ _ e k
+write-keepalive-keeps r out detail e k = kept.put-keeps _ _ r _ _ e k
 
 -- wardrail::writers::wardrail_write_handshake
 abbrev write-handshake-ensures : (info peer : Lent (List ℕ)) → ℕ → Lent (List ℕ) → Lent ℕ → Type 0
@@ -46,7 +49,7 @@ write-handshake-determined info peer out detail r r′ out₁ out₂ detail₁ d
     let t = laws.wrote-determined (putOf (handshake zeros (now (info .entry)) (now (peer .entry))) 0 (now out)) r r′ (now detail₁) (now detail₂) (now out₁) (now out₂) e f in (t .0, t .2, t .1)
 
 pub write-handshake-keeps : (info peer : Lent (List ℕ)) → (r : ℕ) (out : Lent (List ℕ)) (detail : Lent ℕ) → write-handshake-ensures info peer r out detail → (r ≡ 0 → ⊥) → now (out .exit) ≡ now (out .entry)
-write-handshake-keeps info peer r out detail e k = laws.put-keeps _ _ r _ _ e k
+write-handshake-keeps info peer r out detail e k = kept.put-keeps _ _ r _ _ e k
 
 -- wardrail::writers::wardrail_write_torrent
 abbrev write-torrent-ensures : (announce name : Lent (List ℕ)) («piece_length» : ℕ) (pieces : Lent (List ℕ)) (length : ℕ) → ℕ → Lent (List ℕ) → Lent ℕ → Type 0
@@ -58,23 +61,24 @@ write-torrent-determined announce name «piece_length» pieces length out detail
     let t = laws.wrote-determined (torrentTextOf (fields (now (announce .entry)) (now (name .entry)) «piece_length» (now (pieces .entry)) length) (now out)) r r′ (now detail₁) (now detail₂) (now out₁) (now out₂) e f in (t .0, t .2, t .1)
 
 pub write-torrent-keeps : (announce name : Lent (List ℕ)) («piece_length» : ℕ) (pieces : Lent (List ℕ)) (length : ℕ) → (r : ℕ) (out : Lent (List ℕ)) (detail : Lent ℕ) → write-torrent-ensures announce name «piece_length» pieces length r out detail → (r ≡ 0 → ⊥) → now (out .exit) ≡ now (out .entry)
-write-torrent-keeps announce name «piece_length» pieces length r out detail e k = laws.write-torrent-keeps _ _ r _ _ e k
+write-torrent-keeps announce name «piece_length» pieces length r out detail e k = kept.write-torrent-keeps _ _ r _ _ e k
 
 -- wardrail::writers::wardrail_torrent_size
 abbrev torrent-size-ensures : (announce name : Lent (List ℕ)) («piece_length» : ℕ) (pieces : Lent (List ℕ)) (length : ℕ) → ℕ → Lent ℕ → Type 0
 torrent-size-ensures announce name «piece_length» pieces length r detail =
-    (r ≡ numberOf (sizeOf (fields (now (announce .entry)) (now (name .entry)) «piece_length» (now (pieces .entry)) length))) × (now (detail .exit) ≡ detailOf (sizeOf (fields (now (announce .entry)) (now (name .entry)) «piece_length» (now (pieces .entry)) length)))
+    Tells detailOf (sizeOf (fields (now (announce .entry)) (now (name .entry)) «piece_length» (now (pieces .entry)) length)) r (now (detail .exit))
 
 pub torrent-size-determined : (announce name : Lent (List ℕ)) («piece_length» : ℕ) (pieces : Lent (List ℕ)) (length : ℕ) → Determined1 (torrent-size-ensures announce name «piece_length» pieces length)
 torrent-size-determined announce name «piece_length» pieces length detail r r′ detail₁ detail₂ e f = (e .0 ∙ sym (f .0), e .1 ∙ sym (f .1))
 
 -- wardrail::writers::wardrail_write_reply
 abbrev write-reply-ensures : (interval : ℕ) (peers : Lent (List ℕ)) → ℕ → Lent (List ℕ) → Lent ℕ → Type 0
-write-reply-ensures interval peers r out detail = Wrote (replyTextOf interval (now (peers .entry)) (now (out .entry))) r (now (detail .exit)) (now (out .exit))
+write-reply-ensures interval peers r out detail =
+    Wrote (replyTextOf interval (now (peers .entry)) (now (out .entry))) r (now (detail .exit)) (now (out .exit))
 
 pub write-reply-determined : (interval : ℕ) (peers : Lent (List ℕ)) → Determined2 (write-reply-ensures interval peers)
 write-reply-determined interval peers out detail r r′ out₁ out₂ detail₁ detail₂ e f =
     let t = laws.wrote-determined (replyTextOf interval (now (peers .entry)) (now out)) r r′ (now detail₁) (now detail₂) (now out₁) (now out₂) e f in (t .0, t .2, t .1)
 
 pub write-reply-keeps : (interval : ℕ) (peers : Lent (List ℕ)) → (r : ℕ) (out : Lent (List ℕ)) (detail : Lent ℕ) → write-reply-ensures interval peers r out detail → (r ≡ 0 → ⊥) → now (out .exit) ≡ now (out .entry)
-write-reply-keeps interval peers r out detail e k = laws.write-reply-keeps _ _ _ r _ _ e k
+write-reply-keeps interval peers r out detail e k = kept.write-reply-keeps _ _ _ r _ _ e k

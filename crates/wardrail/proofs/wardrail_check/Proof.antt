@@ -1,7 +1,7 @@
 -- `wardrail_check` meets its contract. Assumes nothing.
-use mathlib.Core.Path.{ap, _∙_}
+use Rattle.rows.proofs.Said.{tells}
 use borrow.Author.Needs.{needs}
-use Rattle.wardrail.specs.Said.{numberOf, detailOf}
+use Rattle.rows.specs.Said.{detailOf}
 use Rattle.wardrail.proofs.wardrail_check.Statement.{statement}
 use Rattle.wardrail.proofs.wardrail_check.Tie as tie
 
@@ -15,7 +15,7 @@ check-number-requires : tie.Need-check-number-requires
 check-number-requires c κs = search needs
 
 returns : tie.Need-returns
-returns c = (c .check-number .ensures ∙ ap numberOf (c .before .before .check .ensures .0), c .before .check-detail .ensures ∙ ap detailOf (c .before .before .check .ensures .0))
+returns c = tells detailOf (c .before .before .check .ensures .0) (c .check-number .ensures) (c .before .check-detail .ensures)
 
 pub wardrail-check-spec : {M : Type 1} → statement M
 wardrail-check-spec =

@@ -1,7 +1,6 @@
 -- `wardrail_element_at` meets its contract. Assumes nothing.
-use Rattle.wardrail.specs.Files.{elementDetail}
-use Rattle.wardrail.specs.Said.{numberOf}
-use mathlib.Core.Path.{ap, _∙_}
+use Rattle.rows.specs.Files.{elementDetail}
+use Rattle.rows.proofs.Said.{tells}
 use borrow.Author.Needs.{needs}
 use Rattle.wardrail.proofs.files.wardrail_element_at.Statement.{statement}
 use Rattle.wardrail.proofs.files.wardrail_element_at.Tie as tie
@@ -16,7 +15,7 @@ element-number-requires : tie.Need-element-number-requires
 element-number-requires c κs = search needs
 
 returns : tie.Need-returns
-returns c = (c .element-number .ensures ∙ ap numberOf (c .before .before .element-at .ensures), c .before .element-detail .ensures ∙ ap elementDetail (c .before .before .element-at .ensures))
+returns c = tells elementDetail (c .before .before .element-at .ensures) (c .element-number .ensures) (c .before .element-detail .ensures)
 
 pub wardrail-element-at-spec : {M : Type 1} → statement M
 wardrail-element-at-spec =

@@ -1,7 +1,6 @@
 -- `wardrail_file` meets its contract. Assumes nothing.
-use Rattle.wardrail.specs.Files.{fileDetail}
-use Rattle.wardrail.specs.Said.{numberOf}
-use mathlib.Core.Path.{ap, _∙_}
+use Rattle.rows.specs.Files.{fileDetail}
+use Rattle.rows.proofs.Said.{tells}
 use borrow.Author.Needs.{needs}
 use Rattle.wardrail.proofs.files.wardrail_file.Statement.{statement}
 use Rattle.wardrail.proofs.files.wardrail_file.Tie as tie
@@ -16,7 +15,7 @@ file-number-requires : tie.Need-file-number-requires
 file-number-requires c κs = search needs
 
 returns : tie.Need-returns
-returns c = (c .file-number .ensures ∙ ap numberOf (c .before .before .file .ensures), c .before .file-detail .ensures ∙ ap fileDetail (c .before .before .file .ensures))
+returns c = tells fileDetail (c .before .before .file .ensures) (c .file-number .ensures) (c .before .file-detail .ensures)
 
 pub wardrail-file-spec : {M : Type 1} → statement M
 wardrail-file-spec =

@@ -1,7 +1,6 @@
 -- `wardrail_file_at` meets its contract. Assumes nothing.
-use Rattle.wardrail.specs.Files.{walkedDetail}
-use Rattle.wardrail.specs.Said.{numberOf}
-use mathlib.Core.Path.{ap, _∙_}
+use Rattle.rows.specs.Files.{walkedDetail}
+use Rattle.rows.proofs.Said.{tells}
 use borrow.Author.Needs.{needs}
 use Rattle.wardrail.proofs.files.wardrail_file_at.Statement.{statement}
 use Rattle.wardrail.proofs.files.wardrail_file_at.Tie as tie
@@ -16,7 +15,7 @@ filed-number-requires : tie.Need-filed-number-requires
 filed-number-requires c κs = search needs
 
 returns : tie.Need-returns
-returns c = (c .filed-number .ensures ∙ ap numberOf (c .before .before .file-at .ensures), c .before .filed-detail .ensures ∙ ap walkedDetail (c .before .before .file-at .ensures))
+returns c = tells walkedDetail (c .before .before .file-at .ensures) (c .filed-number .ensures) (c .before .filed-detail .ensures)
 
 pub wardrail-file-at-spec : {M : Type 1} → statement M
 wardrail-file-at-spec =

@@ -1,7 +1,6 @@
 -- `wardrail_piece_check` meets its contract. Assumes nothing.
-use Rattle.wardrail.specs.Files.{yesDetail}
-use Rattle.wardrail.specs.Said.{numberOf}
-use mathlib.Core.Path.{ap, _∙_}
+use Rattle.rows.specs.Files.{yesDetail}
+use Rattle.rows.proofs.Said.{tells}
 use borrow.Author.Needs.{needs}
 use Rattle.wardrail.proofs.files.wardrail_piece_check.Statement.{statement}
 use Rattle.wardrail.proofs.files.wardrail_piece_check.Tie as tie
@@ -16,7 +15,7 @@ checked-number-requires : tie.Need-checked-number-requires
 checked-number-requires c κs = search needs
 
 returns : tie.Need-returns
-returns c = (c .checked-number .ensures ∙ ap numberOf (c .before .before .check-piece .ensures), c .before .checked-detail .ensures ∙ ap yesDetail (c .before .before .check-piece .ensures))
+returns c = tells yesDetail (c .before .before .check-piece .ensures) (c .checked-number .ensures) (c .before .checked-detail .ensures)
 
 pub wardrail-piece-check-spec : {M : Type 1} → statement M
 wardrail-piece-check-spec =

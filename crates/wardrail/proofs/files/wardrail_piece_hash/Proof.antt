@@ -1,7 +1,6 @@
 -- `wardrail_piece_hash` meets its contract. Assumes nothing.
-use Rattle.wardrail.specs.Files.{partDetail}
-use Rattle.wardrail.specs.Said.{numberOf}
-use mathlib.Core.Path.{ap, _∙_}
+use Rattle.rows.specs.Files.{partDetail}
+use Rattle.rows.proofs.Said.{tells}
 use borrow.Author.Needs.{needs}
 use Rattle.wardrail.proofs.files.wardrail_piece_hash.Statement.{statement}
 use Rattle.wardrail.proofs.files.wardrail_piece_hash.Tie as tie
@@ -16,7 +15,7 @@ hash-number-requires : tie.Need-hash-number-requires
 hash-number-requires c κs = search needs
 
 returns : tie.Need-returns
-returns c = (c .hash-number .ensures ∙ ap numberOf (c .before .before .piece-hash .ensures), c .before .hash-detail .ensures ∙ ap partDetail (c .before .before .piece-hash .ensures))
+returns c = tells partDetail (c .before .before .piece-hash .ensures) (c .hash-number .ensures) (c .before .hash-detail .ensures)
 
 pub wardrail-piece-hash-spec : {M : Type 1} → statement M
 wardrail-piece-hash-spec =

@@ -1,7 +1,6 @@
 -- `wardrail_frame` meets its contract. Assumes nothing.
-use Rattle.wardrail.specs.Frames.{frameDetail}
-use Rattle.wardrail.specs.Said.{numberOf}
-use mathlib.Core.Path.{ap, _∙_}
+use Rattle.rows.specs.Frames.{frameDetail}
+use Rattle.rows.proofs.Said.{tells}
 use borrow.Author.Needs.{needs}
 use Rattle.wardrail.proofs.frames.wardrail_frame.Statement.{statement}
 use Rattle.wardrail.proofs.frames.wardrail_frame.Tie as tie
@@ -16,7 +15,7 @@ frame-number-requires : tie.Need-frame-number-requires
 frame-number-requires c κs = search needs
 
 returns : tie.Need-returns
-returns c = (c .frame-number .ensures ∙ ap numberOf (c .before .before .read-frame .ensures), c .before .frame-detail .ensures ∙ ap frameDetail (c .before .before .read-frame .ensures))
+returns c = tells frameDetail (c .before .before .read-frame .ensures) (c .frame-number .ensures) (c .before .frame-detail .ensures)
 
 pub wardrail-frame-spec : {M : Type 1} → statement M
 wardrail-frame-spec =

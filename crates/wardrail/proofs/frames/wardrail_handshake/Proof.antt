@@ -1,7 +1,6 @@
 -- `wardrail_handshake` meets its contract. Assumes nothing.
-use Rattle.wardrail.specs.Frames.{shakeDetail}
-use Rattle.wardrail.specs.Said.{numberOf}
-use mathlib.Core.Path.{ap, _∙_}
+use Rattle.rows.specs.Frames.{shakeDetail}
+use Rattle.rows.proofs.Said.{tells}
 use borrow.Author.Needs.{needs}
 use Rattle.wardrail.proofs.frames.wardrail_handshake.Statement.{statement}
 use Rattle.wardrail.proofs.frames.wardrail_handshake.Tie as tie
@@ -16,7 +15,7 @@ shake-number-requires : tie.Need-shake-number-requires
 shake-number-requires c κs = search needs
 
 returns : tie.Need-returns
-returns c = (c .shake-number .ensures ∙ ap numberOf (c .before .before .read-handshake .ensures), c .before .shake-detail .ensures ∙ ap shakeDetail (c .before .before .read-handshake .ensures))
+returns c = tells shakeDetail (c .before .before .read-handshake .ensures) (c .shake-number .ensures) (c .before .shake-detail .ensures)
 
 pub wardrail-handshake-spec : {M : Type 1} → statement M
 wardrail-handshake-spec =

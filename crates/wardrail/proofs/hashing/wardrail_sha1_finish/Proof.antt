@@ -1,9 +1,8 @@
 -- `wardrail_sha1_finish` meets its contract. Assumes nothing.
 use mathlib.Core.Path.{ap, _∙_}
-use Rattle.sha1.specs.Digest.{Left}
 use Rattle.sha1.specs.Parts.{finishOf}
 use Rattle.sha1.specs.declared.stream.Stream.{Stream}
-use Rattle.wardrail.specs.Said.{numberOf}
+use Rattle.rows.proofs.Said.{digested}
 use borrow.Author.Needs.{needs}
 use Rattle.wardrail.proofs.hashing.wardrail_sha1_finish.Statement.{statement}
 use Rattle.wardrail.proofs.hashing.wardrail_sha1_finish.Tie as tie
@@ -18,7 +17,7 @@ hashed-number-requires : tie.Need-hashed-number-requires
 hashed-number-requires c κs = search needs
 
 returns : tie.Need-returns
-returns c = let f = c .before .finish .ensures ∙ ap (λ (s : Stream). finishOf s (c .before .before .before .before .before .before .args .digest .now)) (c .before .before .before .state .ensures) in (c .hashed-number .ensures ∙ ap (λ (l : Left). numberOf (l .answer)) f, ap (λ (l : Left). l .out) f)
+returns c = digested (c .before .finish .ensures ∙ ap (λ (s : Stream). finishOf s (c .before .before .before .before .before .before .args .digest .now)) (c .before .before .before .state .ensures)) (c .hashed-number .ensures)
 
 pub wardrail-sha1-finish-spec : {M : Type 1} → statement M
 wardrail-sha1-finish-spec =

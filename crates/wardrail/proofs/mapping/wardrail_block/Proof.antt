@@ -1,7 +1,5 @@
 -- `wardrail_block` meets its contract. Assumes nothing.
-use Rattle.blocks.specs.Answers.{Left}
-use Rattle.wardrail.specs.Said.{numberOf, detailOf}
-use mathlib.Core.Path.{ap, _∙_}
+use Rattle.rows.proofs.Said.{parted}
 use borrow.Author.Needs.{needs}
 use Rattle.wardrail.proofs.mapping.wardrail_block.Statement.{statement}
 use Rattle.wardrail.proofs.mapping.wardrail_block.Tie as tie
@@ -19,7 +17,7 @@ same-length : tie.Need-same-length
 same-length c = search needs
 
 returns : tie.Need-returns
-returns c = (c .parts-number .ensures ∙ ap (λ (l : Left). numberOf (l .answer)) (c .before .before .before .before .block .ensures), c .before .parts-detail .ensures ∙ ap (λ (l : Left). detailOf (l .answer)) (c .before .before .before .before .block .ensures), ap (λ (l : Left). l .out) (c .before .before .before .before .block .ensures))
+returns c = parted (c .before .before .before .before .block .ensures) (c .parts-number .ensures) (c .before .parts-detail .ensures)
 
 pub wardrail-block-spec : {M : Type 1} → statement M
 wardrail-block-spec =

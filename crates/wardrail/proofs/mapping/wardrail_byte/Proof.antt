@@ -1,7 +1,6 @@
 -- `wardrail_byte` meets its contract. Assumes nothing.
-use Rattle.wardrail.specs.Mapping.{spotDetail}
-use Rattle.wardrail.specs.Said.{numberOf}
-use mathlib.Core.Path.{ap, _∙_}
+use Rattle.rows.specs.Mapping.{spotDetail}
+use Rattle.rows.proofs.Said.{tells}
 use borrow.Author.Needs.{needs}
 use Rattle.wardrail.proofs.mapping.wardrail_byte.Statement.{statement}
 use Rattle.wardrail.proofs.mapping.wardrail_byte.Tie as tie
@@ -16,7 +15,7 @@ place-number-requires : tie.Need-place-number-requires
 place-number-requires c κs = search needs
 
 returns : tie.Need-returns
-returns c = (c .place-number .ensures ∙ ap numberOf (c .before .before .byte .ensures), c .before .place-detail .ensures ∙ ap spotDetail (c .before .before .byte .ensures))
+returns c = tells spotDetail (c .before .before .byte .ensures) (c .place-number .ensures) (c .before .place-detail .ensures)
 
 pub wardrail-byte-spec : {M : Type 1} → statement M
 wardrail-byte-spec =

@@ -1,6 +1,6 @@
 -- `wardrail_piece_size` meets its contract. Assumes nothing.
-use Rattle.wardrail.specs.Said.{numberOf, detailOf}
-use mathlib.Core.Path.{ap, _∙_}
+use Rattle.rows.specs.Said.{detailOf}
+use Rattle.rows.proofs.Said.{tells}
 use borrow.Author.Needs.{needs}
 use Rattle.wardrail.proofs.mapping.wardrail_piece_size.Statement.{statement}
 use Rattle.wardrail.proofs.mapping.wardrail_piece_size.Tie as tie
@@ -15,7 +15,7 @@ size-number-requires : tie.Need-size-number-requires
 size-number-requires c κs = search needs
 
 returns : tie.Need-returns
-returns c = (c .size-number .ensures ∙ ap numberOf (c .before .before .piece-size .ensures), c .before .size-detail .ensures ∙ ap detailOf (c .before .before .piece-size .ensures))
+returns c = tells detailOf (c .before .before .piece-size .ensures) (c .size-number .ensures) (c .before .size-detail .ensures)
 
 pub wardrail-piece-size-spec : {M : Type 1} → statement M
 wardrail-piece-size-spec =

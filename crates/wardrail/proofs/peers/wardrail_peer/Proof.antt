@@ -1,7 +1,6 @@
 -- `wardrail_peer` meets its contract. Assumes nothing.
-use Rattle.wardrail.specs.Peers.{peerDetail}
-use Rattle.wardrail.specs.Said.{numberOf}
-use mathlib.Core.Path.{ap, _∙_}
+use Rattle.rows.specs.Peers.{peerDetail}
+use Rattle.rows.proofs.Said.{tells}
 use borrow.Author.Needs.{needs}
 use Rattle.wardrail.proofs.peers.wardrail_peer.Statement.{statement}
 use Rattle.wardrail.proofs.peers.wardrail_peer.Tie as tie
@@ -16,7 +15,7 @@ peer-number-requires : tie.Need-peer-number-requires
 peer-number-requires c κs = search needs
 
 returns : tie.Need-returns
-returns c = (c .peer-number .ensures ∙ ap numberOf (c .before .before .peer .ensures), c .before .peer-detail .ensures ∙ ap peerDetail (c .before .before .peer .ensures))
+returns c = tells peerDetail (c .before .before .peer .ensures) (c .peer-number .ensures) (c .before .peer-detail .ensures)
 
 pub wardrail-peer-spec : {M : Type 1} → statement M
 wardrail-peer-spec =

@@ -1,8 +1,7 @@
 -- `wardrail_listed_at` meets its contract. Assumes nothing.
+use Rattle.rows.proofs.Said.{tells}
 use borrow.Author.Needs.{needs}
-use Rattle.wardrail.specs.Replies.{entryDetail}
-use Rattle.wardrail.specs.Said.{numberOf}
-use mathlib.Core.Path.{ap, _∙_}
+use Rattle.rows.specs.Replies.{entryDetail}
 use Rattle.wardrail.proofs.replies.wardrail_listed_at.Statement.{statement}
 use Rattle.wardrail.proofs.replies.wardrail_listed_at.Tie as tie
 
@@ -16,7 +15,7 @@ listed-number-requires : tie.Need-listed-number-requires
 listed-number-requires c κs = search needs
 
 returns : tie.Need-returns
-returns c = (c .listed-number .ensures ∙ ap numberOf (c .before .before .listed-at .ensures), c .before .listed-detail .ensures ∙ ap entryDetail (c .before .before .listed-at .ensures))
+returns c = tells entryDetail (c .before .before .listed-at .ensures) (c .listed-number .ensures) (c .before .listed-detail .ensures)
 
 pub wardrail-listed-at-spec : {M : Type 1} → statement M
 wardrail-listed-at-spec =

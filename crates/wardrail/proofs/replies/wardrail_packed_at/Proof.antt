@@ -1,8 +1,7 @@
 -- `wardrail_packed_at` meets its contract. Assumes nothing.
+use Rattle.rows.proofs.Said.{tells}
 use borrow.Author.Needs.{needs}
-use Rattle.wardrail.specs.Replies.{entryDetail}
-use Rattle.wardrail.specs.Said.{numberOf}
-use mathlib.Core.Path.{ap, _∙_}
+use Rattle.rows.specs.Replies.{entryDetail}
 use Rattle.wardrail.proofs.replies.wardrail_packed_at.Statement.{statement}
 use Rattle.wardrail.proofs.replies.wardrail_packed_at.Tie as tie
 
@@ -16,7 +15,7 @@ packed-number-requires : tie.Need-packed-number-requires
 packed-number-requires c κs = search needs
 
 returns : tie.Need-returns
-returns c = (c .packed-number .ensures ∙ ap numberOf (c .before .before .packed-at .ensures), c .before .packed-detail .ensures ∙ ap entryDetail (c .before .before .packed-at .ensures))
+returns c = tells entryDetail (c .before .before .packed-at .ensures) (c .packed-number .ensures) (c .before .packed-detail .ensures)
 
 pub wardrail-packed-at-spec : {M : Type 1} → statement M
 wardrail-packed-at-spec =

@@ -1,8 +1,7 @@
 -- `wardrail_reply` meets its contract. Assumes nothing.
+use Rattle.rows.proofs.Said.{tells}
 use borrow.Author.Needs.{needs}
-use Rattle.wardrail.specs.Replies.{replyDetail}
-use Rattle.wardrail.specs.Said.{numberOf}
-use mathlib.Core.Path.{ap, _∙_}
+use Rattle.rows.specs.Replies.{replyDetail}
 use Rattle.wardrail.proofs.replies.wardrail_reply.Statement.{statement}
 use Rattle.wardrail.proofs.replies.wardrail_reply.Tie as tie
 
@@ -16,7 +15,7 @@ reply-number-requires : tie.Need-reply-number-requires
 reply-number-requires c κs = search needs
 
 returns : tie.Need-returns
-returns c = (c .reply-number .ensures ∙ ap numberOf (c .before .before .read .ensures), c .before .reply-detail .ensures ∙ ap replyDetail (c .before .before .read .ensures))
+returns c = tells replyDetail (c .before .before .read .ensures) (c .reply-number .ensures) (c .before .reply-detail .ensures)
 
 pub wardrail-reply-spec : {M : Type 1} → statement M
 wardrail-reply-spec =

@@ -1,8 +1,6 @@
 -- `wardrail_info_hash` meets its contract. Assumes nothing.
+use Rattle.rows.proofs.Said.{digested}
 use borrow.Author.Needs.{needs}
-use Rattle.sha1.specs.Digest.{Left}
-use Rattle.wardrail.specs.Said.{numberOf}
-use mathlib.Core.Path.{ap, _∙_}
 use Rattle.wardrail.proofs.torrents.wardrail_info_hash.Statement.{statement}
 use Rattle.wardrail.proofs.torrents.wardrail_info_hash.Tie as tie
 
@@ -13,7 +11,7 @@ hashed-number-requires : tie.Need-hashed-number-requires
 hashed-number-requires c κs = search needs
 
 returns : tie.Need-returns
-returns c = (c .hashed-number .ensures ∙ ap (λ (l : Left). numberOf (l .answer)) (c .before .info-hash .ensures), ap (λ (l : Left). l .out) (c .before .info-hash .ensures))
+returns c = digested (c .before .info-hash .ensures) (c .hashed-number .ensures)
 
 pub wardrail-info-hash-spec : {M : Type 1} → statement M
 wardrail-info-hash-spec = tie.close (tie.spec info-hash-requires hashed-number-requires returns)

@@ -1,8 +1,7 @@
 -- `wardrail_torrent` meets its contract. Assumes nothing.
+use Rattle.rows.proofs.Said.{tells}
 use borrow.Author.Needs.{needs}
-use Rattle.wardrail.specs.Torrents.{torrentDetail}
-use Rattle.wardrail.specs.Said.{numberOf}
-use mathlib.Core.Path.{ap, _∙_}
+use Rattle.rows.specs.Torrents.{torrentDetail}
 use Rattle.wardrail.proofs.torrents.wardrail_torrent.Statement.{statement}
 use Rattle.wardrail.proofs.torrents.wardrail_torrent.Tie as tie
 
@@ -16,7 +15,7 @@ torrent-number-requires : tie.Need-torrent-number-requires
 torrent-number-requires c κs = search needs
 
 returns : tie.Need-returns
-returns c = (c .torrent-number .ensures ∙ ap numberOf (c .before .before .read .ensures), c .before .torrent-detail .ensures ∙ ap torrentDetail (c .before .before .read .ensures))
+returns c = tells torrentDetail (c .before .before .read .ensures) (c .torrent-number .ensures) (c .before .torrent-detail .ensures)
 
 pub wardrail-torrent-spec : {M : Type 1} → statement M
 wardrail-torrent-spec =

@@ -1,6 +1,6 @@
 -- `wardrail_torrent_size` meets its contract. Assumes nothing.
-use Rattle.wardrail.specs.Said.{numberOf, detailOf}
-use mathlib.Core.Path.{ap, _∙_}
+use Rattle.rows.specs.Said.{detailOf}
+use Rattle.rows.proofs.Said.{tells}
 use borrow.Author.Needs.{needs}
 use Rattle.wardrail.proofs.writers.wardrail_torrent_size.Statement.{statement}
 use Rattle.wardrail.proofs.writers.wardrail_torrent_size.Tie as tie
@@ -15,7 +15,7 @@ sized-number-requires : tie.Need-sized-number-requires
 sized-number-requires c κs = search needs
 
 returns : tie.Need-returns
-returns c = (c .sized-number .ensures ∙ ap numberOf (c .before .before .size .ensures), c .before .sized-detail .ensures ∙ ap detailOf (c .before .before .size .ensures))
+returns c = tells detailOf (c .before .before .size .ensures) (c .sized-number .ensures) (c .before .sized-detail .ensures)
 
 pub wardrail-torrent-size-spec : {M : Type 1} → statement M
 wardrail-torrent-size-spec =

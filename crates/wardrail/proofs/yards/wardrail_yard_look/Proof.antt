@@ -51,7 +51,7 @@ use denote.Lend.{lends-ref, ref-back}
 use Rattle.refusal.specs.Paper.{Outcome}
 use Rattle.tables.specs.Tables.{Said, Out, paper, out, yardOf}
 use Rattle.tables.specs.Step as Step
-use Rattle.wardrail.specs.Yards.{codeOf, toldOf, shownOf}
+use Rattle.telling.specs.Telling.{codeOf, toldOf, shownOf}
 use lib.Seq.{sets}
 use Rattle.tables.specs.declared.Answer.{Answer}
 use Rattle.tables.proofs.Answer as T-Answer
@@ -66,14 +66,14 @@ use Rattle.yard.proofs.look as c0
 use Rattle.yard.proofs.look.Symbol as c0-def
 use Rattle.yard.proofs.look.Symbol.{name as #yard·look}
 use Rattle.yard.proofs.look.Met as c0-thm
-use Rattle.wardrail.proofs.yards.shown as c1
-use Rattle.wardrail.proofs.yards.shown.Symbol as c1-def
-use Rattle.wardrail.proofs.yards.shown.Symbol.{name as #wardrail·yards·shown}
-use Rattle.wardrail.proofs.yards.shown.Met as c1-thm
-use Rattle.wardrail.proofs.yards.code as c2
-use Rattle.wardrail.proofs.yards.code.Symbol as c2-def
-use Rattle.wardrail.proofs.yards.code.Symbol.{name as #wardrail·yards·code}
-use Rattle.wardrail.proofs.yards.code.Met as c2-thm
+use Rattle.telling.proofs.shown as c1
+use Rattle.telling.proofs.shown.Symbol as c1-def
+use Rattle.telling.proofs.shown.Symbol.{name as #telling·shown}
+use Rattle.telling.proofs.shown.Met as c1-thm
+use Rattle.telling.proofs.code as c2
+use Rattle.telling.proofs.code.Symbol as c2-def
+use Rattle.telling.proofs.code.Symbol.{name as #telling·code}
+use Rattle.telling.proofs.code.Met as c2-thm
 use Rattle.wardrail.proofs.yards.wardrail_yard_look.Key.{name as #wardrail·yards·wardrail-yard-look}
 use Rattle.wardrail.proofs.yards.wardrail_yard_look as f
 use Rattle.wardrail.proofs.yards.wardrail_yard_look.Statement as stated
@@ -116,7 +116,7 @@ module _ {M : Type 1} (𝓤 : URA M) (H : Heap 𝓤) (A : Atoms 𝓤) (W : Given
   abbrev Post : Val → SProp 𝓤
   Post = walkOf 𝓤 H A f.ended stayed (f.clauses 𝓤 H A mem run) .post bound
 
-  module _ (C : Calls 𝓤 H) (Λ : Loops 𝓤 H) (fm : FmC 𝓤 H (W .laws) C) (k0 : Triple 𝓤 (C #yard·look) (K0 𝓤 H A mem run)) (k1 : Triple 𝓤 (C #wardrail·yards·shown) (K1 𝓤 H A mem run)) (k2 : Triple 𝓤 (C #wardrail·yards·code) (K2 𝓤 H A mem run)) where
+  module _ (C : Calls 𝓤 H) (Λ : Loops 𝓤 H) (fm : FmC 𝓤 H (W .laws) C) (k0 : Triple 𝓤 (C #yard·look) (K0 𝓤 H A mem run)) (k1 : Triple 𝓤 (C #telling·shown) (K1 𝓤 H A mem run)) (k2 : Triple 𝓤 (C #telling·code) (K2 𝓤 H A mem run)) where
     walk : ent 𝓤 (onEntry 𝓤 H A f.signature (κ0, (κ1, (κ2, (κ3, (κ4, tt))))) (q0, (q1, (q2, (q3, (q4, tt))))) xs at) (WpFn 𝓤 H C Λ code.function (vptr b0 o0 ∷ sliceVal (b1, o1) (length seats) ∷ sliceVal (b2, o2) (length rows) ∷ sliceVal (b3, o3) (length holders) ∷ vint w64 seat ∷ vptr b4 o4 ∷ []) Post)
     walk =
         qed W ((‵ (flft κ0 q0) ⊛ ‵ (flft κ1 q1) ⊛ ‵ (flft κ2 q2) ⊛ ‵ (flft κ3 q3) ⊛ ‵ (flft κ4 q4) ⊛ ‵ ftrue) ∷ ‵ (owns (MutRef (named 0) κ0 R-Head ∷ ShrSlice (named 1) κ1 R-Seat ∷ ShrSlice (named 2) κ2 u8 ∷ ShrSlice (named 3) κ3 u16 ∷ usize ∷ MutRef (named 4) κ4 R-Seat ∷ []) xs at) ∷ []) ∵
@@ -172,14 +172,14 @@ module _ {M : Type 1} (𝓤 : URA M) (H : Heap 𝓤) (A : Atoms 𝓤) (W : Given
         forget ! 32 refl $ forget ! 30 refl $ forget ! 28 refl $ forget ! 26 refl $ forget ! 24 refl $ forget ! 22 refl $ forget ! 20 refl $ forget ! 18 refl $ forget ! 16 refl $ forget ! 14 refl $ forget ! 12 refl $
         move ! (32 ∷ 33 ∷ []) $ free1 ! $ move ! (30 ∷ 31 ∷ []) $ free1 ! $ move ! (28 ∷ 29 ∷ []) $ free1 ! $ move ! (26 ∷ 27 ∷ []) $ free1 ! $ move ! (24 ∷ 25 ∷ []) $ free1 ! $ move ! (22 ∷ 23 ∷ []) $ free1 ! $ move ! (20 ∷ 21 ∷ []) $
         free1 ! $ move ! (18 ∷ 19 ∷ []) $ free1 ! $ move ! (16 ∷ 17 ∷ []) $ free1 ! $ move ! (14 ∷ 15 ∷ []) $ free1 ! $ move ! (12 ∷ 13 ∷ []) $ free1 ! $ free0 ! $ keep ! (5 ∷ 8 ∷ 7 ∷ 6 ∷ 2 ∷ 3 ∷ 4 ∷ 11 ∷ 10 ∷ 9 ∷ 0 ∷ 1 ∷ []) $
-        by ! (qed W (‵ (flft κ0 q0) ∷ ‵ (flft κ1 q1) ∷ ‵ (flft κ2 q2) ∷ ‵ (flft κ3 q3) ∷ ‵ (flft κ4 q4) ∷ ‵ (fobs γ0 (R-Head .coded .code head)) ∷ ‵ (fbor κ0 (Body (memOf R-Head) b0 o0 γ0)) ∷ ‵ (ShrSlice (named 1) κ1 R-Seat .own (record { ptr = (b1, o1); name = γ1; now = seats }) (sliceVal (b1, o1) (length seats) ∷ [])) ∷ ‵ (ShrSlice (named 2) κ2 u8 .own (record { ptr = (b2, o2); name = γ2; now = rows }) (sliceVal (b2, o2) (length rows) ∷ [])) ∷ ‵ (ShrSlice (named 3) κ3 u16 .own (record { ptr = (b3, o3); name = γ3; now = holders }) (sliceVal (b3, o3) (length holders) ∷ [])) ∷ ‵ (fobs γ4 (R-Seat .coded .code r2)) ∷ ‵ (fbor κ4 (Body (memOf R-Seat) b4 o4 γ4)) ∷ []) ∵ suffices ! _ (ends-at 𝓤 H A f.ended stayed (f.clauses 𝓤 H A mem run) W bound (vint w64 r3) r3 (head, (tt, (tt, (tt, (tt, (r2, tt)))))) (tt, (tt, (tt, (tt, (tt, (tt, tt))))))) $ says ! (e3 ∙ ap (λ (x : Outcome Said). codeOf (x)) (e1), e2 ∙ ap (λ (x : Outcome Said). shownOf (x) seen) (e1), refl) $ move ! (5 ∷ 6 ∷ []) $ feqI ! (List Val) (vptr b0 o0 ∷ []) (vptr b0 o0 ∷ []) refl $ fjoin3 ! $ move ! (9 ∷ 10 ∷ []) $ feqI ! (List Val) (vptr b4 o4 ∷ []) (vptr b4 o4 ∷ []) refl $ fjoin3 ! $ nothing ! $ move ! (7 ∷ 0 ∷ []) $ join ! $ move ! (6 ∷ 0 ∷ []) $ join ! $ move ! (5 ∷ 0 ∷ []) $ join ! $ move ! (4 ∷ 0 ∷ []) $ join ! $ move ! (3 ∷ 0 ∷ []) $ join ! $ nothing ! $ move ! (2 ∷ 0 ∷ []) $ fjoin ! $ owned ! usize (Is usize) (uint-makes 𝓤 H A W w64) seat (vint w64 seat ∷ []) g-seat $ fjoin ! $ move ! (5 ∷ 0 ∷ []) $ fjoin ! $ move ! (4 ∷ 0 ∷ []) $ fjoin ! $ move ! (3 ∷ 0 ∷ []) $ fjoin ! $ move ! (2 ∷ 0 ∷ []) $ fjoin ! $ move ! (1 ∷ 0 ∷ []) $ frame ! $ frame ! $ owned ! u64 (Is u64) (uint-makes 𝓤 H A W w64) r3 (vint w64 r3 ∷ []) ((refl, is3 .1)) $ done !)))))))))))))))))))))))))))))))
+        by ! (qed W (‵ (flft κ0 q0) ∷ ‵ (flft κ1 q1) ∷ ‵ (flft κ2 q2) ∷ ‵ (flft κ3 q3) ∷ ‵ (flft κ4 q4) ∷ ‵ (fobs γ0 (R-Head .coded .code head)) ∷ ‵ (fbor κ0 (Body (memOf R-Head) b0 o0 γ0)) ∷ ‵ (ShrSlice (named 1) κ1 R-Seat .own (record { ptr = (b1, o1); name = γ1; now = seats }) (sliceVal (b1, o1) (length seats) ∷ [])) ∷ ‵ (ShrSlice (named 2) κ2 u8 .own (record { ptr = (b2, o2); name = γ2; now = rows }) (sliceVal (b2, o2) (length rows) ∷ [])) ∷ ‵ (ShrSlice (named 3) κ3 u16 .own (record { ptr = (b3, o3); name = γ3; now = holders }) (sliceVal (b3, o3) (length holders) ∷ [])) ∷ ‵ (fobs γ4 (R-Seat .coded .code r2)) ∷ ‵ (fbor κ4 (Body (memOf R-Seat) b4 o4 γ4)) ∷ []) ∵ suffices ! _ (ends-at 𝓤 H A f.ended stayed (f.clauses 𝓤 H A mem run) W bound (vint w64 r3) r3 (head, (tt, (tt, (tt, (tt, (r2, tt)))))) (tt, (tt, (tt, (tt, (tt, (tt, tt))))))) $ says ! ((e3 ∙ ap (λ (x : Outcome Said). codeOf (x)) (e1), e2 ∙ ap (λ (x : Outcome Said). shownOf (x) seen) (e1)), refl) $ move ! (5 ∷ 6 ∷ []) $ feqI ! (List Val) (vptr b0 o0 ∷ []) (vptr b0 o0 ∷ []) refl $ fjoin3 ! $ move ! (9 ∷ 10 ∷ []) $ feqI ! (List Val) (vptr b4 o4 ∷ []) (vptr b4 o4 ∷ []) refl $ fjoin3 ! $ nothing ! $ move ! (7 ∷ 0 ∷ []) $ join ! $ move ! (6 ∷ 0 ∷ []) $ join ! $ move ! (5 ∷ 0 ∷ []) $ join ! $ move ! (4 ∷ 0 ∷ []) $ join ! $ move ! (3 ∷ 0 ∷ []) $ join ! $ nothing ! $ move ! (2 ∷ 0 ∷ []) $ fjoin ! $ owned ! usize (Is usize) (uint-makes 𝓤 H A W w64) seat (vint w64 seat ∷ []) g-seat $ fjoin ! $ move ! (5 ∷ 0 ∷ []) $ fjoin ! $ move ! (4 ∷ 0 ∷ []) $ fjoin ! $ move ! (3 ∷ 0 ∷ []) $ fjoin ! $ move ! (2 ∷ 0 ∷ []) $ fjoin ! $ move ! (1 ∷ 0 ∷ []) $ frame ! $ frame ! $ owned ! u64 (Is u64) (uint-makes 𝓤 H A W w64) r3 (vint w64 r3 ∷ []) ((refl, is3 .1)) $ done !)))))))))))))))))))))))))))))))
 
 module _ {M : Type 1} (𝓤 : URA M) (H : Heap 𝓤) (A : Atoms 𝓤) (W : Given 𝓤 H A) (mem : Memory → SProp 𝓤) (run : Routine → Fun 𝓤) where
-  f-walks : (C : Calls 𝓤 H) (Λ : Loops 𝓤 H) → FmC 𝓤 H (W .laws) C → Triple 𝓤 (C #yard·look) (K0 𝓤 H A mem run) → Triple 𝓤 (C #wardrail·yards·shown) (K1 𝓤 H A mem run) → Triple 𝓤 (C #wardrail·yards·code) (K2 𝓤 H A mem run) → Walks 𝓤 H A f.ended stayed (WpFn 𝓤 H C Λ code.function) (f.clauses 𝓤 H A mem run)
+  f-walks : (C : Calls 𝓤 H) (Λ : Loops 𝓤 H) → FmC 𝓤 H (W .laws) C → Triple 𝓤 (C #yard·look) (K0 𝓤 H A mem run) → Triple 𝓤 (C #telling·shown) (K1 𝓤 H A mem run) → Triple 𝓤 (C #telling·code) (K2 𝓤 H A mem run) → Walks 𝓤 H A f.ended stayed (WpFn 𝓤 H C Λ code.function) (f.clauses 𝓤 H A mem run)
   f-walks C Λ fm k0 k1 k2 = walked 𝓤 H A f.ended stayed (f.clauses 𝓤 H A mem run) (WpFn 𝓤 H C Λ code.function) (λ κs. (ptr-vals, (slice-vals, (slice-vals, (slice-vals, (uint-vals w64, (ptr-vals, tt))))))) (λ κs. (mut-tells (named 0) (κs .0) R-Head, (shr-slice-tells (named 1) (κs .1 .0) R-Seat, (shr-slice-tells (named 2) (κs .1 .1 .0) u8, (shr-slice-tells (named 3) (κs .1 .1 .1 .0) u16, (uint-tells w64, (mut-tells (named 4) (κs .1 .1 .1 .1 .0) R-Seat, tt)))))))
       (λ κs qs bounds a _ are. via 𝓤 _ (fst∗ 𝓤 _ (emp 𝓤)) (walk 𝓤 H A W mem run (κs .0) (κs .1 .0) (κs .1 .1 .0) (κs .1 .1 .1 .0) (κs .1 .1 .1 .1 .0) (qs .0) (qs .1 .0) (qs .1 .1 .0) (qs .1 .1 .1 .0) (qs .1 .1 .1 .1 .0) (a .0 .ptr .0) (a .0 .ptr .1) (a .0 .name) (a .0 .now) (a .1 .0 .ptr .0) (a .1 .0 .ptr .1) (a .1 .0 .name) (a .1 .0 .now) (a .1 .1 .0 .ptr .0) (a .1 .1 .0 .ptr .1) (a .1 .1 .0 .name) (a .1 .1 .0 .now) (a .1 .1 .1 .0 .ptr .0) (a .1 .1 .1 .0 .ptr .1) (a .1 .1 .1 .0 .name) (a .1 .1 .1 .0 .now) (a .1 .1 .1 .1 .0) (a .1 .1 .1 .1 .1 .0 .ptr .0) (a .1 .1 .1 .1 .1 .0 .ptr .1) (a .1 .1 .1 .1 .1 .0 .name) (a .1 .1 .1 .1 .1 .0 .now) (are .1 .0 .0 .1) (are .1 .1 .0 .0 .1) (are .1 .1 .1 .0 .0 .1) (are .1 .1 .1 .1 .0) C Λ fm k0 k1 k2))
 
-f-meets : {M : Type 1} (𝓤 : URA M) (H : Heap 𝓤) (A : Atoms 𝓤) → Given 𝓤 H A → (mem : Memory → SProp 𝓤) (run : Routine → Fun 𝓤) (𝓣 : Tables 𝓤 H) → Triple 𝓤 (𝓣 .C #yard·look) (K0 𝓤 H A mem run) → Triple 𝓤 (𝓣 .C #wardrail·yards·shown) (K1 𝓤 H A mem run) → Triple 𝓤 (𝓣 .C #wardrail·yards·code) (K2 𝓤 H A mem run)
+f-meets : {M : Type 1} (𝓤 : URA M) (H : Heap 𝓤) (A : Atoms 𝓤) → Given 𝓤 H A → (mem : Memory → SProp 𝓤) (run : Routine → Fun 𝓤) (𝓣 : Tables 𝓤 H) → Triple 𝓤 (𝓣 .C #yard·look) (K0 𝓤 H A mem run) → Triple 𝓤 (𝓣 .C #telling·shown) (K1 𝓤 H A mem run) → Triple 𝓤 (𝓣 .C #telling·code) (K2 𝓤 H A mem run)
     → Meets 𝓤 H A f.signature (WpFn 𝓤 H (𝓣 .C) (𝓣 .Λ) code.function) (f.spec 𝓤 H A mem run)
 f-meets 𝓤 H A W mem run 𝓣 k0 k1 k2 = walk-meets 𝓤 H A f.ended stayed W (goes-ref 𝓤 H A W 5 0 tt (plain (λ _. R-Head)), (goes-none-slice 𝓤 H A W 5 (1 ∷ []) tt (plain (λ _. R-Seat)) yes, (goes-none-slice 𝓤 H A W 5 (2 ∷ []) tt (plain (λ _. u8)) yes, (goes-none-slice 𝓤 H A W 5 (3 ∷ []) tt (plain (λ _. u16)) yes, (goes-none 𝓤 H A W 5 (λ _. usize) yes (λ κs x f. refl), (goes-ref 𝓤 H A W 5 4 tt (plain (λ _. R-Seat)), tt)))))) (f.clauses 𝓤 H A mem run)
     (WpFn 𝓤 H (𝓣 .C) (𝓣 .Λ) code.function) (WpFn-mono 𝓤 H (W .laws) 𝓣 code.function) (f-walks 𝓤 H A W mem run (𝓣 .C) (𝓣 .Λ) (fmOf 𝓤 H (W .laws) 𝓣) k0 k1 k2)
@@ -191,5 +191,5 @@ wardrail-yard-look-spec 𝓤 H 𝓜 𝓖 𝓡 =
     (tables 𝓤 H 𝓜 𝓡 code.env .C) (tables 𝓤 H 𝓜 𝓡 code.env .Λ) #wardrail·yards·wardrail-yard-look code.function (code.unfolded 𝓤 H 𝓜 𝓡)
     (f-meets 𝓤 H (𝓖 .A) (givenOf 𝓤 H 𝓜 𝓖) (𝓜 .mem) (𝓡 .run) (tablesOf 𝓤 H 𝓜 (tables 𝓤 H 𝓜 𝓡 code.env))
     (cited 𝓤 H (K0 𝓤 H (𝓖 .A) (𝓜 .mem) (𝓡 .run)) 𝓜 𝓡 code.env #yard·look c0-def.routine code.calls-yard·look (c0-thm.met 𝓤 H 𝓜 𝓖 𝓡))
-    (cited 𝓤 H (K1 𝓤 H (𝓖 .A) (𝓜 .mem) (𝓡 .run)) 𝓜 𝓡 code.env #wardrail·yards·shown c1-def.routine code.calls-wardrail·yards·shown (c1-thm.met 𝓤 H 𝓜 𝓖 𝓡))
-    (cited 𝓤 H (K2 𝓤 H (𝓖 .A) (𝓜 .mem) (𝓡 .run)) 𝓜 𝓡 code.env #wardrail·yards·code c2-def.routine code.calls-wardrail·yards·code (c2-thm.met 𝓤 H 𝓜 𝓖 𝓡)))
+    (cited 𝓤 H (K1 𝓤 H (𝓖 .A) (𝓜 .mem) (𝓡 .run)) 𝓜 𝓡 code.env #telling·shown c1-def.routine code.calls-telling·shown (c1-thm.met 𝓤 H 𝓜 𝓖 𝓡))
+    (cited 𝓤 H (K2 𝓤 H (𝓖 .A) (𝓜 .mem) (𝓡 .run)) 𝓜 𝓡 code.env #telling·code c2-def.routine code.calls-telling·code (c2-thm.met 𝓤 H 𝓜 𝓖 𝓡)))

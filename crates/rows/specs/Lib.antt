@@ -1,0 +1,9 @@
+pub mod Said
+pub mod Replies
+pub mod Torrents
+pub mod Mapping
+pub mod Frames
+pub mod Files
+pub mod Writers
+pub mod Peers
+pub mod Hashing

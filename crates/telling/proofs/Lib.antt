@@ -1,0 +1,2 @@
+-- Laws of what the yard tells C.
+pub mod Laws
