@@ -4,7 +4,7 @@
 -- recursions on it that look at no table (history/specs/History.antt).
 use mathlib.Core.Path.{_≡_, refl, sym, ap, _∙_, subst}
 use mathlib.Core.Logic.{_↔_}
-use mathlib.Core.Bool.{Bool, true, false, not, _&&_}
+use mathlib.Core.Bool.{true, false, not, _&&_}
 use mathlib.Core.List.{List, [], _∷_, _++_}
 use mathlib.Core.List.{List·Memᴰ as In}
 use Prim.Native.Nat.{ℕ, _≤_, _<_, min}
@@ -44,14 +44,6 @@ module _ (lent : Yard) (h : History) (y : Yard) (made : Made lent h y) where
   -- S
   abbrev seats : ℕ
   seats = length (lent .seats)
-
-  -- a truck sits at seat i and has announced piece p since it last sat down
-  abbrev pub Holds : ℕ → ℕ → Bool
-  Holds i p = seated h i && announced h i p
-
-  -- how many pieces the truck of seat i has so announced
-  abbrev pub held : ℕ → ℕ
-  held i = count (pieces h) (Holds i)
 
   -- what is so of every run is so of this one
   here : (P : History → Yard → Type 0) → ((p l k : ℕ) → step (start p l k) lent .answer ≡ taken done → (cs : List Call) → P (after p l k lent cs .past) (after p l k lent cs .yard)) → P h y

@@ -46,7 +46,7 @@ use Rattle.wire.proofs.Written as framing
 use Rattle.wire.proofs.Shaking as shaking
 use Rattle.metainfo.specs.Keys.{announceKey, infoKey, lengthKey, nameKey, pieceLengthKey, piecesKey}
 use Rattle.metainfo.specs.Reading.{bytesOf}
-use Rattle.metainfo.specs.Reading.{paper as torrentPaper, readOf as torrentOf}
+use Rattle.metainfo.specs.Reading.{paper as torrentPaper, readOf as torrentRead}
 use Rattle.metainfo.specs.Hashes.{infoHashOf}
 use Rattle.metainfo.specs.declared.Torrent.{Torrent}
 use Rattle.metainfo.specs.declared.Reading.{Reading}
@@ -98,7 +98,7 @@ fine e = record { text = e .0; keeps = e .1; few = e .2; short = e .3 }
 encodes : {s : List ℕ} {v : Value} → Fine s v → Encodes s v
 encodes f = (f .text, f .keeps, f .few, f .short)
 
--- ---- 5. "An accepted text comes with its count of values, which equals the count in the decoded value."
+-- ---- 5. "Taken exactly when its bytes are the BEP 3 encoding of a value that keeps the rules"; "an accepted text comes with its count of values, which equals the count in the decoded value."
 
 -- of bencode::check
 module _ (s : List ℕ) (r : Checked) (c : countPaper r ≡ checkOf s) where
@@ -118,7 +118,7 @@ one-value s v w e f =
 -- ---- 6. "A torrent or reply is taken exactly when its bytes are the BEP 3 encoding of a value that keeps the rules."
 
 -- of metainfo::read
-module _ (s : List ℕ) (r : Reading) (c : torrentPaper r ≡ torrentOf s) where
+module _ (s : List ℕ) (r : Reading) (c : torrentPaper r ≡ torrentRead s) where
   pub torrent-exact : ((x : Torrent) × (torrentPaper r ≡ taken x)) ↔ ((v : Value) × (t : Said) × Encodes s v × IsTorrent v t)
   torrent-exact = (
     λ x. let h = torrents.torrent-exact s .only (x .0) (sym c ∙ x .1) in (h .0, h .1, encodes (h .2), h .3),
@@ -179,17 +179,13 @@ torrent-says-one s v t u e i j = said.said-determined v 32 t u (e .1) i j
 
 -- of tracker::read
 module _ (s : List ℕ) (r : Reply) (c : replyPaper r ≡ map counted (replyOf s)) where
-  replied : (o : Outcome (Answer (List Entry))) → map counted o ≡ map counted (replyOf s) → replyOf s ≡ o → (x : Answer ℕ) → replyPaper r ≡ taken x → (y : Answer (List Entry)) × (replyOf s ≡ taken y) × (x ≡ counted y)
-  replied (taken y) e d x p =
-      let q : taken x ≡ taken (counted y) = sym p ∙ c ∙ sym e in
-      (y, d, cc)
-  replied (refused n k) e d x p =
-      let q : taken x ≡ refused n k = sym p ∙ c ∙ sym e in
-      absurd (let z : _≡_ {A = ℕ} 0 1 = cc in omega arith)
+  replied : (o : Outcome (Answer (List Entry))) → replyOf s ≡ o → (x : Answer ℕ) → replyPaper r ≡ taken x → (y : Answer (List Entry)) × (replyOf s ≡ taken y) × (x ≡ counted y)
+  replied (taken y) d x p = let q : taken x ≡ taken (counted y) = sym p ∙ c ∙ ap (map counted) d in (y, d, cc)
+  replied (refused n k) d x p = let q : taken x ≡ refused n k = sym p ∙ c ∙ ap (map counted) d in absurd (let z : _≡_ {A = ℕ} 0 1 = cc in omega arith)
 
   pub reply-exact : ((x : Answer ℕ) × (replyPaper r ≡ taken x)) ↔ ((v : Value) × (t : Told) × Encodes s v × IsReply v t)
   reply-exact = (
-    λ x. let y = replied (replyOf s) refl refl (x .0) (x .1) in let h = reply-only s (y .0) (y .1) in (h .0, h .1, encodes (h .2), h .3),
+    λ x. let y = replied (replyOf s) refl (x .0) (x .1) in let h = reply-only s (y .0) (y .1) in (h .0, h .1, encodes (h .2), h .3),
     λ h. let y = reply-every s (h .0) (h .1) (fine (h .2)) (h .3) in (counted (y .0), c ∙ ap (map counted) (y .1)),
   )
 
@@ -199,7 +195,7 @@ module _ (s : List ℕ) (r : Reply) (c : replyPaper r ≡ map counted (replyOf s
       → (y : Answer (List Entry)) × (x ≡ counted y) × Shown s y t × (entriesIn x ≡ saidEntries t) × Walked s y
       × ((n : ℕ) (f : peer.Found) → peerPaper f ≡ then (replyOf s) (nthOf n) → peerPaper f ≡ nthOf n y)
   reply-fields x p v t e i =
-      let y = replied (replyOf s) refl refl x p in
+      let y = replied (replyOf s) refl x p in
       let h = reply-every s v t (fine e) i in
       let q : taken (h .0) ≡ taken (y .0) = sym (h .1) ∙ y .1 in
       let z : h .0 ≡ y .0 = cc in
@@ -218,7 +214,7 @@ pub keepalive-reads-back : (o out : List ℕ) (r : Put) → left (putPaper r) ou
     → (out ≡ frameOf keepalive ++ drop q o) × ((at : Message span.Part) × (readOf out ≡ taken (found at q)) × (meant out at ≡ keepalive))
 keepalive-reads-back o out r c q t = let b = framing.keepalive-reads-back o r c t in (b .0, (b .1 .at, b .1 .answer, b .1 .means))
 
--- of wire::read_frame: the bytes s begin with a frame of q bytes that says m exactly when they begin with m as it is written, m being one that may be sent
+-- of wire::read_frame, on numbers that are bytes: s begins with a frame of q bytes that says m exactly when it begins with m as it is written, m being one that may be sent
 module _ (s : List ℕ) (bytes : Bytes s) (m : Message (List ℕ)) (q : ℕ) where
   within : (at : Message span.Part) → Cause s (taken (found at q)) → q ≤ length s
   within at (inl (z, k, u)) = omega (arith, z .0, u)
@@ -286,7 +282,7 @@ pub torrent-reads-back : (f : Torrents) (o out : List ℕ) (r : Put) → left (p
     → (take q out ≡ encode (dict (entry announceKey (str (f .announce)) (entry infoKey (dict (entry lengthKey (int (pos (f .length))) (entry nameKey (str (f .name))
     (entry pieceLengthKey (int (pos (f .pieceLength))) (entry piecesKey (str (f .pieces)) empty))))) empty))))
     × (drop q out ≡ drop q o)
-    × ((x : Torrent) × (torrentOf (take q out) ≡ taken x) × (x .content .single ≡ true)
+    × ((x : Torrent) × (torrentRead (take q out) ≡ taken x) × (x .content .single ≡ true)
     × (fields (bytesOf (take q out) (x .announce)) (bytesOf (take q out) (x .name)) (x .«piece_length») (bytesOf (take q out) (x .pieces)) (x .content .total) ≡ f))
 torrent-reads-back f o out r c q t =
     let b = authored.torrent-reads-back f o r c q t in
@@ -295,7 +291,7 @@ torrent-reads-back f o out r c q t =
 -- a torrent with only those keys that is read: written from what was read it is that text again, wherever there is room
 pub torrent-rewrite : (s : List ℕ) (a l n pl ps : Value)
     → Encodes s (dict (entry announceKey a (entry infoKey (dict (entry lengthKey l (entry nameKey n (entry pieceLengthKey pl (entry piecesKey ps empty))))) empty)))
-    → (x : Torrent) → torrentOf s ≡ taken x
+    → (x : Torrent) → torrentRead s ≡ taken x
     → (x .content .single ≡ true)
     × ((o : List ℕ) → authorOf (fields (bytesOf s (x .announce)) (bytesOf s (x .name)) (x .«piece_length») (bytesOf s (x .pieces)) (x .content .total)) o ≡ putOf s 0 o)
 torrent-rewrite s a l n pl ps e x d = let b = again.rewrite s (topWith a (infoWith l n pl ps)) (fine e) (only a l n pl ps) x d in (b .0, b .2)
