@@ -19,6 +19,7 @@ use Rattle.bencode.specs.Answers.{paper as countPaper, checkOf}
 use Rattle.bencode.specs.declared.Checked.{Checked}
 use Rattle.bencode.proofs.Exact.{exactly, fine-taken}
 use Rattle.walk.specs.Has.{Has}
+use Rattle.walk.specs.declared.Part as text
 use Rattle.writer.specs.Put.{Left, left, putOf}
 use Rattle.writer.specs.Put.{paper as putPaper}
 use Rattle.writer.specs.declared.Put.{Put}
@@ -45,7 +46,7 @@ use Rattle.wire.proofs.Exact as frames
 use Rattle.wire.proofs.Written as framing
 use Rattle.wire.proofs.Shaking as shaking
 use Rattle.metainfo.specs.Keys.{announceKey, infoKey, lengthKey, nameKey, pieceLengthKey, piecesKey}
-use Rattle.metainfo.specs.Reading.{bytesOf}
+use Rattle.metainfo.specs.Reading.{bytesOf, announceIn, nameIn}
 use Rattle.metainfo.specs.Reading.{paper as torrentPaper, readOf as torrentRead}
 use Rattle.metainfo.specs.Hashes.{infoHashOf}
 use Rattle.metainfo.specs.declared.Torrent.{Torrent}
@@ -59,7 +60,8 @@ use Rattle.contents.specs.Files.{single as oneEntry}
 use Rattle.contents.specs.declared.Entry as file-entry
 use Rattle.contents.specs.declared.Found as file
 use Rattle.contents.specs.Pieces.{checkPaper}
-use Rattle.contents.specs.Pieces.{checkOf as pieceOf}
+use Rattle.contents.specs.Pieces.{checkOf as pieceOf, hashPaper as pieceHashPaper, hashOf as pieceHashOf}
+use Rattle.contents.specs.declared.Hash as hash
 use Rattle.contents.specs.declared.Checked as piece
 use Rattle.authoring.specs.Writing.{fields}
 use Rattle.authoring.specs.Writing.{Fields as Torrents, writeOf as authorOf, topWith, infoWith}
@@ -82,7 +84,7 @@ use Rattle.tracker.proofs.Exact.{reply-only, reply-every}
 use Rattle.tracker.proofs.Numbering.{entries-said}
 use Rattle.tracker.proofs.Walking.{walked}
 use Rattle.tracker.proofs.Rewriting as replies
-use Rattle.demands.specs.Two.Joins.{reply-again, piece-tells, piece-yes, piece-no, block-parts, block-taken, block-takes, byte-taken, byte-takes, byte-found}
+use Rattle.demands.specs.Two.Joins.{reply-again, piece-hashed, piece-tells, piece-yes, piece-no, block-parts, block-taken, block-takes, byte-taken, byte-takes, byte-found}
 use Rattle.demands.specs.Two.Numbered.{noFile, many-within, many-beyond, one-within, one-beyond, sum-one, part-bytes}
 mod Joins
 mod Numbered
@@ -145,6 +147,13 @@ module _ (s : List ℕ) (r : Reading) (c : torrentPaper r ≡ torrentRead s) whe
       let w = subst (λ (y : Torrent). Shows s y t) z (h .2) in
       let f = w .files in
       (w .announce, w .info, w .name, w .pieces, w .piece-length, w .count, f .one, f .files, f .total, f .place, f .each)
+
+-- of metainfo::announce and metainfo::name: what they hand back
+pub announce-said : (s r : List ℕ) → r ≡ bytesOf s (announceIn (torrentRead s)) → (v : Value) (t : Said) → Encodes s v → IsTorrent v t → r ≡ t .announce
+announce-said s r c v t e i = c ∙ torrents.announce-said s v t (fine e) i
+
+pub name-said : (s r : List ℕ) → r ≡ bytesOf s (nameIn (torrentRead s)) → (v : Value) (t : Said) → Encodes s v → IsTorrent v t → r ≡ t .name
+name-said s r c v t e i = c ∙ torrents.name-said s v t (fine e) i
 
 -- of contents::file: file number n of a torrent of many files has its length and path, and starts where those before it end; beyond the last it is 31
 pub file-exact : (s : List ℕ) (n : ℕ) (r : file.Found) → filePaper r ≡ entryOf s n → (v : Value) (t : Said) → Encodes s v → IsTorrent v t → (fs : List OneFile) → t .files ≡ many fs
@@ -304,6 +313,11 @@ pub info-hash : (s o out : List ℕ) (r : Hashed) → hashing (hashPaper r) out 
 info-hash s o out r c v t e i =
     let h = c ∙ torrents.info-hash s o v t (fine e) i in
     (ap (λ (x : Hashing). x .answer) h, ap (λ (x : Hashing). x .out) h)
+
+-- of contents::piece_hash: the hash of piece n is the n-th 20 bytes of pieces; beyond the last it is 31
+pub piece-hash : (s : List ℕ) (n : ℕ) (r : hash.Hash) → pieceHashPaper r ≡ pieceHashOf s n → (v : Value) (t : Said) → Encodes s v → IsTorrent v t
+    → (n < t .count → (x : text.Part) × (pieceHashPaper r ≡ taken x) × (bytesOf s x ≡ take 20 (drop (20 * n) (t .pieces)))) × (t .count ≤ n → pieceHashPaper r ≡ refused 31 0)
+piece-hash s n r c v t e i = let h = piece-hashed s n v t (fine e) i in (λ l. let x = h .0 l in (x .0, c ∙ x .1, x .2), λ l. c ∙ h .1 l)
 
 -- of contents::check_piece: yes exactly when the text is a torrent that has piece n, m is as long as that piece, and its digest is the n-th 20 bytes of pieces;
 -- no exactly when all of this holds but the last

@@ -16,6 +16,7 @@ use Rattle.bencode.specs.Value.{Value, str, int, dict, empty, entry, count, Kee
 use Rattle.bencode.specs.Exact.{Fine}
 use Rattle.bencode.proofs.Exact.{fine-taken}
 use Rattle.walk.specs.Lookup.{lookup, sameKey}
+use Rattle.walk.specs.declared.Part as text
 use Rattle.fields.specs.Values.{partOf, dictionaryAt}
 use Rattle.writer.specs.Put.{putOf}
 use Rattle.sha1.specs.Sha1.{sha1}
@@ -34,7 +35,7 @@ use Rattle.metainfo.specs.declared.Torrent.{Torrent}
 use Rattle.torrents.specs.Torrent.{Said, IsTorrent, is-torrent, lengthsIn}
 use Rattle.torrents.specs.Exact.{Shows}
 use Rattle.torrents.proofs.Laws.{torrent-exact}
-use Rattle.contents.specs.Pieces.{hashPart, pieceBytes, checkIn, checkOf}
+use Rattle.contents.specs.Pieces.{hashPart, hashIn, hashOf, pieceBytes, checkIn, checkOf}
 use Rattle.contents.proofs.Facts.{then-taken}
 use Rattle.contents.proofs.Hashing.{piece-check}
 use Rattle.tracker.specs.Keys.{interval, peers}
@@ -124,6 +125,19 @@ module _ (s : List ℕ) (n : ℕ) (m : List ℕ) where
   piece-no e =
       let h = told false e in
       (h .0, h .1, h .2, h .3, h .4, h .5, λ a. let q = piece-tells (h .0) (h .1) (h .2) (h .3) (h .4) (h .5) .0 a in let z : _≡_ {A = ℕ} 0 1 = cc in omega arith)
+
+-- the hash of a piece by its number
+pub piece-hashed : (s : List ℕ) (n : ℕ) (v : Value) (t : Said) → Fine s v → IsTorrent v t
+    → (n < t .count → (x : text.Part) × (hashOf s n ≡ taken x) × (bytesOf s x ≡ take 20 (drop (20 * n) (t .pieces)))) × (t .count ≤ n → hashOf s n ≡ refused 31 0)
+piece-hashed s n v t f i =
+    let y = torrent-exact s .every v t f i in
+    let x = y .0 in
+    let e : hashOf s n ≡ hashIn n x = ap (λ (o : Outcome Torrent). then o (hashIn n)) (y .1) in (
+      λ h. let k : n < x .«piece_count» = omega (arith, h, y .2 .count) in
+          (hashPart n (x .pieces), e ∙ ap (λ (b : Bool). cond b (taken (hashPart n (x .pieces))) (refused 31 0)) (lt-ltb n (x .«piece_count») k), hash-bytes s x t n (y .2 .pieces) (hashes-of v t i) h),
+      λ h. let k : x .«piece_count» ≤ n = omega (arith, h, y .2 .count) in
+          e ∙ ap (λ (b : Bool). cond b (taken (hashPart n (x .pieces))) (refused 31 0)) (le-ltb n (x .«piece_count») k),
+    )
 
 -- ---- a compact reply written again
 
