@@ -104,10 +104,7 @@ module _ (h : Hash) (b w : List ℕ) (n : ℕ) (d : Made b n w) (p : n ≤ 80) w
       let d₄ : Done h b (t + 4) r₄ = next r₃ r₄ (t + 3) (t + 4) d₃ (omega arith) (omega arith) e₄ in
       next r₄ r₅ (t + 4) (t + 5) d₄ (omega arith) (omega arith) e₅
 
--- the last of some rounds, and of some words
-pub arrived : (h g : Hash) (b : List ℕ) (t n : ℕ) → t ≡ n → Done h b t g → Done h b n g
-arrived h g b t n e d = d ∙ ap (rounds h (schedule b 80)) e
-
+-- the last of some words
 pub filled-to : (b w : List ℕ) (t n : ℕ) → t ≡ n → Made b t w → Made b n w
 filled-to b w t n e d = subst (λ (i : ℕ). Made b i w) e d
 

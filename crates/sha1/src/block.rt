@@ -78,7 +78,7 @@ pub fn spread(h: Hash) -> [u8; 20]
     ]
 }
 
-// Steps 1 to 4. The words of the schedule are made twenty rounds before they are used, so that no round waits for its word.
+// Steps 1 to 4. Words are made twenty rounds before they are used, so that no round waits for its word. What `w` holds before does not matter.
 fn compressed(h: Hash, b: &[u8], w: &mut [u32]) -> Hash
     requires { ⌜ (length (now b) ≡ 64) × (length (now w) ≡ 80) ⌝ }
     ensures { λ r. ⌜ r ≡ compress h (now (b .entry)) ⌝ }
@@ -114,65 +114,63 @@ fn words_to_20(w: &mut [u32])
     }
 }
 
+// The rounds by twenties, written out: where every place is a number, the compiler keeps the words in registers.
 fn rounds_to_20(before: Hash, w: &mut [u32]) -> Hash
     requires { ⌜ length (now w) ≡ 80 ⌝ }
     ensures { λ r. ⌜ ((h : Hash) (b : List ℕ) → Done h b 0 before → Made b 20 (now (w .entry)) → Done h b 20 r × Made b 40 (now (w .exit))) ⌝ }
 {
-    let mut g = before;
-    let mut t = 0;
-    while t < 20 {
-        five_words(w, t + 20);
-        g = five_first(g, w, t);
-        t += 5;
-    }
-    g
+    five_words(w, 20);
+    let one = five_first(before, w, 0);
+    five_words(w, 25);
+    let two = five_first(one, w, 5);
+    five_words(w, 30);
+    let three = five_first(two, w, 10);
+    five_words(w, 35);
+    five_first(three, w, 15)
 }
 
 fn rounds_to_40(before: Hash, w: &mut [u32]) -> Hash
     requires { ⌜ length (now w) ≡ 80 ⌝ }
     ensures { λ r. ⌜ ((h : Hash) (b : List ℕ) → Done h b 20 before → Made b 40 (now (w .entry)) → Done h b 40 r × Made b 60 (now (w .exit))) ⌝ }
 {
-    let mut g = before;
-    let mut t = 20;
-    while t < 40 {
-        five_words(w, t + 20);
-        g = five_second(g, w, t);
-        t += 5;
-    }
-    g
+    five_words(w, 40);
+    let one = five_second(before, w, 20);
+    five_words(w, 45);
+    let two = five_second(one, w, 25);
+    five_words(w, 50);
+    let three = five_second(two, w, 30);
+    five_words(w, 55);
+    five_second(three, w, 35)
 }
 
 fn rounds_to_60(before: Hash, w: &mut [u32]) -> Hash
     requires { ⌜ length (now w) ≡ 80 ⌝ }
     ensures { λ r. ⌜ ((h : Hash) (b : List ℕ) → Done h b 40 before → Made b 60 (now (w .entry)) → Done h b 60 r × Made b 80 (now (w .exit))) ⌝ }
 {
-    let mut g = before;
-    let mut t = 40;
-    while t < 60 {
-        five_words(w, t + 20);
-        g = five_third(g, w, t);
-        t += 5;
-    }
-    g
+    five_words(w, 60);
+    let one = five_third(before, w, 40);
+    five_words(w, 65);
+    let two = five_third(one, w, 45);
+    five_words(w, 70);
+    let three = five_third(two, w, 50);
+    five_words(w, 75);
+    five_third(three, w, 55)
 }
 
 fn rounds_to_80(before: Hash, w: &[u32]) -> Hash
     requires { ⌜ length (now w) ≡ 80 ⌝ }
     ensures { λ r. ⌜ ((h : Hash) (b : List ℕ) → Done h b 60 before → Made b 80 (now (w .entry)) → Done h b 80 r) ⌝ }
 {
-    let mut g = before;
-    let mut t = 60;
-    while t < 80 {
-        g = five_last(g, w, t);
-        t += 5;
-    }
-    g
+    let one = five_last(before, w, 60);
+    let two = five_last(one, w, 65);
+    let three = five_last(two, w, 70);
+    five_last(three, w, 75)
 }
 
 // Step 1, five words from t on.
 fn five_words(w: &mut [u32], t: usize)
     requires { ⌜ (16 ≤ t) × (t + 5 ≤ 80) × (length (now w) ≡ 80) ⌝ }
-    ensures { λ _. ⌜ ((b : List ℕ) → Made b t (now (w .entry)) → Made b (t + 5) (now (w .exit))) ⌝ }
+    ensures { λ _. ⌜ (length (now (w .exit)) ≡ 80) × ((b : List ℕ) → Made b t (now (w .entry)) → Made b (t + 5) (now (w .exit))) ⌝ }
 {
     w[t] = mixed(w, t);
     w[t + 1] = mixed(w, t + 1);

@@ -81,23 +81,26 @@ same-length : tie.Need-same-length
 same-length c = search needs
 
 returns : tie.Need-returns
-returns c = λ b d.
-    let w₀ = c .before .before .before .before .before .before .before .before .before .before .before .args .w .now in
-    let t = c .before .before .before .before .before .before .before .before .before .before .before .args .t in
-    let v1 = c .before .before .before .before .before .before .before .before .mixed .result in
-    let w1 = set w₀ t v1 in
-    let v2 = c .before .before .before .before .before .before .mixed2 .result in
-    let w2 = set w1 (t + 1) v2 in
-    let v3 = c .before .before .before .before .mixed3 .result in
-    let w3 = set w2 (t + 2) v3 in
-    let v4 = c .before .before .mixed4 .result in
-    let w4 = set w3 (t + 3) v4 in
-    let v5 = c .mixed5 .result in
-    let d1 : Made b (t + 1) w1 = made-late b w₀ t (t + 1) v1 (omega arith) (omega arith) (omega arith) (c .before .before .before .before .before .before .before .before .mixed .ensures) d in
-    let d2 : Made b (t + 2) w2 = made-late b w1 (t + 1) (t + 2) v2 (omega arith) (omega arith) (omega arith) (c .before .before .before .before .before .before .mixed2 .ensures) d1 in
-    let d3 : Made b (t + 3) w3 = made-late b w2 (t + 2) (t + 3) v3 (omega arith) (omega arith) (omega arith) (c .before .before .before .before .mixed3 .ensures) d2 in
-    let d4 : Made b (t + 4) w4 = made-late b w3 (t + 3) (t + 4) v4 (omega arith) (omega arith) (omega arith) (c .before .before .mixed4 .ensures) d3 in
-    made-late b w4 (t + 4) (t + 5) v5 (omega arith) (omega arith) (omega arith) (c .mixed5 .ensures) d4
+returns c = (
+  simp length-set (omega arith),
+  λ b d.
+      let w₀ = c .before .before .before .before .before .before .before .before .before .before .before .args .w .now in
+      let t = c .before .before .before .before .before .before .before .before .before .before .before .args .t in
+      let v1 = c .before .before .before .before .before .before .before .before .mixed .result in
+      let w1 = set w₀ t v1 in
+      let v2 = c .before .before .before .before .before .before .mixed2 .result in
+      let w2 = set w1 (t + 1) v2 in
+      let v3 = c .before .before .before .before .mixed3 .result in
+      let w3 = set w2 (t + 2) v3 in
+      let v4 = c .before .before .mixed4 .result in
+      let w4 = set w3 (t + 3) v4 in
+      let v5 = c .mixed5 .result in
+      let d1 : Made b (t + 1) w1 = made-late b w₀ t (t + 1) v1 (omega arith) (omega arith) (omega arith) (c .before .before .before .before .before .before .before .before .mixed .ensures) d in
+      let d2 : Made b (t + 2) w2 = made-late b w1 (t + 1) (t + 2) v2 (omega arith) (omega arith) (omega arith) (c .before .before .before .before .before .before .mixed2 .ensures) d1 in
+      let d3 : Made b (t + 3) w3 = made-late b w2 (t + 2) (t + 3) v3 (omega arith) (omega arith) (omega arith) (c .before .before .before .before .mixed3 .ensures) d2 in
+      let d4 : Made b (t + 4) w4 = made-late b w3 (t + 3) (t + 4) v4 (omega arith) (omega arith) (omega arith) (c .before .before .mixed4 .ensures) d3 in
+      made-late b w4 (t + 4) (t + 5) v5 (omega arith) (omega arith) (omega arith) (c .mixed5 .ensures) d4,
+)
 
 pub five-words-spec : {M : Type 1} → statement M
 five-words-spec =
