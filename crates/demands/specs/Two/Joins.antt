@@ -35,9 +35,10 @@ use Rattle.metainfo.specs.declared.Torrent.{Torrent}
 use Rattle.torrents.specs.Torrent.{Said, IsTorrent, is-torrent, lengthsIn}
 use Rattle.torrents.specs.Exact.{Shows}
 use Rattle.torrents.proofs.Laws.{torrent-exact}
-use Rattle.contents.specs.Pieces.{hashPart, hashIn, hashOf, pieceBytes, checkIn, checkOf}
+use Rattle.contents.specs.Pieces.{hashPart, pieceBytes, checkIn, checkOf}
 use Rattle.contents.proofs.Facts.{then-taken}
 use Rattle.contents.proofs.Hashing.{piece-check}
+use Rattle.contents.specs.Pieces.{hashIn, hashOf}
 use Rattle.tracker.specs.Keys.{interval, peers}
 use Rattle.tracker.specs.Entries.{Entry}
 use Rattle.tracker.specs.Reply.{Answer, compact, sixes, replyIn, replyOf}
