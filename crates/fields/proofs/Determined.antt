@@ -6,11 +6,13 @@ use Rattle.walk.specs.Walk.{Hit, found, missing, seekPaper}
 use Rattle.walk.specs.declared.Part.{Part}
 use Rattle.walk.specs.declared.Sought.{Sought}
 use Rattle.walk.specs.declared.Sought.the-variants.{Found, Missing, Unread as Unsought}
-use Rattle.fields.specs.Looks.{stringPaper, naturalPaper, insidePaper}
+use Rattle.fields.specs.Looks.{stringPaper, naturalPaper, numberPaper, insidePaper}
 use Rattle.fields.specs.declared.Bytes.{Bytes}
 use Rattle.fields.specs.declared.Bytes.the-variants.{Are, Unread}
 use Rattle.fields.specs.declared.Natural.{Natural}
 use Rattle.fields.specs.declared.Natural.the-variants.{Is, Not}
+use Rattle.fields.specs.declared.Number.{Number}
+use Rattle.fields.specs.declared.Number.the-variants.{Is as IsTo, Not as NotOne}
 use Rattle.fields.specs.declared.Inside.{Inside}
 use Rattle.fields.specs.declared.Inside.the-variants.{At, None}
 
@@ -22,6 +24,10 @@ bytesAs (refused n p) = Unread (record { number = n; place = p })
 abbrev naturalAs : Outcome ℕ → Natural
 naturalAs (taken n) = Is n
 naturalAs (refused n p) = Not (record { number = n; place = p })
+
+abbrev numberAs : Outcome (ℕ × ℕ) → Number
+numberAs (taken x) = IsTo (x .0) (x .1)
+numberAs (refused n p) = NotOne (record { number = n; place = p })
 
 abbrev insideAs : Outcome ℕ → Inside
 insideAs (taken p) = At p
@@ -35,6 +41,10 @@ natural-again : (r : Natural) → naturalAs (naturalPaper r) ≡ r
 natural-again (Is n) = refl
 natural-again (Not r) = refl
 
+number-again : (r : Number) → numberAs (numberPaper r) ≡ r
+number-again (IsTo n q) = refl
+number-again (NotOne r) = refl
+
 inside-again : (r : Inside) → insideAs (insidePaper r) ≡ r
 inside-again (At p) = refl
 inside-again (None r) = refl
@@ -46,6 +56,10 @@ string-determined o r t e f = sym (bytes-again r) ∙ ap bytesAs (e ∙ sym f) �
 -- natural_at and natural_under
 pub natural-determined : (o : Outcome ℕ) (r t : Natural) → naturalPaper r ≡ o → naturalPaper t ≡ o → r ≡ t
 natural-determined o r t e f = sym (natural-again r) ∙ ap naturalAs (e ∙ sym f) ∙ natural-again t
+
+-- number_at
+pub number-determined : (o : Outcome (ℕ × ℕ)) (r t : Number) → numberPaper r ≡ o → numberPaper t ≡ o → r ≡ t
+number-determined o r t e f = sym (number-again r) ∙ ap numberAs (e ∙ sym f) ∙ number-again t
 
 -- list_at, list_under, dictionary_at and dictionary_under
 pub inside-determined : (o : Outcome ℕ) (r t : Inside) → insidePaper r ≡ o → insidePaper t ≡ o → r ≡ t

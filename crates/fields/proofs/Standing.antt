@@ -7,12 +7,12 @@ use lib.IntN.{ℤ}
 use lib.ListN.{length, take, drop, length-append}
 use Rattle.refusal.specs.Paper.{Outcome, taken, refused, then, map}
 use Rattle.scalar.specs.Written.{decimal, written}
-use Rattle.bencode.specs.Value.{Value, Items, Entries, str, int, list, dict}
+use Rattle.bencode.specs.Value.{Value, Items, Entries, str, int, list, dict, encode}
 use Rattle.walk.specs.Walk.{Head, lookOf}
 use Rattle.walk.specs.Stands.{Stands, StandItems, StandEntries}
 use Rattle.walk.specs.declared.Part.{Part}
 use Rattle.walk.proofs.Standing.{Bytes, string-stands, integer-stands, list-stands, dictionary-stands}
-use Rattle.fields.specs.Looks.{stringIn, naturalIn, listIn, dictionaryIn, stringOf, naturalOf, listOf, dictionaryOf}
+use Rattle.fields.specs.Looks.{endingAt, stringIn, naturalIn, numberIn, listIn, dictionaryIn, stringOf, naturalOf, numberOf, listOf, dictionaryOf}
 use Rattle.fields.specs.Values.{partOf, stringAt, naturalAt, listAt, dictionaryAt}
 use Rattle.fields.proofs.Fitting.{string-from}
 
@@ -43,6 +43,13 @@ module _ (s : List ℕ) (d p : ℕ) where
   natural-is most (int z) t = seen (naturalIn most p) (integer-stands s d p z t)
   natural-is most (list vs) t = seen (naturalIn most p) (list-stands s d p vs t .0)
   natural-is most (dict es) t = seen (naturalIn most p) (dictionary-stands s d p es t .0)
+
+  pub number-is : (most : ℕ) (v : Value) → Stands s d p v → numberOf most s p ≡ map (endingAt (p + length (encode v))) (naturalAt most p v)
+  unfolding encode
+  number-is most (str bs) t = seen (numberIn most p) (string-stands s d p bs t .seen)
+  number-is most (int z) t = seen (numberIn most p) (integer-stands s d p z t)
+  number-is most (list vs) t = seen (numberIn most p) (list-stands s d p vs t .0)
+  number-is most (dict es) t = seen (numberIn most p) (dictionary-stands s d p es t .0)
 
   -- the first thing in a list or dictionary stands one past its place
   pub list-is : (v : Value) → Stands s d p v → listOf s p ≡ map (λ vs. p + 1) (listAt p v)

@@ -5,7 +5,7 @@ use Prim.Native.Nat.{ℕ, suc}
 use lib.Dec.{leb}
 use lib.ListN.{length}
 use lib.IntN.{ℤ, pos, negsuc}
-use Rattle.refusal.specs.Paper.{Outcome, taken, refused, refusal, then}
+use Rattle.refusal.specs.Paper.{Outcome, taken, refused, refusal, map, then}
 use Rattle.refusal.specs.Numbers.{kind, range}
 use Rattle.walk.specs.Walk.{Head, string, integer, long, list, dictionary, end, lookOf, Hit, found, missing, seekOf}
 use Rattle.walk.specs.declared.Part.{Part}
@@ -13,6 +13,8 @@ use Rattle.fields.specs.declared.Bytes.{Bytes}
 use Rattle.fields.specs.declared.Bytes.the-variants.{Are, Unread}
 use Rattle.fields.specs.declared.Natural.{Natural}
 use Rattle.fields.specs.declared.Natural.the-variants.{Is, Not}
+use Rattle.fields.specs.declared.Number.{Number}
+use Rattle.fields.specs.declared.Number.the-variants.{Is as IsTo, Not as NotOne}
 use Rattle.fields.specs.declared.Inside.{Inside}
 use Rattle.fields.specs.declared.Inside.the-variants.{At, None}
 
@@ -24,6 +26,14 @@ stringPaper (Unread r) = refusal r
 abbrev pub naturalPaper : Natural → Outcome ℕ
 naturalPaper (Is n) = taken n
 naturalPaper (Not r) = refusal r
+
+-- a number n and the place q past it
+abbrev pub endingAt : ℕ → ℕ → ℕ × ℕ
+endingAt q n = (n, q)
+
+abbrev pub numberPaper : Number → Outcome (ℕ × ℕ)
+numberPaper (IsTo n q) = taken (endingAt q n)
+numberPaper (NotOne r) = refusal r
 
 abbrev pub insidePaper : Inside → Outcome ℕ
 insidePaper (At p) = taken p
@@ -52,6 +62,15 @@ naturalIn most p (list q) = refused kind p
 naturalIn most p (dictionary q) = refused kind p
 naturalIn most p (end q) = refused kind p
 
+-- the same, with the place past it
+abbrev pub numberIn : ℕ → ℕ → Head → Outcome (ℕ × ℕ)
+numberIn most p (string a m q) = refused kind p
+numberIn most p (integer z q) = map (endingAt q) (ranged most p z)
+numberIn most p (long a m q) = refused range p
+numberIn most p (list q) = refused kind p
+numberIn most p (dictionary q) = refused kind p
+numberIn most p (end q) = refused kind p
+
 -- the place of a list's first item
 abbrev pub listIn : ℕ → Head → Outcome ℕ
 listIn p (string a m q) = refused kind p
@@ -76,6 +95,9 @@ stringOf s p = then (lookOf s p) (stringIn p)
 
 abbrev pub naturalOf : ℕ → List ℕ → ℕ → Outcome ℕ
 naturalOf most s p = then (lookOf s p) (naturalIn most p)
+
+abbrev pub numberOf : ℕ → List ℕ → ℕ → Outcome (ℕ × ℕ)
+numberOf most s p = then (lookOf s p) (numberIn most p)
 
 abbrev pub listOf : List ℕ → ℕ → Outcome ℕ
 listOf s p = then (lookOf s p) (listIn p)

@@ -1,9 +1,10 @@
 // Typed looks: what a reader of torrents or tracker replies asks of a place. Every call answers for any text and any
 // place: another kind is refused by 10, a number out of range by 11, and what cannot be read as `walk::look` refuses it.
 ghost use mathlib.Core.Path.{_≡_};
-ghost use Rattle.refusal.specs.Numbers.{kind, range};
+ghost use Rattle.refusal.specs.Numbers.{kind};
+ghost use Rattle.refusal.specs.Paper.{map};
 ghost use Rattle.walk.specs.Walk.{seekPaper};
-ghost use Rattle.fields.specs.Looks.{stringPaper, naturalPaper, insidePaper, stringOf, naturalOf, listOf, dictionaryOf, ranged, needed, soughtAfter};
+ghost use Rattle.fields.specs.Looks.{endingAt, stringPaper, naturalPaper, numberPaper, insidePaper, stringOf, naturalOf, numberOf, listOf, dictionaryOf, ranged, needed, soughtAfter};
 use refusal::Refusal;
 use refusal::number;
 use walk::Part;
@@ -18,6 +19,12 @@ pub enum Bytes {
 
 pub enum Natural {
     Is(u64),
+    Not(Refusal),
+}
+
+// A number and the place past it.
+pub enum Number {
+    Is(u64, usize),
     Not(Refusal),
 }
 
@@ -45,10 +52,20 @@ pub fn string_at(text: &[u8], at: usize) -> Bytes
 pub fn natural_at(text: &[u8], at: usize, most: u64) -> Natural
     ensures { λ r. ⌜ naturalPaper r ≡ naturalOf most (now (text .entry)) at ⌝ }
 {
+    match number_at(text, at, most) {
+        Number::Is(n, _) => Natural::Is(n),
+        Number::Not(r) => Natural::Not(r),
+    }
+}
+
+// The same, with the place past it.
+pub fn number_at(text: &[u8], at: usize, most: u64) -> Number
+    ensures { λ r. ⌜ numberPaper r ≡ numberOf most (now (text .entry)) at ⌝ }
+{
     match walk::look(text, at) {
-        Seen::Integer(z, _) => within(z, most, at),
+        Seen::Integer(z, past) => within(z, most, at, past),
         Seen::Long(_, _) => no_number(number::RANGE, at),
-        Seen::Refused(r) => Natural::Not(r),
+        Seen::Refused(r) => Number::Not(r),
         Seen::String(_, _) => no_number(number::KIND, at),
         Seen::List(_) => no_number(number::KIND, at),
         Seen::Dictionary(_) => no_number(number::KIND, at),
@@ -100,7 +117,7 @@ pub fn natural_under(text: &[u8], dictionary: usize, sought: Sought, most: u64) 
 {
     match sought {
         Sought::Found(_, value) => natural_at(text, value, most),
-        Sought::Missing(_) => no_number(number::KIND, dictionary),
+        Sought::Missing(_) => no_natural(dictionary),
         Sought::Unread(r) => Natural::Not(r),
     }
 }
@@ -137,8 +154,8 @@ pub fn seek_after(text: &[u8], sought: Sought, key: &[u8]) -> Sought
 }
 
 // The number z of the integer at `at`, from 0 to `most`.
-fn within(z: i64, most: u64, at: usize) -> Natural
-    ensures { λ r. ⌜ naturalPaper r ≡ ranged most at z ⌝ }
+fn within(z: i64, most: u64, at: usize, past: usize) -> Number
+    ensures { λ r. ⌜ numberPaper r ≡ map (endingAt past) (ranged most at z) ⌝ }
 {
     if z < 0 {
         return no_number(number::RANGE, at);
@@ -147,7 +164,7 @@ fn within(z: i64, most: u64, at: usize) -> Natural
     if most < n {
         return no_number(number::RANGE, at);
     }
-    Natural::Is(n)
+    Number::Is(n, past)
 }
 
 fn no_string(at: usize) -> Bytes
@@ -159,10 +176,19 @@ fn no_string(at: usize) -> Bytes
     })
 }
 
-fn no_number(number: u8, at: usize) -> Natural
-    ensures { λ r. ⌜ r ≡ Natural.Not (record { number = number; place = at }) ⌝ }
+fn no_natural(at: usize) -> Natural
+    ensures { λ r. ⌜ r ≡ Natural.Not (record { number = kind; place = at }) ⌝ }
 {
-    Natural::Not(Refusal { number, place: at })
+    Natural::Not(Refusal {
+        number: number::KIND,
+        place: at,
+    })
+}
+
+fn no_number(number: u8, at: usize) -> Number
+    ensures { λ r. ⌜ r ≡ Number.Not (record { number = number; place = at }) ⌝ }
+{
+    Number::Not(Refusal { number, place: at })
 }
 
 fn nothing_inside(at: usize) -> Inside

@@ -1,35 +1,34 @@
 -- Where a dictionary ends: past the entries that are left where a search stopped. Assumes nothing.
 use mathlib.Core.Path.{_≡_, refl, sym, ap, _∙_, subst}
 use mathlib.Core.Bool.{Bool, true, false, cond}
-use mathlib.Core.List.{List, _++_}
+use mathlib.Core.List.{List}
 use Prim.Native.Nat.{ℕ, suc, _+_, _-_, _<_, _≤_}
 use native.Mathlib.Omega.{arith}
-use lib.ListN.{length, length-append}
-use Rattle.refusal.specs.Paper.{Outcome, taken, refused}
+use lib.ListN.{length}
+use Rattle.refusal.specs.Paper.{Outcome, taken, refused, map, then}
 use Rattle.scalar.specs.Written.{written, keyLt}
-use Rattle.bencode.specs.Value.{Value, Entries, dict, empty, entry, encode, encodeEntries, Prev, start, last}
+use Rattle.bencode.specs.Value.{Value, Items, Entries, dict, empty, entry, encode, encodeEntries, Prev, start, last}
 use Rattle.walk.specs.Walk.{Hit, found, missing, seekPaper, key, close, entryOf, skipOf}
-use Rattle.walk.specs.Stands.{Stands, StandEntries}
+use Rattle.walk.specs.Stands.{StandEntries}
+use Rattle.walk.specs.Lookup.{Under, nothing, under, lookup}
 use Rattle.walk.specs.declared.Part.{Part}
 use Rattle.walk.specs.declared.Sought.{Sought}
 use Rattle.walk.specs.declared.Sought.the-variants.{Found, Missing, Unread}
-use Rattle.walk.proofs.Standing.{dictionary-stands, entries-end, entries-next, skip-past}
+use Rattle.walk.proofs.Standing.{entries-end, entries-next, skip-past}
 use Rattle.walk.proofs.Seeking.{key-further, skip-further}
-use Rattle.walk.proofs.Finding.{soughtOf, placeOf, seek-stands}
+use Rattle.walk.proofs.Finding.{soughtOf, placeOf, seek-stands, entry-length, beyond}
+use Rattle.fields.specs.Values.{listAt, must}
+use Rattle.fields.proofs.Seeking.{Left}
 use Rattle.metainfo.specs.declared.Known.{Known}
-use Rattle.metainfo.specs.Keys.{filesKey, lengthKey, nameKey, pieceLengthKey, piecesKey, stopOf, soughtFrom, Noted}
+use Rattle.metainfo.specs.Keys.{filesKey, lengthKey, nameKey, pieceLengthKey, piecesKey, Tells, stopOf, pastOf, soughtFrom}
+use Rattle.metainfo.specs.Rules.{lengthsOf}
+use Rattle.metainfo.specs.Reading.{listedTo, listingPaper, filesAt, running}
+use Rattle.metainfo.specs.Noted.{Goes, Noted}
+use Rattle.metainfo.specs.declared.Content.{Content}
+use Rattle.metainfo.specs.declared.Listing.{Listing}
+use Rattle.metainfo.specs.declared.Listing.the-variants.{Are, None}
 use Rattle.metainfo.proofs.Naming.{no-way}
-
--- what is left at q of the entries es that stand at p, up to the same end
-pub record Goes (s : List ℕ) (d p : ℕ) (es : Entries) (q : ℕ) : Type 0 where
-  pub before : Prev
-  pub left : Entries
-  pub stands : StandEntries s d q before left
-  pub ends : q + length (encodeEntries left) ≡ p + length (encodeEntries es)
-
-entry-length : (j : List ℕ) (v : Value) (es : Entries) → length (encodeEntries (entry j v es)) ≡ length (written j) + (length (encode v) + length (encodeEntries es))
-unfolding encode
-entry-length j v es = length-append (written j) (encode v ++ encodeEntries es) ∙ ap (λ (n : ℕ). length (written j) + n) (length-append (encode v) (encodeEntries es))
+use Rattle.metainfo.proofs.Telling.{Told, tell, tell-first, tell-second}
 
 -- ---- a search stops at one of the entries, or at the e
 
@@ -58,15 +57,6 @@ module _ (s : List ℕ) (d : ℕ) (levels : d ≤ 32) (p : ℕ) (es : Entries) w
       let z = stopped-at w (soughtOf q (g .left) k) (e ∙ seek-stands s k d levels q (g .before) (g .left) (g .stands)) in
       subst (Goes s d p es) z (record { before = r .before; left = r .left; stands = r .stands; ends = r .ends ∙ g .ends })
 
-  -- info's keys
-  noted-goes : (before : Prev) → StandEntries s d p before es → (k : Known) → Noted s p k → Goes s d p es (stopOf (k .pieces))
-  noted-goes before t k n =
-      let a = goes-seek p (record { before = before; left = es; stands = t; ends = refl }) filesKey (k .files) (n .files) in
-      let b = goes-seek (stopOf (k .files)) a lengthKey (k .length) (n .length) in
-      let c = goes-seek (stopOf (k .length)) b nameKey (k .name) (n .name) in
-      let f = goes-seek (stopOf (k .name)) c pieceLengthKey (k .«piece_length») (n .piece) in
-      goes-seek (stopOf (k .«piece_length»)) f piecesKey (k .pieces) (n .pieces)
-
 -- ---- the entries that are left, one after the other
 
 abbrev pub Closing : List ℕ → ℕ → ℕ → Type 0
@@ -74,11 +64,6 @@ Closing s from p = (d : ℕ) → (before : Prev) → (es : Entries) → d ≤ 32
 
 pub closing-start : (s : List ℕ) (from : ℕ) → Closing s from from
 closing-start s from d before es l t = record { before = before; left = es; stands = t; ends = refl }
-
--- the end by another name for the place
-pub closing-from : (s : List ℕ) (from p : ℕ) → p ≡ from → (o : Outcome ℕ) → ((d : ℕ) → (before : Prev) → (es : Entries) → d ≤ 32 → StandEntries s d p before es → o ≡ taken (p + length (encodeEntries es)))
-    → (d : ℕ) → (before : Prev) → (es : Entries) → d ≤ 32 → StandEntries s d from before es → o ≡ taken (from + length (encodeEntries es))
-closing-from s from p e o h = subst (λ (q : ℕ). (d : ℕ) → (before : Prev) → (es : Entries) → d ≤ 32 → StandEntries s d q before es → o ≡ taken (q + length (encodeEntries es))) e h
 
 -- a key and the value after it are further on
 pub entry-further : (s : List ℕ) (p a m q next : ℕ) → taken (key a m q) ≡ entryOf s p → taken next ≡ skipOf s q → (p < next) × (next ≤ length s)
@@ -134,18 +119,64 @@ module _ (s : List ℕ) (from p : ℕ) (g : Closing s from p) where
               ends = omega (arith, entry-length j v ws);
             }
 
+-- ---- the keys of info, the files read on the way
+
+files-past : (x : ℕ) (v : Value) (c : Content) (q : ℕ) → taken (listedTo q c) ≡ filesAt x v → q ≡ x + length (encode v)
+files-past x v c q e = go (listAt x v) e
+  where
+    by : (o : Outcome (List ℕ)) → taken (listedTo q c) ≡ map (λ ns. listedTo (x + length (encode v)) (running x 0 0 ns)) o → q ≡ x + length (encode v)
+    by (taken ns) f = let g : listedTo q c ≡ listedTo (x + length (encode v)) (running x 0 0 ns) = cc in ap (λ (y : Content × ℕ). y .1) g
+    by (refused r i) f = no-way (cc)
+
+    go : (o : Outcome Items) → taken (listedTo q c) ≡ then o (λ vs. map (λ ns. listedTo (x + length (encode v)) (running x 0 0 ns)) (lengthsOf (x + 1) vs)) → q ≡ x + length (encode v)
+    go (taken vs) f = by (lengthsOf (x + 1) vs) f
+    go (refused r i) f = no-way (cc)
+
+module _ (s : List ℕ) (d : ℕ) (levels : d ≤ 32) (p : ℕ) (before : Prev) (es : Entries) (t : StandEntries s d p before es) (info : ℕ) where
+  -- past the files, all later keys are left, up to the same end
+  passed : (w : Sought) (l : Listing) → Told s d levels p before es t filesKey w → Goes s d p es (stopOf w) → listingPaper l ≡ must info (lookup p es filesKey) filesAt
+      → Left s d p es (last filesKey) (pastOf w l) × Goes s d p es (pastOf w l)
+  passed w (None r) a g e = (a .next, g)
+  passed w (Are c q) a g e = go (lookup p es filesKey) refl e
+    where
+      go : (u : Under) → lookup p es filesKey ≡ u → taken (listedTo q c) ≡ must info u filesAt → Left s d p es (last filesKey) q × Goes s d p es q
+      go nothing f h = no-way (cc)
+      go (under x v) f h =
+          let b = beyond s d p before es filesKey t x v f in
+          let i : x + length (encode v) ≡ q = sym (files-past x v c q h) in (
+            subst (Left s d p es (last filesKey)) i (record { before = last filesKey; left = b .left; stands = b .stands; same = b .same }),
+            subst (Goes s d p es) i (record { before = last filesKey; left = b .left; stands = b .stands; ends = b .ends }),
+          )
+
+  pub noted : (k : Known) → seekPaper (k .files) ≡ soughtFrom s p filesKey → ((u : Under) → Tells s d u (k .files) → listingPaper (k .listed) ≡ must info u filesAt)
+      → seekPaper (k .length) ≡ soughtFrom s (pastOf (k .files) (k .listed)) lengthKey → seekPaper (k .name) ≡ soughtFrom s (stopOf (k .length)) nameKey
+      → seekPaper (k .«piece_length») ≡ soughtFrom s (stopOf (k .name)) pieceLengthKey → seekPaper (k .pieces) ≡ soughtFrom s (stopOf (k .«piece_length»)) piecesKey
+      → Noted s d info p es k
+  unfolding keyLt
+  noted k e h f i j m =
+      let a = tell-first s d levels p before es t filesKey (k .files) e in
+      let g = goes-seek s d levels p es p (record { before = before; left = es; stands = t; ends = refl }) filesKey (k .files) e in
+      let l = h (lookup p es filesKey) (a .told) in
+      let x = passed (k .files) (k .listed) a g l in
+      let b = tell s d levels p before es t (last filesKey) lengthKey (pastOf (k .files) (k .listed)) (k .length) (x .0) refl f in
+      let c = tell-second s d levels p before es t lengthKey nameKey (k .length) (k .name) b refl i in
+      let n = tell-second s d levels p before es t nameKey pieceLengthKey (k .name) (k .«piece_length») c refl j in
+      let o = tell-second s d levels p before es t pieceLengthKey piecesKey (k .«piece_length») (k .pieces) n refl m in
+      let y = goes-seek s d levels p es (pastOf (k .files) (k .listed)) (x .1) lengthKey (k .length) f in
+      let z = goes-seek s d levels p es (stopOf (k .length)) y nameKey (k .name) i in
+      let v = goes-seek s d levels p es (stopOf (k .name)) z pieceLengthKey (k .«piece_length») j in
+      let w = goes-seek s d levels p es (stopOf (k .«piece_length»)) v piecesKey (k .pieces) m in
+      record { files = a .told; listed = l; length = b .told; name = c .told; piece = n .told; pieces = o .told; close = w }
+
 -- ---- info as a part of the text
 
-module _ (s : List ℕ) (d p first : ℕ) (es : Entries) (levels : d ≤ 32) (t : Stands s d p (dict es)) (e : first ≡ p + 1) (k : Known) (n : Noted s first k) (o : Outcome ℕ)
-    (h : (d : ℕ) → (before : Prev) → (ws : Entries) → d ≤ 32 → StandEntries s d (stopOf (k .pieces)) before ws → o ≡ taken (stopOf (k .pieces) + length (encodeEntries ws))) where
+module _ (s : List ℕ) (d p from : ℕ) (es : Entries) (levels : d ≤ 32) (g : Goes s d (p + 1) es from) (o : Outcome ℕ)
+    (h : (d : ℕ) → (before : Prev) → (ws : Entries) → d ≤ 32 → StandEntries s d from before ws → o ≡ taken (from + length (encodeEntries ws))) where
   info-end : o ≡ taken (p + length (encode (dict es)))
   unfolding encode
   info-end =
-      let x = dictionary-stands s d p es t .1 in
-      let g : x .0 ≤ 32 = omega (arith, x .1) in
-      let y = noted-goes s (x .0) g (p + 1) es start (x .2) k (subst (λ (q : ℕ). Noted s q k) e n) in
       let z : p + 1 + length (encodeEntries es) ≡ p + suc (length (encodeEntries es)) = omega arith in
-      h (x .0) (y .before) (y .left) g (y .stands) ∙ ap taken (y .ends ∙ z)
+      h d (g .before) (g .left) levels (g .stands) ∙ ap taken (g .ends ∙ z)
 
   pub info-part : (q : ℕ) → taken q ≡ o → _≡_ {A = Part} (record { from = p; len = q - p }) (record { from = p; len = length (encode (dict es)) })
   info-part q f =

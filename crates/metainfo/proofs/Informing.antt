@@ -22,11 +22,12 @@ use Rattle.fields.proofs.Standing.{string-is, dictionary-is}
 use Rattle.metainfo.specs.declared.Known.{Known}
 use Rattle.metainfo.specs.declared.Content.{Content}
 use Rattle.metainfo.specs.declared.Torrent.{Torrent}
-use Rattle.metainfo.specs.Keys.{announceKey, infoKey, filesKey, lengthKey, nameKey, pieceLengthKey, piecesKey, Tells, stopOf, valueOf, soughtFrom, Noted}
+use Rattle.metainfo.specs.Keys.{announceKey, infoKey, filesKey, lengthKey, nameKey, pieceLengthKey, piecesKey, Tells, stopOf, valueOf, soughtFrom}
+use Rattle.metainfo.specs.Noted.{Noted}
 use Rattle.metainfo.specs.Rules.{nameAt, contentOf, pieceLengthAt, placeUnder, sizedOf, infoOf, infoAt, topOf, torrentOf}
 use Rattle.metainfo.specs.Reading.{stopped, readOf}
 use Rattle.metainfo.proofs.Naming.{no-way}
-use Rattle.metainfo.proofs.Telling.{tells-needed, tells-place, tells-stands, shown, tell-first, tell-second}
+use Rattle.metainfo.proofs.Telling.{tells-needed, tells-place, tells-stands, tell-first, tell-second}
 use Rattle.metainfo.proofs.Filing.{moved}
 use Rattle.metainfo.proofs.Sizing.{sized-stopped, piece-legal}
 
@@ -104,24 +105,21 @@ module _ (a : Part) (p : ℕ) (es : Entries) where
 pub record Informed (s : List ℕ) (p : ℕ) (es : Entries) (k : Known) : Type 0 where
   pub deep : ℕ
   pub levels : deep ≤ 32
-  pub files : Tells s deep (lookup (p + 1) es filesKey) (k .files)
-  pub length : Tells s deep (lookup (p + 1) es lengthKey) (k .length)
-  pub name : Tells s deep (lookup (p + 1) es nameKey) (k .name)
-  pub piece : Tells s deep (lookup (p + 1) es pieceLengthKey) (k .«piece_length»)
-  pub pieces : Tells s deep (lookup (p + 1) es piecesKey) (k .pieces)
+  pub noted : Noted s deep p (p + 1) es k
 
-pub informed : (s : List ℕ) (d p first : ℕ) (es : Entries) → d ≤ 32 → Stands s d p (dict es) → first ≡ p + 1 → (k : Known) → Noted s first k → Informed s p es k
-informed s d p first es l t e k n =
+pub informed : (s : List ℕ) (d p first : ℕ) (es : Entries) → d ≤ 32 → Stands s d p (dict es) → first ≡ p + 1 → (k : Known)
+    → ((d : ℕ) → (before : Prev) → (ws : Entries) → d ≤ 32 → StandEntries s d first before ws → Noted s d p first ws k) → Informed s p es k
+informed s d p first es l t e k h =
     let x = dictionary-stands s d p es t .1 in
     let g : x .0 ≤ 32 = omega (arith, x .1) in
-    let y = shown s (x .0) g (p + 1) start es (x .2) k (subst (λ (q : ℕ). Noted s q k) e n) in
-    record { deep = x .0; levels = g; files = y .files; length = y .length; name = y .name; piece = y .piece; pieces = y .pieces }
+    let y = h (x .0) start es g (subst (λ (q : ℕ). StandEntries s (x .0) q start es) (sym e) (x .2)) in
+    record { deep = x .0; levels = g; noted = subst (λ (q : ℕ). Noted s (x .0) p q es k) e y }
 
 pub pieces-asked : (s : List ℕ) (p : ℕ) (es : Entries) (k : Known) → Informed s p es k → needed p (seekPaper (k .pieces)) (stringOf s) ≡ must p (lookup (p + 1) es piecesKey) stringAt
-pieces-asked s p es k i = tells-needed s (i .deep) p stringAt (lookup (p + 1) es piecesKey) (k .pieces) (i .pieces) (stringOf s) (λ q v t. string-is s (i .deep) q v t)
+pieces-asked s p es k i = tells-needed s (i .deep) p stringAt (lookup (p + 1) es piecesKey) (k .pieces) (i .noted .pieces) (stringOf s) (λ q v t. string-is s (i .deep) q v t)
 
 pub pieces-place : (s : List ℕ) (p : ℕ) (es : Entries) (k : Known) → Informed s p es k → valueOf (k .pieces) ≡ placeUnder (lookup (p + 1) es piecesKey)
-pieces-place s p es k i = tells-place s (i .deep) (lookup (p + 1) es piecesKey) (k .pieces) (i .pieces)
+pieces-place s p es k i = tells-place s (i .deep) (lookup (p + 1) es piecesKey) (k .pieces) (i .noted .pieces)
 
 -- ---- the whole
 

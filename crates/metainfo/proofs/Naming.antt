@@ -6,7 +6,7 @@ use Prim.Native.Nat.{ℕ, zero, suc, _+_, _<_, _≤_}
 use native.Mathlib.Omega.{arith}
 use native.Mathlib.Numerals.{add-one}
 use lib.Dec.{eqb}
-use lib.ListN.{length, getD, take, drop, drop-of-length-le}
+use lib.ListN.{length, getD, take, drop, length-append, drop-of-length-le}
 use lib.Seq.{drop-cons}
 use borrow.Author.Tests.{eq-eqb, ne-eqb, eqb-true}
 use Rattle.refusal.specs.Paper.{Outcome, taken, refused, then, map}
@@ -21,7 +21,7 @@ use Rattle.walk.specs.Stands.{Stands, StandItems}
 use Rattle.walk.specs.declared.Part.{Part}
 use Rattle.walk.proofs.Standing.{Bytes, string-stands, integer-stands, list-stands, dictionary-stands, items-end, items-next}
 use Rattle.walk.proofs.Seeking.{key-further}
-use Rattle.fields.specs.Looks.{stringIn, stringOf, listOf}
+use Rattle.fields.specs.Looks.{endingAt, stringIn, stringOf, listOf}
 use Rattle.fields.specs.Values.{partOf, stringAt, listAt}
 use Rattle.fields.proofs.Standing.{part-bytes, string-is, list-is}
 use Rattle.metainfo.specs.Rules.{dots, clean, goodName, nameAt, elementsOf, pathIn, pathAt}
@@ -173,27 +173,30 @@ module _ (s : List ℕ) (first p : ℕ) (g : Going s first p) where
           let j : q ≡ p + length (encode v) = string-ends s d p v (n .0) (x .from) (x .len) q e in
           record { left = ws; stands = rw j (n .1); same = (rw (← f, ← j) at i) }
 
-  stop-at : (r o : ℕ) → ((d : ℕ) (v : Value) → Stands s d p v → refused r o ≡ nameAt p v) → ((q : ℕ) → taken (end q) ≡ lookOf s p → ⊥) → (d : ℕ) (vs : Items) → StandItems s d first vs → refused r o ≡ elementsOf first vs
+  stop-at : (r o : ℕ) → ((d : ℕ) (v : Value) → Stands s d p v → refused r o ≡ nameAt p v) → ((q : ℕ) → taken (end q) ≡ lookOf s p → ⊥) → (d : ℕ) (vs : Items) → StandItems s d first vs → refused r o ≡ map (λ q. q + 1) (elementsOf first vs)
   unfolding elementsOf
   stop-at r o h k d vs t = go (g d vs t .left) (g d vs t .stands) (g d vs t .same)
     where
-      go : (left : Items) → StandItems s d p left → elementsOf p left ≡ elementsOf first vs → refused r o ≡ elementsOf first vs
+      go : (left : Items) → StandItems s d p left → elementsOf p left ≡ elementsOf first vs → refused r o ≡ map (λ q. q + 1) (elementsOf first vs)
       go none u i = absurd (k (p + 1) (sym (items-end s d p u)))
-      go (item v ws) u i = let n = items-next s d p v ws u in (rw (← h d v (n .0)) at i)
+      go (item v ws) u i = let n = items-next s d p v ws u in let k : refused r o ≡ elementsOf first vs = (rw (← h d v (n .0)) at i) in ap (map (λ q. q + 1)) k
 
-  pub going-bad : (x : Part) (q : ℕ) → taken (string (x .from) (x .len) q) ≡ lookOf s p → goodName (take (x .len) (drop (x .from) s)) ≡ false → (d : ℕ) (vs : Items) → StandItems s d first vs → refused 13 p ≡ elementsOf first vs
+  pub going-bad : (x : Part) (q : ℕ) → taken (string (x .from) (x .len) q) ≡ lookOf s p → goodName (take (x .len) (drop (x .from) s)) ≡ false → (d : ℕ) (vs : Items) → StandItems s d first vs → refused 13 p ≡ map (λ q. q + 1) (elementsOf first vs)
   going-bad x q e h = stop-at 13 p (λ d v t. name-bad s d p v t x (ap (λ (o : Outcome Head). then o (stringIn p)) e) h) (λ i f. let z = e ∙ sym f in no-way (cc))
 
   -- anything but a string or an end
-  pub going-not : (o : Outcome Head) → o ≡ lookOf s p → (r q : ℕ) → then o (stringIn p) ≡ refused r q → ((i : ℕ) → taken (end i) ≡ o → ⊥) → (d : ℕ) (vs : Items) → StandItems s d first vs → refused r q ≡ elementsOf first vs
+  pub going-not : (o : Outcome Head) → o ≡ lookOf s p → (r q : ℕ) → then o (stringIn p) ≡ refused r q → ((i : ℕ) → taken (end i) ≡ o → ⊥) → (d : ℕ) (vs : Items) → StandItems s d first vs → refused r q ≡ map (λ q. q + 1) (elementsOf first vs)
   going-not o e r q f k = stop-at r q (λ d v t. name-not s d p v t r q (sym f ∙ ap (λ (x : Outcome Head). then x (stringIn p)) e)) (λ i h. k i (h ∙ sym e))
 
-  pub going-end : (q : ℕ) → taken (end q) ≡ lookOf s p → (d : ℕ) (vs : Items) → StandItems s d first vs → taken p ≡ elementsOf first vs
+  pub going-end : (q : ℕ) → taken (end q) ≡ lookOf s p → (d : ℕ) (vs : Items) → StandItems s d first vs → taken q ≡ map (λ q. q + 1) (elementsOf first vs)
   unfolding elementsOf
   going-end q e d vs t = go (g d vs t .left) (g d vs t .stands) (g d vs t .same)
     where
-      go : (left : Items) → StandItems s d p left → elementsOf p left ≡ elementsOf first vs → taken p ≡ elementsOf first vs
-      go none u i = i
+      go : (left : Items) → StandItems s d p left → elementsOf p left ≡ elementsOf first vs → taken q ≡ map (λ q. q + 1) (elementsOf first vs)
+      go none u i =
+          let f : taken (end q) ≡ taken (end (p + 1)) = e ∙ items-end s d p u in
+          let h : q ≡ p + 1 = cc in
+          ap taken h ∙ ap (map (λ q. q + 1)) i
       go (item v ws) u i = absurd (not-end s d p v (items-next s d p v ws u .0) q e)
 
 -- ---- a path
@@ -210,15 +213,29 @@ closes-item s d p v vs t =
     let n = items-next s d p v vs t in
     ap closes (n .0 .text ∙ ap (λ (l : List ℕ). l ++ n .0 .rest) (f .2)) ∙ ne-eqb (f .0) 101 (f .3)
 
+-- the place past the elements of a path is that of its e
+elements-past : (p : ℕ) (vs : Items) (q : ℕ) → elementsOf p vs ≡ taken q → q + 1 ≡ p + length (encodeItems vs)
+unfolding elementsOf encodeItems
+elements-past p none q e = let f : p ≡ q = cc in omega arith
+elements-past p (item v vs) q e = go (elements-past (p + length (encode v)) vs q) (nameAt p v) e
+  where
+    go : (elementsOf (p + length (encode v)) vs ≡ taken q → q + 1 ≡ p + length (encode v) + length (encodeItems vs)) → (o : Outcome Part) → then o (λ x. elementsOf (p + length (encode v)) vs) ≡ taken q → q + 1 ≡ p + length (encode v ++ encodeItems vs)
+    go more (taken x) f = omega (arith, more f, length-append (encode v) (encodeItems vs))
+    go more (refused r i) f = no-way (cc)
+
+-- a path and the place past it
+abbrev passing : ℕ → Value → Outcome (ℕ × ℕ)
+passing p v = map (endingAt (p + length (encode v))) (pathAt p v)
+
 module _ (s : List ℕ) (d p : ℕ) where
-  pub path-not : (v : Value) → Stands s d p v → (r o : ℕ) → refused r o ≡ listOf s p → refused r o ≡ pathAt p v
-  path-not (str bs) t r o e = e ∙ list-is s d p (str bs) t
-  path-not (int z) t r o e = e ∙ list-is s d p (int z) t
+  pub path-not : (v : Value) → Stands s d p v → (r o : ℕ) → refused r o ≡ listOf s p → refused r o ≡ passing p v
+  path-not (str bs) t r o e = ap (map (endingAt (p + length (encode (str bs))))) (e ∙ list-is s d p (str bs) t)
+  path-not (int z) t r o e = ap (map (endingAt (p + length (encode (int z))))) (e ∙ list-is s d p (int z) t)
   path-not (list vs) t r o e = let f = e ∙ list-is s d p (list vs) t in no-way (cc)
-  path-not (dict es) t r o e = e ∙ list-is s d p (dict es) t
+  path-not (dict es) t r o e = ap (map (endingAt (p + length (encode (dict es))))) (e ∙ list-is s d p (dict es) t)
 
   module _ (first : ℕ) (e : taken first ≡ listOf s p) where
-    pub path-empty : (v : Value) → Stands s d p v → closes (drop first s) ≡ true → refused 13 p ≡ pathAt p v
+    pub path-empty : (v : Value) → Stands s d p v → closes (drop first s) ≡ true → refused 13 p ≡ passing p v
     path-empty (str bs) t c = let f = e ∙ list-is s d p (str bs) t in no-way (cc)
     path-empty (int z) t c = let f = e ∙ list-is s d p (int z) t in no-way (cc)
     path-empty (list none) t c = refl
@@ -231,8 +248,9 @@ module _ (s : List ℕ) (d p : ℕ) where
         no-way (cc)
     path-empty (dict es) t c = let f = e ∙ list-is s d p (dict es) t in no-way (cc)
 
-    module _ (o : Outcome ℕ) (h : (d : ℕ) → (vs : Items) → StandItems s d first vs → o ≡ elementsOf first vs) where
-      pub path-some : (v : Value) → Stands s d p v → closes (drop first s) ≡ false → map (λ (q : ℕ). first) o ≡ pathAt p v
+    module _ (o : Outcome ℕ) (h : (d : ℕ) → (vs : Items) → StandItems s d first vs → o ≡ map (λ q. q + 1) (elementsOf first vs)) where
+      pub path-some : (v : Value) → Stands s d p v → closes (drop first s) ≡ false → map (λ (q : ℕ). endingAt q first) o ≡ passing p v
+      unfolding encode
       path-some (str bs) t c = let f = e ∙ list-is s d p (str bs) t in no-way (cc)
       path-some (int z) t c = let f = e ∙ list-is s d p (int z) t in no-way (cc)
       path-some (list none) t c =
@@ -247,7 +265,15 @@ module _ (s : List ℕ) (d p : ℕ) where
           let i : first ≡ p + 1 = cc in
           let l = list-stands s d p (item v vs) t .1 in
           let u : StandItems s (l .0) first (item v vs) = rw i (l .2) in
-          ap (map (λ (q : ℕ). first)) (h (l .0) (item v vs) u) ∙ ap (λ (i : ℕ). map (λ (q : ℕ). i) (elementsOf i (item v vs))) i
+          ap (map (λ (q : ℕ). endingAt q first)) (h (l .0) (item v vs) u)
+          ∙ ap (λ (j : ℕ). map (λ (q : ℕ). endingAt q j) (map (λ q. q + 1) (elementsOf j (item v vs)))) i
+          ∙ go (elementsOf (p + 1) (item v vs)) refl
+        where
+          go : (x : Outcome ℕ) → elementsOf (p + 1) (item v vs) ≡ x → map (λ (q : ℕ). endingAt q (p + 1)) (map (λ q. q + 1) x) ≡ map (endingAt (p + suc (length (encodeItems (item v vs))))) (map (λ (q : ℕ). p + 1) x)
+          go (taken q) f =
+              let g : q + 1 ≡ p + suc (length (encodeItems (item v vs))) = elements-past (p + 1) (item v vs) q f ∙ omega arith in
+              ap (λ (j : ℕ). taken (endingAt j (p + 1))) g
+          go (refused r j) f = refl
       path-some (dict es) t c = let f = e ∙ list-is s d p (dict es) t in no-way (cc)
 
 -- ---- as the code sees it
@@ -267,8 +293,8 @@ isEnd (walk.dictionary q) = false
 isEnd (end q) = true
 
 module _ (s : List ℕ) (first p : ℕ) (g : Going s first p) where
-  pub going-other : (h : Head) → taken h ≡ lookOf s p → stringIn p h ≡ refused 10 p → isEnd h ≡ false → (d : ℕ) (vs : Items) → StandItems s d first vs → refused 10 p ≡ elementsOf first vs
+  pub going-other : (h : Head) → taken h ≡ lookOf s p → stringIn p h ≡ refused 10 p → isEnd h ≡ false → (d : ℕ) (vs : Items) → StandItems s d first vs → refused 10 p ≡ map (λ q. q + 1) (elementsOf first vs)
   going-other h e f k = going-not s first p g (taken h) e 10 p f (λ i x. let y : end i ≡ h = cc in let z : true ≡ false = ap isEnd y ∙ k in no-way (cc))
 
-  pub going-refused : (r o : ℕ) → refused r o ≡ lookOf s p → (d : ℕ) (vs : Items) → StandItems s d first vs → refused r o ≡ elementsOf first vs
+  pub going-refused : (r o : ℕ) → refused r o ≡ lookOf s p → (d : ℕ) (vs : Items) → StandItems s d first vs → refused r o ≡ map (λ q. q + 1) (elementsOf first vs)
   going-refused r o e = going-not s first p g (refused r o) e r o refl (λ i x. no-way (cc))

@@ -17,8 +17,7 @@ use Rattle.walk.proofs.Finding.{Says, it-is, it-is-not, found-stands, placeOf}
 use Rattle.fields.specs.Looks.{needed}
 use Rattle.fields.specs.Values.{must}
 use Rattle.fields.proofs.Seeking.{Left, Seeks, all-left, seeks}
-use Rattle.metainfo.specs.declared.Known.{Known}
-use Rattle.metainfo.specs.Keys.{announceKey, infoKey, filesKey, lengthKey, nameKey, pathKey, pieceLengthKey, piecesKey, Tells, stopOf, valueOf, soughtFrom, Noted}
+use Rattle.metainfo.specs.Keys.{Tells, stopOf, valueOf, soughtFrom}
 use Rattle.metainfo.specs.Rules.{placeUnder}
 use Rattle.metainfo.proofs.Naming.{no-way}
 
@@ -99,21 +98,3 @@ module _ (s : List ℕ) (d : ℕ) where
 
     pub tell-second : (j k : List ℕ) (w x : Sought) → Told j w → keyLt j k ≡ true → seekPaper x ≡ soughtFrom s (stopOf w) k → Told k x
     tell-second j k w x y h e = tell (last j) k (stopOf w) x (y .next) h e
-
-    -- the keys of info
-    pub record Shown (k : Known) : Type 0 where
-      pub files : Tells s d (lookup p es filesKey) (k .files)
-      pub length : Tells s d (lookup p es lengthKey) (k .length)
-      pub name : Tells s d (lookup p es nameKey) (k .name)
-      pub piece : Tells s d (lookup p es pieceLengthKey) (k .«piece_length»)
-      pub pieces : Tells s d (lookup p es piecesKey) (k .pieces)
-
-    pub shown : (k : Known) → Noted s p k → Shown k
-    unfolding keyLt
-    shown k n =
-        let a = tell-first filesKey (k .files) (n .files) in
-        let b = tell-second filesKey lengthKey (k .files) (k .length) a refl (n .length) in
-        let c = tell-second lengthKey nameKey (k .length) (k .name) b refl (n .name) in
-        let e = tell-second nameKey pieceLengthKey (k .name) (k .«piece_length») c refl (n .piece) in
-        let f = tell-second pieceLengthKey piecesKey (k .«piece_length») (k .pieces) e refl (n .pieces) in
-        record { files = a .told; length = b .told; name = c .told; piece = e .told; pieces = f .told }

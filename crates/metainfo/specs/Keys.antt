@@ -10,7 +10,8 @@ use Rattle.walk.specs.Stands.{Stands}
 use Rattle.walk.specs.Lookup.{Under, nothing, under}
 use Rattle.walk.specs.declared.Sought.{Sought}
 use Rattle.walk.specs.declared.Sought.the-variants.{Found, Missing, Unread}
-use Rattle.metainfo.specs.declared.Known.{Known}
+use Rattle.metainfo.specs.declared.Listing.{Listing}
+use Rattle.metainfo.specs.declared.Listing.the-variants.{Are, None}
 
 -- announce
 abbrev pub announceKey : List ℕ
@@ -68,10 +69,7 @@ valueOf (Unread r) = 0
 abbrev pub soughtFrom : List ℕ → ℕ → List ℕ → Outcome Hit
 soughtFrom s p k = seekOf (suc (length s)) s p k
 
--- one pass over info's entries, of which the first stands at p: each key is sought from where the one before it stopped
-pub record Noted (s : List ℕ) (p : ℕ) (k : Known) : Type 0 where
-  pub files : seekPaper (k .files) ≡ soughtFrom s p filesKey
-  pub length : seekPaper (k .length) ≡ soughtFrom s (stopOf (k .files)) lengthKey
-  pub name : seekPaper (k .name) ≡ soughtFrom s (stopOf (k .length)) nameKey
-  pub piece : seekPaper (k .«piece_length») ≡ soughtFrom s (stopOf (k .name)) pieceLengthKey
-  pub pieces : seekPaper (k .pieces) ≡ soughtFrom s (stopOf (k .«piece_length»)) piecesKey
+-- where the key after files is sought: past their list, if it was read
+abbrev pub pastOf : Sought → Listing → ℕ
+pastOf w (Are c q) = q
+pastOf w (None r) = stopOf w

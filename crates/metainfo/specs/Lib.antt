@@ -3,3 +3,4 @@ pub mod Rules
 pub mod Reading
 pub mod Exact
 pub mod Hashes
+pub mod Noted

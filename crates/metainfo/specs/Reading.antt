@@ -5,18 +5,24 @@ use mathlib.Core.Bool.{false}
 use Rattle.blocks.specs.Rules.{sum, largest}
 use lib.ListN.{length, take, drop}
 use Rattle.walk.specs.declared.Part.{Part}
-use Rattle.refusal.specs.Paper.{Outcome, taken, refused, refusal, then}
+use Rattle.refusal.specs.Paper.{Outcome, taken, refused, refusal, map, then}
 use Rattle.refusal.specs.Limits.{mostLevels}
 use Rattle.scalar.specs.Reading.{Got, got, bad}
-use Rattle.bencode.specs.Value.{Value}
+use Rattle.bencode.specs.Value.{Value, encode}
 use Rattle.bencode.specs.Decode.{valueOf, decode}
-use Rattle.metainfo.specs.Rules.{fileOf, torrentOf}
+use Rattle.fields.specs.Looks.{endingAt}
+use Rattle.fields.specs.Values.{listAt}
+use Rattle.metainfo.specs.Rules.{fileOf, lengthsOf, torrentOf}
 use Rattle.metainfo.specs.declared.File.{File}
 use Rattle.metainfo.specs.declared.Filed.{Filed}
 use Rattle.metainfo.specs.declared.Filed.the-variants.{Is, Not}
 use Rattle.metainfo.specs.declared.Content.{Content}
 use Rattle.metainfo.specs.declared.Contents.{Contents}
 use Rattle.metainfo.specs.declared.Contents.the-variants.{Are, None}
+use Rattle.metainfo.specs.declared.Listing.{Listing}
+use Rattle.metainfo.specs.declared.Listing.the-variants.{Are as AreTo, None as NoList}
+use Rattle.metainfo.specs.declared.Path.{Path}
+use Rattle.metainfo.specs.declared.Path.the-variants.{Is as IsTo, Not as NoPath}
 use Rattle.metainfo.specs.declared.Torrent.{Torrent}
 use Rattle.metainfo.specs.declared.Reading.{Reading}
 use Rattle.metainfo.specs.declared.Reading.the-variants.{Read, Refused}
@@ -33,6 +39,18 @@ filePaper (Not r) = refusal r
 abbrev pub contentPaper : Contents → Outcome Content
 contentPaper (Are c) = taken c
 contentPaper (None r) = refusal r
+
+-- files with the place past their list, and a path with the place past it
+abbrev pub listedTo : ℕ → Content → Content × ℕ
+listedTo q c = (c, q)
+
+abbrev pub listingPaper : Listing → Outcome (Content × ℕ)
+listingPaper (AreTo c q) = taken (listedTo q c)
+listingPaper (NoList r) = refusal r
+
+abbrev pub pathPaper : Path → Outcome (ℕ × ℕ)
+pathPaper (IsTo a q) = taken (endingAt q a)
+pathPaper (NoPath r) = refusal r
 
 -- the torrent that a text is
 abbrev pub readOf : List ℕ → Outcome Torrent
@@ -53,6 +71,10 @@ fileAt s p = then (valueAt s p) (fileOf p)
 -- the content as a running total has it, after k files of t bytes in a list at p
 abbrev pub running : ℕ → ℕ → ℕ → List ℕ → Content
 running p k t ns = record { single = false; place = p; files = k + length ns; total = min (t + sum ns) largest }
+
+-- the files that v, which stands at p, lists, and the place past it
+abbrev pub filesAt : ℕ → Value → Outcome (Content × ℕ)
+filesAt p v = then (listAt p v) (λ vs. map (λ ns. listedTo (p + length (encode v)) (running p 0 0 ns)) (lengthsOf (p + 1) vs))
 
 -- a running total stops at the largest number of 64 bits
 abbrev pub stopped : Content → Content

@@ -32,8 +32,9 @@ use walk::Sought;
 pub fn read(text: &[u8], announce: Part, at: usize, first: usize) -> Reading
     ensures { λ r. ⌜ ((d : ℕ) → (es : Entries) → d ≤ 32 → Stands (now (text .entry)) d at (dict es) → first ≡ at + 1 → paper r ≡ infoOf announce at es) ⌝ }
 {
-    let k = keys::note(text, first);
+    let k = keys::note(text, at, first);
     let files = k.files;
+    let listed = k.listed;
     let length = k.length;
     let name = k.name;
     let piece_length = k.piece_length;
@@ -41,8 +42,8 @@ pub fn read(text: &[u8], announce: Part, at: usize, first: usize) -> Reading
     match name_under(text, at, name) {
         Bytes::Are(name) => match piece_length_under(text, at, piece_length) {
             Natural::Is(n) => match fields::string_under(text, at, pieces) {
-                Bytes::Are(hashes) => match files::content(text, at, length, files) {
-                    Contents::Are(c) => match keys::close(text, pieces) {
+                Bytes::Are(hashes) => match files::content(text, at, length, files, listed) {
+                    Contents::Are(c) => match keys::close(text, keys::stop(pieces)) {
                         Past::To(end) => sized(
                             announce,
                             from_to(at, end),

@@ -6,8 +6,11 @@ ghost use Rattle.refusal.specs.Paper.{taken};
 ghost use Rattle.bencode.specs.Value.{Entries, Prev, encodeEntries};
 ghost use Rattle.walk.specs.Walk.{pastPaper};
 ghost use Rattle.walk.specs.Stands.{StandEntries};
-ghost use Rattle.metainfo.specs.Keys.{stopOf, valueOf, Noted};
+ghost use Rattle.metainfo.specs.Keys.{stopOf, valueOf, pastOf};
+ghost use Rattle.metainfo.specs.Noted.{Noted};
 use crate::Known;
+use crate::Listing;
+use crate::files;
 use walk::Next;
 use walk::Past;
 use walk::Sought;
@@ -34,17 +37,19 @@ pub fn value(sought: Sought) -> usize
     }
 }
 
-// One pass over info: its keys in their order.
-pub fn note(text: &[u8], first: usize) -> Known
-    ensures { λ r. ⌜ Noted (now (text .entry)) first r ⌝ }
+// One pass over info at `info`: its keys in their order. The files are read on the way, so that their list is passed once.
+pub fn note(text: &[u8], info: usize, first: usize) -> Known
+    ensures { λ r. ⌜ ((d : ℕ) → (before : Prev) → (es : Entries) → d ≤ 32 → StandEntries (now (text .entry)) d first before es → Noted (now (text .entry)) d info first es r) ⌝ }
 {
     let files = walk::seek(text, first, b"files");
-    let length = walk::seek(text, stop(files), b"length");
+    let listed = files::under(text, info, files);
+    let length = walk::seek(text, past(files, listed), b"length");
     let name = walk::seek(text, stop(length), b"name");
     let piece_length = walk::seek(text, stop(name), b"piece length");
     let pieces = walk::seek(text, stop(piece_length), b"pieces");
     Known {
         files,
+        listed,
         length,
         name,
         piece_length,
@@ -52,11 +57,11 @@ pub fn note(text: &[u8], first: usize) -> Known
     }
 }
 
-// The place past the dictionary in which a search stopped: only the entries from there on are passed.
-pub fn close(text: &[u8], sought: Sought) -> Past
-    ensures { λ r. ⌜ ((d : ℕ) → (before : Prev) → (es : Entries) → d ≤ 32 → StandEntries (now (text .entry)) d (stopOf sought) before es → pastPaper r ≡ taken (stopOf sought + length (encodeEntries es))) ⌝ }
+// The place past the dictionary whose entry, or e, stands at `from`: only the entries from there on are passed.
+pub fn close(text: &[u8], from: usize) -> Past
+    ensures { λ r. ⌜ ((d : ℕ) → (before : Prev) → (es : Entries) → d ≤ 32 → StandEntries (now (text .entry)) d from before es → pastPaper r ≡ taken (from + length (encodeEntries es))) ⌝ }
 {
-    let mut p = stop(sought);
+    let mut p = from;
     loop {
         match walk::entry(text, p) {
             Next::Key(_, value) => match walk::skip(text, value) {
@@ -66,5 +71,15 @@ pub fn close(text: &[u8], sought: Sought) -> Past
             Next::Close(past) => return Past::To(past),
             Next::Not(r) => return Past::Bad(r),
         }
+    }
+}
+
+// Where the key after files is sought: past their list, if it was read.
+fn past(files: Sought, listed: Listing) -> usize
+    ensures { λ r. ⌜ r ≡ pastOf files listed ⌝ }
+{
+    match listed {
+        Listing::Are(_, past) => past,
+        Listing::None(_) => stop(files),
     }
 }

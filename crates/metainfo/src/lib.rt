@@ -65,9 +65,22 @@ enum Contents {
     None(Refusal),
 }
 
-// What was found of info's keys.
+// The content by its files, and the place past their list.
+enum Listing {
+    Are(Content, usize),
+    None(Refusal),
+}
+
+// The place of a path's first element, and the place past the path.
+enum Path {
+    Is(usize, usize),
+    Not(Refusal),
+}
+
+// What was found of info's keys; `listed` is what the files are.
 struct Known {
     files: Sought,
+    listed: Listing,
     length: Sought,
     name: Sought,
     piece_length: Sought,
@@ -123,7 +136,7 @@ pub fn file_at(text: &[u8], at: usize) -> Filed
     ensures { λ r. ⌜ filePaper r ≡ fileAt (now (text .entry)) at ⌝ }
 {
     match walk::skip(text, at) {
-        Past::To(next) => files::file(text, at, next),
+        Past::To(_) => files::file(text, at),
         Past::Bad(r) => Filed::Not(r),
     }
 }

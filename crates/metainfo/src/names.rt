@@ -1,12 +1,15 @@
 // Names and paths: which bytes may be one, and where they stand.
 ghost use mathlib.Core.Path.{_≡_};
-ghost use Prim.Native.Nat.{ℕ, _≤_};
-ghost use lib.ListN.{drop};
-ghost use Rattle.bencode.specs.Value.{Value, Items};
+ghost use Prim.Native.Nat.{ℕ, _+_, _≤_};
+ghost use lib.ListN.{length, drop};
+ghost use Rattle.refusal.specs.Paper.{map};
+ghost use Rattle.bencode.specs.Value.{Value, Items, encode};
 ghost use Rattle.bencode.specs.Decode.{closes};
 ghost use Rattle.walk.specs.Stands.{Stands, StandItems};
-ghost use Rattle.fields.specs.Looks.{stringPaper, insidePaper};
+ghost use Rattle.fields.specs.Looks.{endingAt, stringPaper, insidePaper};
 ghost use Rattle.metainfo.specs.Rules.{clean, goodName, nameAt, elementsOf, pathAt};
+ghost use Rattle.metainfo.specs.Reading.{pathPaper};
+use crate::Path;
 use fields::Bytes;
 use fields::Inside;
 use refusal::Refusal;
@@ -28,9 +31,9 @@ pub fn name_at(text: &[u8], at: usize) -> Bytes
     }
 }
 
-// A path: the place of its first element, once each is looked at.
-pub fn path_at(text: &[u8], at: usize) -> Inside
-    ensures { λ r. ⌜ ((d : ℕ) → (v : Value) → Stands (now (text .entry)) d at v → insidePaper r ≡ pathAt at v) ⌝ }
+// A path, once each of its elements is looked at.
+pub fn path_at(text: &[u8], at: usize) -> Path
+    ensures { λ r. ⌜ ((d : ℕ) → (v : Value) → Stands (now (text .entry)) d at v → pathPaper r ≡ map (endingAt (at + length (encode v))) (pathAt at v)) ⌝ }
 {
     match fields::list_at(text, at) {
         Inside::At(first) => {
@@ -38,11 +41,11 @@ pub fn path_at(text: &[u8], at: usize) -> Inside
                 return no_path(at);
             }
             match elements(text, first) {
-                Inside::At(_) => Inside::At(first),
-                Inside::None(r) => Inside::None(r),
+                Inside::At(past) => Path::Is(first, past),
+                Inside::None(r) => Path::Not(r),
             }
         }
-        Inside::None(r) => Inside::None(r),
+        Inside::None(r) => Path::Not(r),
     }
 }
 
@@ -56,9 +59,9 @@ pub fn ends(text: &[u8], at: usize) -> bool
     text[at] == b'e'
 }
 
-// The place past the elements of a path.
+// The place past the elements of a path and its e.
 fn elements(text: &[u8], first: usize) -> Inside
-    ensures { λ r. ⌜ ((d : ℕ) → (vs : Items) → StandItems (now (text .entry)) d first vs → insidePaper r ≡ elementsOf first vs) ⌝ }
+    ensures { λ r. ⌜ ((d : ℕ) → (vs : Items) → StandItems (now (text .entry)) d first vs → insidePaper r ≡ map (λ q. q + 1) (elementsOf first vs)) ⌝ }
 {
     let mut p = first;
     loop {
@@ -70,7 +73,7 @@ fn elements(text: &[u8], first: usize) -> Inside
                     return bad_element(number::NAME, p);
                 }
             }
-            Seen::End(_) => return Inside::At(p),
+            Seen::End(past) => return Inside::At(past),
             Seen::Refused(r) => return Inside::None(r),
             Seen::Integer(_, _) => return bad_element(number::KIND, p),
             Seen::Long(_, _) => return bad_element(number::KIND, p),
@@ -132,10 +135,13 @@ fn bad_name(at: usize) -> Bytes
     })
 }
 
-fn no_path(at: usize) -> Inside
-    ensures { λ r. ⌜ r ≡ Inside.None (record { number = 13; place = at }) ⌝ }
+fn no_path(at: usize) -> Path
+    ensures { λ r. ⌜ r ≡ Path.Not (record { number = 13; place = at }) ⌝ }
 {
-    bad_element(number::NAME, at)
+    Path::Not(Refusal {
+        number: number::NAME,
+        place: at,
+    })
 }
 
 fn bad_element(number: u8, at: usize) -> Inside

@@ -142,3 +142,54 @@ resumes s d p before (entry j v es) k t = go (resumes s d (p + length (written j
     go r true x b y = rw x (record { before = r .before; left = r .left; stands = r .stands; same = λ later h. r .same later h ∙ (let z = same-not j later (key-less j k later x h) in rw z) })
     go r false x true y = rw (x, y) (record { before = before; left = entry j v es; stands = t; same = λ later h. refl })
     go r false x false y = rw (x, y) (record { before = before; left = entry j v es; stands = t; same = λ later h. refl })
+
+-- ---- past a value that was found
+
+pub entry-length : (j : List ℕ) (v : Value) (es : Entries) → length (encodeEntries (entry j v es)) ≡ length (written j) + (length (encode v) + length (encodeEntries es))
+unfolding encode
+entry-length j v es = length-append (written j) (encode v ++ encodeEntries es) ∙ ap (λ (n : ℕ). length (written j) + n) (length-append (encode v) (encodeEntries es))
+
+-- what is left past v, which stands at q under k: all later keys, up to the same end
+pub record Beyond (s : List ℕ) (d p : ℕ) (es : Entries) (k : List ℕ) (q : ℕ) (v : Value) : Type 0 where
+  pub left : Entries
+  pub stands : StandEntries s d (q + length (encode v)) (last k) left
+  pub same : (later : List ℕ) → keyLt k later ≡ true → lookup (q + length (encode v)) left later ≡ lookup p es later
+  pub ends : q + length (encode v) + length (encodeEntries left) ≡ p + length (encodeEntries es)
+
+pub beyond : (s : List ℕ) (d p : ℕ) (before : Prev) (es : Entries) (k : List ℕ) → StandEntries s d p before es → (q : ℕ) (v : Value) → lookup p es k ≡ under q v → Beyond s d p es k q v
+unfolding lookup
+beyond s d p before empty k t q v e = no-way (cc)
+beyond s d p before (entry j w es) k t q v e =
+    let n = entries-next s d p before j w es t in
+    go (sameKey j k) refl e (n .others) (λ f. beyond s d (p + length (written j) + length (encode w)) (last j) es k (n .others) q v f)
+  where
+    -- a key that is found after j is not before it
+    not-here : lookup (p + length (written j) + length (encode w)) es k ≡ under q v → KeepsEntries es d (last j) → (later : List ℕ) → keyLt k later ≡ true → (b : Bool) → sameKey j later ≡ b → b ≡ false
+    not-here f h later i true g =
+        let x = same-true j later g in
+        let y : keyLt k j ≡ true = rw x i in
+        let z = lookup-none (p + length (written j) + length (encode w)) es j k d h y in
+        no-way (cc)
+    not-here f h later i false g = refl
+
+    go : (b : Bool) → sameKey j k ≡ b → cond b (under (p + length (written j)) w) (lookup (p + length (written j) + length (encode w)) es k) ≡ under q v
+        → StandEntries s d (p + length (written j) + length (encode w)) (last j) es
+        → (lookup (p + length (written j) + length (encode w)) es k ≡ under q v → Beyond s d (p + length (written j) + length (encode w)) es k q v) → Beyond s d p (entry j w es) k q v
+    go true g f o r =
+        let x : p + length (written j) ≡ q = cc in
+        let y : w ≡ v = cc in
+        let z : j ≡ k = same-true j k g in
+        rw (← x, ← y, ← z) (record {
+          left = es;
+          stands = o;
+          same = λ later i. (let m = same-not j later i in rw m);
+          ends = omega (arith, entry-length j w es);
+        })
+    go false g f o r =
+        let m = r f in
+        record {
+          left = m .left;
+          stands = m .stands;
+          same = λ later i. m .same later i ∙ (let n = not-here f (o .keeps) later i (sameKey j later) refl in rw n);
+          ends = m .ends ∙ omega (arith, entry-length j w es);
+        }

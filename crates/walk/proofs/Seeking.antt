@@ -6,8 +6,8 @@ use Prim.Native.Nat.{ℕ, zero, suc, _+_, _-_, _<_, _≤_, pred}
 use native.Mathlib.Omega.{arith}
 use lib.Dec.{ltb, eqb}
 use lib.IntN.{ℤ}
-use lib.ListN.{length, take, drop, length-append, length-drop, drop-of-length-le}
-use borrow.Author.Tests.{ltb-true, ltb-false}
+use lib.ListN.{length, getD, take, drop, length-append, length-drop, drop-of-length-le}
+use borrow.Author.Tests.{lt-ltb, le-ltb, ltb-true, ltb-false}
 use Rattle.refusal.specs.Paper.{Outcome, taken, refused, refusal, then}
 use Rattle.refusal.specs.Numbers.{cut}
 use Rattle.refusal.specs.declared.Refusal.{Refusal}
@@ -16,10 +16,14 @@ use Rattle.scalar.specs.Reading.{Got, got, bad, onHead, stringAt, integerAt}
 use Rattle.scalar.proofs.Sound.{Holds, by-cond, at-left, TextP, string-at-sound}
 use Rattle.bencode.proofs.Complete.{encode-pos}
 use Rattle.bencode.specs.Value.{encode}
-use Rattle.walk.specs.Walk.{Head, string, integer, long, list, dictionary, end, stringHead, integerHead, stringSeen, integerSeen, lookAt, lookOf, Due, key, close, dueOf, entryPaper, entryOf, pastPaper, skipOf, Hit, found, missing, seekBy, seekOf}
+use Rattle.scalar.proofs.Keys.{Comparing, comparing-less, comparing-greater, comparing-long, comparing-short}
+use Rattle.scalar.proofs.Ordering.{key-same}
+use Rattle.walk.specs.Walk.{Head, string, integer, long, list, dictionary, end, stringHead, integerHead, stringSeen, integerSeen, lookAt, lookOf, Due, key, close, dueOf, entryPaper, entryOf, pastPaper, skipOf, Hit, found, missing, orderOf, seekBy, seekOf}
 use Rattle.walk.specs.declared.Part.{Part}
 use Rattle.walk.specs.declared.Next.{Next}
 use Rattle.walk.specs.declared.Next.the-variants.{Key, Close, Not}
+use Rattle.walk.specs.declared.Order.{Order}
+use Rattle.walk.specs.declared.Order.the-variants.{Before, Same, After}
 use Rattle.walk.specs.declared.Past.{Past}
 use Rattle.walk.specs.declared.Past.the-variants.{To, Bad}
 use Rattle.walk.proofs.Standing.{room, skip-stands}
@@ -87,6 +91,61 @@ skip-further s p q e =
     let r = room s p (encode (v .0)) (v .1 .rest) (v .1 .inside) (v .1 .text) in
     (omega (arith, v .2, encode-pos (v .0)), omega (arith, v .2))
 
+-- ---- two keys
+
+no-way : {A : Type 0} → _≡_ {A = ℕ} 0 1 → A
+no-way e = absurd (omega arith)
+
+module _ (a b : List ℕ) where
+  as-before : true ≡ keyLt a b → Before ≡ orderOf a b
+  as-before e = rw (← e)
+
+  as-after : false ≡ keyLt a b → true ≡ keyLt b a → After ≡ orderOf a b
+  as-after e f = rw (← e, ← f)
+
+  as-same : false ≡ keyLt a b → false ≡ keyLt b a → Same ≡ orderOf a b
+  as-same e f = rw (← e, ← f)
+
+  module _ {i : ℕ} (c : Comparing a b i) (d : Comparing b a i) where
+    pub compare-less : i < length a → i < length b → getD a i 0 < getD b i 0 → Before ≡ orderOf a b
+    compare-less h k x = as-before (comparing-less a b c h k x)
+
+    pub compare-greater : i < length a → i < length b → getD b i 0 < getD a i 0 → After ≡ orderOf a b
+    compare-greater h k x = as-after (comparing-greater a b c h k (omega arith) x) (comparing-less b a d k h x)
+
+    pub compare-long : i < length a → length b ≤ i → After ≡ orderOf a b
+    compare-long h k = as-after (comparing-long a b c h k) (sym (lt-ltb (length b) (length a) (omega arith)) ∙ comparing-short b a d k)
+
+    pub compare-short : length a ≤ i → length a < length b → Before ≡ orderOf a b
+    compare-short h k = as-before (sym (lt-ltb (length a) (length b) k) ∙ comparing-short a b c h)
+
+    pub compare-same : length a ≤ i → length b ≤ length a → Same ≡ orderOf a b
+    compare-same h k = as-same (sym (le-ltb (length a) (length b) k) ∙ comparing-short a b c h) (sym (le-ltb (length b) (length a) (omega (arith, d .within))) ∙ comparing-short b a d (omega (arith, d .within)))
+
+  is-before : Before ≡ orderOf a b → keyLt a b ≡ true
+  is-before e = go (keyLt a b) (keyLt b a) refl e
+    where
+      go : (x y : Bool) → keyLt a b ≡ x → Before ≡ cond x Before (cond y After Same) → x ≡ true
+      go true y f g = refl
+      go false true f g = no-way (cc)
+      go false false f g = no-way (cc)
+
+  is-same : Same ≡ orderOf a b → (keyLt a b ≡ false) × (keyLt b a ≡ false)
+  is-same e = go (keyLt a b) (keyLt b a) e
+    where
+      go : (x y : Bool) → Same ≡ cond x Before (cond y After Same) → (x ≡ false) × (y ≡ false)
+      go true y g = no-way (cc)
+      go false true g = no-way (cc)
+      go false false g = (refl, refl)
+
+  is-after : After ≡ orderOf a b → (keyLt a b ≡ false) × (keyLt b a ≡ true)
+  is-after e = go (keyLt a b) (keyLt b a) e
+    where
+      go : (x y : Bool) → After ≡ cond x Before (cond y After Same) → (x ≡ false) × (y ≡ true)
+      go true y g = no-way (cc)
+      go false true g = (refl, refl)
+      go false false g = no-way (cc)
+
 module _ (s k : List ℕ) where
   -- one turn of the search
   seek-open : (f p : ℕ) → length s < p + f → seekOf f s p k ≡ then (entryOf s p) (seekBy s p k (λ q. seekOf (pred f) s q k))
@@ -117,20 +176,23 @@ module _ (s k : List ℕ) where
       at-key : cond (keyLt here k) (then (skipOf s q) (λ r. seekOf (pred (t .left)) s r k)) (taken (cond (keyLt k here) (missing p) (found p q))) ≡ seekOf (suc (length s)) s at k
       at-key = rw h (turn (entryPaper (Key j q)) e)
 
-      pub seek-reached : keyLt here k ≡ false → taken (cond (keyLt k here) (missing p) (found p q)) ≡ seekOf (suc (length s)) s at k
-      seek-reached x = rw x at at-key
+      pub seek-found : Same ≡ orderOf here k → taken (found p q) ≡ seekOf (suc (length s)) s at k
+      seek-found x = (rw (is-same here k x .0, is-same here k x .1) at at-key)
+
+      pub seek-passed : After ≡ orderOf here k → taken (missing p) ≡ seekOf (suc (length s)) s at k
+      seek-passed x = (rw (is-after here k x .0, is-after here k x .1) at at-key)
 
       on : keyLt here k ≡ true → then (skipOf s q) (λ r. seekOf (pred (t .left)) s r k) ≡ seekOf (suc (length s)) s at k
       on x = rw x at at-key
 
-      pub seek-unread : keyLt here k ≡ true → (r : Refusal) → pastPaper (Bad r) ≡ skipOf s q → refusal r ≡ seekOf (suc (length s)) s at k
-      seek-unread x r y = ap (λ (o : Outcome ℕ). then o (λ i. seekOf (pred (t .left)) s i k)) y ∙ on x
+      pub seek-unread : Before ≡ orderOf here k → (r : Refusal) → pastPaper (Bad r) ≡ skipOf s q → refusal r ≡ seekOf (suc (length s)) s at k
+      seek-unread x r y = ap (λ (o : Outcome ℕ). then o (λ i. seekOf (pred (t .left)) s i k)) y ∙ on (is-before here k x)
 
-      pub seek-more : keyLt here k ≡ true → (next : ℕ) → pastPaper (To next) ≡ skipOf s q → (p < next) × (next ≤ length s) × Seeking at next
+      pub seek-more : Before ≡ orderOf here k → (next : ℕ) → pastPaper (To next) ≡ skipOf s q → (p < next) × (next ≤ length s) × Seeking at next
       seek-more x next y =
           let a = key-further s p (j .from) (j .len) q (sym e) in
           let b = skip-further s q next (sym y) in (
             omega arith,
             b .1,
-            record { left = pred (t .left); enough = omega (arith, t .enough); same = ap (λ (o : Outcome ℕ). then o (λ i. seekOf (pred (t .left)) s i k)) y ∙ on x },
+            record { left = pred (t .left); enough = omega (arith, t .enough); same = ap (λ (o : Outcome ℕ). then o (λ i. seekOf (pred (t .left)) s i k)) y ∙ on (is-before here k x) },
           )

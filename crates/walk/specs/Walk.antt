@@ -19,6 +19,8 @@ use Rattle.walk.specs.declared.Next.{Next}
 use Rattle.walk.specs.declared.Next.the-variants.{Key, Close, Not}
 use Rattle.walk.specs.declared.Sought.{Sought}
 use Rattle.walk.specs.declared.Sought.the-variants.{Found, Missing, Unread}
+use Rattle.walk.specs.declared.Order.{Order}
+use Rattle.walk.specs.declared.Order.the-variants.{Before, Same, After}
 use Rattle.walk.specs.declared.Past.{Past}
 use Rattle.walk.specs.declared.Past.the-variants.{To, Bad}
 
@@ -111,6 +113,10 @@ abbrev pub seekPaper : Sought → Outcome Hit
 seekPaper (Found p q) = taken (found p q)
 seekPaper (Missing p) = taken (missing p)
 seekPaper (Unread r) = refusal r
+
+-- how a key stands to another
+abbrev pub orderOf : List ℕ → List ℕ → Order
+orderOf j k = cond (keyLt j k) Before (cond (keyLt k j) After Same)
 
 -- the search for k at the entry that stands at p, with `on` for the search from a later place
 abbrev pub seekBy : List ℕ → ℕ → List ℕ → (ℕ → Outcome Hit) → Due → Outcome Hit

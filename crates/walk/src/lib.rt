@@ -1,12 +1,9 @@
 // A walk over a bencode text: what stands at a place, and where the next thing stands. Every call answers for any text
 // and any place; on a text that `bencode::check` has taken, what it tells is the text's value, part by part.
 ghost use mathlib.Core.Path.{_≡_};
-ghost use mathlib.Core.Bool.{cond};
 ghost use Prim.Native.Nat.{ℕ, suc, _+_, _-_, _≤_, min};
-ghost use Rattle.refusal.specs.Paper.{taken};
-ghost use Rattle.scalar.specs.Written.{keyLt};
 ghost use lib.ListN.{length, take, drop};
-ghost use Rattle.walk.specs.Walk.{paper, stringSeen, integerSeen, lookOf, entryPaper, entryOf, pastPaper, skipOf, seekPaper, seekOf, found, missing};
+ghost use Rattle.walk.specs.Walk.{paper, stringSeen, integerSeen, lookOf, entryPaper, entryOf, pastPaper, skipOf, seekPaper, seekOf, orderOf};
 use bencode::Cursor;
 use bencode::Step;
 use refusal::Refusal;
@@ -52,6 +49,13 @@ pub enum Sought {
 pub enum Past {
     To(usize),
     Bad(Refusal),
+}
+
+// How one key stands to another.
+enum Order {
+    Before,
+    Same,
+    After,
 }
 
 // What stands at a place.
@@ -100,17 +104,14 @@ pub fn seek(text: &[u8], at: usize, key: &[u8]) -> Sought
     let mut p = at;
     loop {
         match entry(text, p) {
-            Next::Key(k, value) => {
-                let here = bytes(text, k);
-                if scalar::precedes(here, key) {
-                    match skip(text, value) {
-                        Past::To(next) => p = next,
-                        Past::Bad(r) => return Sought::Unread(r),
-                    }
-                } else {
-                    return reached(here, key, p, value);
-                }
-            }
+            Next::Key(k, value) => match compare(bytes(text, k), key) {
+                Order::Before => match skip(text, value) {
+                    Past::To(next) => p = next,
+                    Past::Bad(r) => return Sought::Unread(r),
+                },
+                Order::Same => return Sought::Found(p, value),
+                Order::After => return Sought::Missing(p),
+            },
             Next::Close(_) => return Sought::Missing(p),
             Next::Not(r) => return Sought::Unread(r),
         }
@@ -178,15 +179,29 @@ fn refused(number: u8, place: usize) -> Seen
     Seen::Refused(Refusal { number, place })
 }
 
-// A key that is not before the sought one is that one, or after it.
-fn reached(here: &[u8], key: &[u8], at: usize, value: usize) -> Sought
-    ensures { λ r. ⌜ seekPaper r ≡ taken (cond (keyLt (now (key .entry)) (now (here .entry))) (missing at) (found at value)) ⌝ }
+// Two keys, by one pass over their bytes.
+fn compare(a: &[u8], b: &[u8]) -> Order
+    ensures { λ r. ⌜ r ≡ orderOf (now (a .entry)) (now (b .entry)) ⌝ }
 {
-    if scalar::precedes(key, here) {
-        Sought::Missing(at)
-    } else {
-        Sought::Found(at, value)
+    let mut i = 0;
+    while i < a.len() {
+        if b.len() <= i {
+            return Order::After;
+        }
+        let x = a[i];
+        let y = b[i];
+        if x < y {
+            return Order::Before;
+        }
+        if y < x {
+            return Order::After;
+        }
+        i += 1;
     }
+    if a.len() < b.len() {
+        return Order::Before;
+    }
+    Order::Same
 }
 
 fn no_key(at: usize) -> Next

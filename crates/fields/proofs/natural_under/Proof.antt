@@ -15,8 +15,8 @@ natural-at-requires c κs = search needs
 enum-told : tie.Need-enum-told
 enum-told c = search needs
 
-no-number-requires : tie.Need-no-number-requires
-no-number-requires c κs = search needs
+no-natural-requires : tie.Need-no-natural-requires
+no-natural-requires c κs = search needs
 
 enum-known-sought-2 : tie.Need-enum-known-sought-2
 enum-known-sought-2 c = search needs
@@ -25,7 +25,7 @@ returns : tie.Need-returns
 returns c = (c .natural-at .ensures) ∙ as-found (c .before .before .before .before .before .args .dictionary) (naturalOf (c .before .before .before .before .before .args .most) (c .before .before .before .before .before .args .text .now)) _ _ (c .before .before .sought .given .1)
 
 returns-2 : tie.Need-returns-2
-returns-2 c = ap naturalPaper (c .no-number .ensures) ∙ as-found (c .before .before .before .before .args .dictionary) (naturalOf (c .before .before .before .before .args .most) (c .before .before .before .before .args .text .now)) _ _ (c .before .enum-told .given .1)
+returns-2 c = ap naturalPaper (c .no-natural .ensures) ∙ as-found (c .before .before .before .before .args .dictionary) (naturalOf (c .before .before .before .before .args .most) (c .before .before .before .before .args .text .now)) _ _ (c .before .enum-told .given .1)
 
 returns-3 : tie.Need-returns-3
 returns-3 c = as-found (c .before .before .before .before .args .dictionary) (naturalOf (c .before .before .before .before .args .most) (c .before .before .before .before .args .text .now)) _ _ (c .before .sought2 .given .1)
@@ -37,7 +37,7 @@ natural-under-spec =
     enum-known-sought
     natural-at-requires
     enum-told
-    no-number-requires
+    no-natural-requires
     enum-known-sought-2
     returns
     returns-2

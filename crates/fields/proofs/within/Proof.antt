@@ -9,7 +9,7 @@ use lib.Signed.{ltZ, ltZ-no, yes-nonNeg, natAbs-le}
 use mir.Syntax.{w64}
 use mir.Val.{SFits, toZ, ofZ}
 use mir.ValLaws.{toZ-ofZ}
-use Rattle.fields.specs.Looks.{naturalPaper}
+use Rattle.fields.specs.Looks.{numberPaper}
 use Rattle.fields.proofs.Fitting.{below-zero, too-large, in-range}
 use Rattle.fields.proofs.within.Statement.{statement}
 use Rattle.fields.proofs.within.Tie as tie
@@ -20,7 +20,7 @@ no-number-requires c κs = search needs
 returns : tie.Need-returns
 returns c =
     let e = toZ-ofZ w64 _ (c .before .before .fits .z) in
-    ap naturalPaper (c .no-number .ensures) ∙ below-zero (c .before .before .args .most) (c .before .before .args .at) (c .before .before .args .z) (rw e at (c .before .if1 .taken))
+    ap numberPaper (c .no-number .ensures) ∙ below-zero (c .before .before .args .most) (c .before .before .args .at) (c .before .before .args .past) (c .before .before .args .z) (rw e at (c .before .if1 .taken))
 
 cast-n : tie.Need-cast-n
 cast-n c =
@@ -35,12 +35,12 @@ no-number-requires-2 c κs = search needs
 returns-2 : tie.Need-returns-2
 returns-2 c =
     let e = toZ-ofZ w64 _ (c .before .before .before .fits .z) in
-    ap naturalPaper (c .no-number2 .ensures) ∙ too-large (c .before .before .before .args .most) (c .before .before .before .args .at) (c .before .before .before .args .z) (rw e at (c .before .before .if1 .left)) (rw e at (c .before .if2 .taken))
+    ap numberPaper (c .no-number2 .ensures) ∙ too-large (c .before .before .before .args .most) (c .before .before .before .args .at) (c .before .before .before .args .past) (c .before .before .before .args .z) (rw e at (c .before .before .if1 .left)) (rw e at (c .before .if2 .taken))
 
 returns-3 : tie.Need-returns-3
 returns-3 c =
     let e = toZ-ofZ w64 _ (c .before .before .fits .z) in
-    rw e (in-range (c .before .before .args .most) (c .before .before .args .at) (c .before .before .args .z) (rw e at (c .before .if1 .left)) (rw e at (c .if2 .left)))
+    rw e (in-range (c .before .before .args .most) (c .before .before .args .at) (c .before .before .args .past) (c .before .before .args .z) (rw e at (c .before .if1 .left)) (rw e at (c .if2 .left)))
 
 pub within-spec : {M : Type 1} → statement M
 within-spec =

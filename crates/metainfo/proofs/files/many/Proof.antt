@@ -1,39 +1,29 @@
-use borrow.Author.Needs.{needs}
-use Rattle.fields.specs.Looks.{stringPaper, naturalPaper, insidePaper}
-use Rattle.metainfo.proofs.Filing.{moved, file-none, file-not, file-with, value-past, value-bad, file-past, file-further, Listing, listing-start, listing-end, listing-not, listing-more, many-not, many-with, content-both, content-neither, content-one, content-many}
+use Rattle.metainfo.proofs.Filing.{many-not, many-with}
+use Rattle.metainfo.specs.Reading.{filePaper, contentPaper, listingPaper, pathPaper, filesAt}
+use Rattle.fields.specs.Looks.{stringPaper, naturalPaper, numberPaper, insidePaper}
 use mathlib.Core.Path.{_≡_, refl, sym, ap, _∙_, subst}
+use native.Mathlib.Omega.{arith}
+use borrow.Author.Needs.{needs}
 use Rattle.metainfo.proofs.files.many.Statement.{statement}
 use Rattle.metainfo.proofs.files.many.Tie as tie
-use Rattle.metainfo.proofs.files.many.Reads as reads
-use Rattle.metainfo.proofs.files.many.Lts as lts
-use Rattle.fields.proofs.list_at.Reads as list-at-reads
-use Rattle.metainfo.proofs.files.listed.Reads as listed-reads
 
--- src/files.rt:109:11
 list-at-requires : tie.Need-list-at-requires
 list-at-requires c κs = search needs
 
--- src/files.rt:110:20
 enum-known-first : tie.Need-enum-known-first
 enum-known-first c = search needs
 
--- src/files.rt:110:30
 listed-requires : tie.Need-listed-requires
 listed-requires c κs = search needs
 
--- src/files.rt:111:22
 enum-known-r : tie.Need-enum-known-r
 enum-known-r c = search needs
 
--- src/files.rt:106:1
 returns : tie.Need-returns
 returns c = λ d v l t. many-with (c .before .before .before .before .before .before .args .text .now) (c .before .before .before .before .before .before .args .at) d v l t (c .before .before .first .given .0 .0) (ap insidePaper (sym (c .before .before .first .given .1)) ∙ c .before .before .before .before .list-at .ensures) _ (λ e vs k u. c .listed .ensures e vs k u)
 
--- src/files.rt:106:1
 returns-2 : tie.Need-returns-2
 returns-2 c = λ d v l t. many-not (c .before .before .before .before .before .args .text .now) (c .before .before .before .before .before .args .at) d v t (c .before .r .given .0 .0 .number) (c .before .r .given .0 .0 .place) (ap insidePaper (sym (c .before .r .given .1)) ∙ c .before .before .before .list-at .ensures)
 
 pub many-spec : {M : Type 1} → statement M
-many-spec =
-    tie.close
-    (tie.spec list-at-requires enum-known-first listed-requires enum-known-r returns returns-2)
+many-spec = tie.close (tie.spec list-at-requires enum-known-first listed-requires enum-known-r returns returns-2)

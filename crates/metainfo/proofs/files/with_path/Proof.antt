@@ -1,28 +1,55 @@
-use borrow.Author.Needs.{needs}
-use Rattle.fields.specs.declared.Inside.{Inside}
-use Rattle.refusal.specs.Paper.{Outcome, taken, refused, then, map}
-use Rattle.fields.specs.Looks.{stringPaper, naturalPaper, insidePaper}
+use Rattle.metainfo.proofs.Filing.{rest-missing, rest-unread, rest-not, rest-with}
+use Rattle.metainfo.specs.Reading.{filePaper, contentPaper, listingPaper, pathPaper, filesAt}
 use mathlib.Core.Path.{_≡_, refl, sym, ap, _∙_, subst}
+use native.Mathlib.Omega.{arith}
+use borrow.Author.Needs.{needs}
 use Rattle.metainfo.proofs.files.with_path.Statement.{statement}
 use Rattle.metainfo.proofs.files.with_path.Tie as tie
-use Rattle.metainfo.proofs.files.with_path.Reads as reads
-use Rattle.metainfo.proofs.files.with_path.Lts as lts
 
--- src/files.rt:53:20
-enum-known-path : tie.Need-enum-known-path
-enum-known-path c = search needs
+slice-aggregate-seek : tie.Need-slice-aggregate-seek
+slice-aggregate-seek c = search needs
 
--- src/files.rt:58:22
-enum-known-path-2 : tie.Need-enum-known-path-2
-enum-known-path-2 c = search needs
+seek-requires : tie.Need-seek-requires
+seek-requires c κs = search needs
 
--- src/files.rt:49:1
+enum-known-value : tie.Need-enum-known-value
+enum-known-value c = search needs
+
+path-at-requires : tie.Need-path-at-requires
+path-at-requires c κs = search needs
+
+enum-known-first : tie.Need-enum-known-first
+enum-known-first c = search needs
+
+close-requires : tie.Need-close-requires
+close-requires c κs = search needs
+
+closed-requires : tie.Need-closed-requires
+closed-requires c κs = search needs
+
+enum-known-r : tie.Need-enum-known-r
+enum-known-r c = search needs
+
+enum-told : tie.Need-enum-told
+enum-told c = search needs
+
+no-file-requires : tie.Need-no-file-requires
+no-file-requires c κs = search needs
+
+enum-known-r-2 : tie.Need-enum-known-r-2
+enum-known-r-2 c = search needs
+
 returns : tie.Need-returns
-returns c = ap (λ (w : Inside). then (insidePaper w) (λ a. taken (record { length = c .before .before .before .args .length; path = a; next = c .before .before .before .args .next }))) (sym (c .before .path .given .1))
+returns c = λ d b es l t. c .closed .ensures ∙ rest-with (c .before .before .before .before .before .before .before .before .before .before .before .before .args .text .now) d (c .before .before .before .before .before .before .before .before .before .before .before .before .args .from) b es l t (c .before .before .before .before .before .before .before .before .before .before .before .before .args .at) (c .before .before .before .before .before .before .before .before .before .before .before .before .args .size) (c .before .before .before .before .before .before .before .before .before .seek .result) (c .before .before .before .before .before .before .before .before .before .seek .ensures) (c .before .before .before .before .before .before .before .value .given .0 .0) (c .before .before .before .before .before .before .before .value .given .0 .1 .0) (c .before .before .before .before .before .before .before .value .given .1) (c .before .before .before .first .given .0 .0) (c .before .before .before .first .given .0 .1 .0) (λ e v u. ap pathPaper (sym (c .before .before .before .first .given .1)) ∙ c .before .before .before .before .before .path-at .ensures e v u) _ (λ e p ws k u. c .before .close .ensures e p ws k u)
 
--- src/files.rt:49:1
 returns-2 : tie.Need-returns-2
-returns-2 c = ap (λ (w : Inside). then (insidePaper w) (λ a. taken (record { length = c .before .before .before .args .length; path = a; next = c .before .before .before .args .next }))) (sym (c .before .path2 .given .1))
+returns-2 c = λ d b es l t. rest-not (c .before .before .before .before .before .before .before .before .before .before .args .text .now) d (c .before .before .before .before .before .before .before .before .before .before .args .from) b es l t (c .before .before .before .before .before .before .before .before .before .before .args .at) (c .before .before .before .before .before .before .before .before .before .before .args .size) (c .before .before .before .before .before .before .before .seek .result) (c .before .before .before .before .before .before .before .seek .ensures) (c .before .before .before .before .before .value .given .0 .0) (c .before .before .before .before .before .value .given .0 .1 .0) (c .before .before .before .before .before .value .given .1) (c .before .r .given .0 .0 .number) (c .before .r .given .0 .0 .place) (λ e v u. ap pathPaper (sym (c .before .r .given .1)) ∙ c .before .before .before .path-at .ensures e v u)
+
+returns-3 : tie.Need-returns-3
+returns-3 c = λ d b es l t. ap filePaper (c .no-file .ensures) ∙ rest-missing (c .before .before .before .before .before .before .args .text .now) d (c .before .before .before .before .before .before .args .from) b es l t (c .before .before .before .before .before .before .args .at) (c .before .before .before .before .before .before .args .size) (c .before .before .before .seek .result) (c .before .before .before .seek .ensures) _ (c .before .enum-told .given .1)
+
+returns-4 : tie.Need-returns-4
+returns-4 c = λ d b es l t. rest-unread (c .before .before .before .before .before .before .args .text .now) d (c .before .before .before .before .before .before .args .from) b es l t (c .before .before .before .before .before .before .args .at) (c .before .before .before .before .before .before .args .size) (c .before .before .before .seek .result) (c .before .before .before .seek .ensures) (c .before .r2 .given .1)
 
 pub with-path-spec : {M : Type 1} → statement M
-with-path-spec = tie.close (tie.spec enum-known-path enum-known-path-2 returns returns-2)
+with-path-spec = tie.close (tie.spec slice-aggregate-seek seek-requires enum-known-value path-at-requires enum-known-first close-requires closed-requires enum-known-r enum-told no-file-requires enum-known-r-2 returns returns-2 returns-3 returns-4)

@@ -1,7 +1,7 @@
 use borrow.Author.Needs.{needs}
 use Rattle.metainfo.specs.Rules.{goodName, nameAt, pathAt, pieceLengthAt, oneFile}
 use Rattle.fields.specs.Looks.{stringPaper, naturalPaper, insidePaper}
-use Rattle.metainfo.proofs.Telling.{tells-found, tells-missing, tells-needed, tells-read, tells-place, tell-first, tell-second, shown}
+use Rattle.metainfo.proofs.Telling.{tells-found, tells-missing, tells-needed, tells-read, tells-place, tell-first, tell-second}
 use mathlib.Core.Path.{_≡_, refl, sym, ap, _∙_, subst}
 use Rattle.metainfo.proofs.info.name_under.Statement.{statement}
 use Rattle.metainfo.proofs.info.name_under.Tie as tie

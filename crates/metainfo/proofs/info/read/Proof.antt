@@ -1,152 +1,95 @@
-use borrow.Author.Needs.{needs}
-use Rattle.metainfo.specs.Reading.{contentPaper}
+use Rattle.metainfo.proofs.Closing.{info-part, info-read}
+use Rattle.metainfo.proofs.Informing.{info-name, info-length, info-pieces, info-content, info-sized, informed, pieces-asked, pieces-place}
+use Rattle.metainfo.specs.Noted.{Goes}
 use Rattle.metainfo.specs.Keys.{filesKey, lengthKey, nameKey, pieceLengthKey}
 use Rattle.walk.specs.Lookup.{lookup}
 use Rattle.walk.specs.Walk.{pastPaper}
 use Prim.Native.Nat.{ℕ, _+_}
-use Rattle.fields.specs.Looks.{stringPaper, naturalPaper, insidePaper}
-use Rattle.metainfo.proofs.Informing.{info-name, info-length, info-pieces, info-content, info-sized, informed, pieces-asked, pieces-place, top-announce, top-info, top-read, whole-not, whole-with, read-with, read-not}
-use Rattle.metainfo.proofs.Closing.{info-part, info-read}
+use Rattle.metainfo.specs.Reading.{filePaper, contentPaper, listingPaper, pathPaper, filesAt}
+use Rattle.fields.specs.Looks.{stringPaper, naturalPaper, numberPaper, insidePaper}
 use mathlib.Core.Path.{_≡_, refl, sym, ap, _∙_, subst}
+use native.Mathlib.Omega.{arith}
+use borrow.Author.Needs.{needs}
 use Rattle.metainfo.proofs.info.read.Statement.{statement}
 use Rattle.metainfo.proofs.info.read.Tie as tie
-use Rattle.metainfo.proofs.info.read.Reads as reads
-use Rattle.metainfo.proofs.info.read.Lts as lts
-use Rattle.fields.proofs.string_under.Reads as string-under-reads
-use Rattle.metainfo.proofs.files.content.Reads as content-reads
-use Rattle.metainfo.proofs.info.from_to.Reads as from-to-reads
-use Rattle.metainfo.proofs.info.name_under.Reads as name-under-reads
-use Rattle.metainfo.proofs.info.piece_length_under.Reads as piece-length-under-reads
-use Rattle.metainfo.proofs.info.sized.Reads as sized-reads
-use Rattle.metainfo.proofs.keys.note.Reads as note-reads
-use Rattle.metainfo.proofs.keys.value.Reads as value-reads
 
--- src/info.rt:35:9
 note-requires : tie.Need-note-requires
 note-requires c κs = search needs
 
--- src/info.rt:41:11
 name-under-requires : tie.Need-name-under-requires
 name-under-requires c κs = search needs
 
--- src/info.rt:42:20
 enum-known-name : tie.Need-enum-known-name
 enum-known-name c = search needs
 
--- src/info.rt:42:35
 piece-length-under-requires : tie.Need-piece-length-under-requires
 piece-length-under-requires c κs = search needs
 
--- src/info.rt:43:25
 enum-known-n : tie.Need-enum-known-n
 enum-known-n c = search needs
 
--- src/info.rt:43:37
 string-under-requires : tie.Need-string-under-requires
 string-under-requires c κs = search needs
 
--- src/info.rt:44:28
 enum-known-hashes : tie.Need-enum-known-hashes
 enum-known-hashes c = search needs
 
--- src/info.rt:44:45
 content-requires : tie.Need-content-requires
 content-requires c κs = search needs
 
--- src/info.rt:45:35
 enum-known-c : tie.Need-enum-known-c
 enum-known-c c = search needs
 
--- src/info.rt:45:47
+stop-requires : tie.Need-stop-requires
+stop-requires c κs = search needs
+
 close-requires : tie.Need-close-requires
 close-requires c κs = search needs
 
--- src/info.rt:46:34
 enum-known-end : tie.Need-enum-known-end
 enum-known-end c = search needs
 
--- src/info.rt:46:58
 from-to-requires : tie.Need-from-to-requires
 from-to-requires c κs = search needs
 
--- src/info.rt:46:90
 value-requires : tie.Need-value-requires
 value-requires c κs = search needs
 
--- src/info.rt:46:42
 sized-requires : tie.Need-sized-requires
 sized-requires c κs = search needs
 
--- src/info.rt:47:35
 enum-known-r : tie.Need-enum-known-r
 enum-known-r c = search needs
 
--- src/info.rt:49:36
 enum-known-r-2 : tie.Need-enum-known-r-2
 enum-known-r-2 c = search needs
 
--- src/info.rt:51:31
 enum-known-r-3 : tie.Need-enum-known-r-3
 enum-known-r-3 c = search needs
 
--- src/info.rt:53:26
 enum-known-r-4 : tie.Need-enum-known-r-4
 enum-known-r-4 c = search needs
 
--- src/info.rt:55:23
 enum-known-r-5 : tie.Need-enum-known-r-5
 enum-known-r-5 c = search needs
 
--- src/info.rt:32:1
 returns : tie.Need-returns
-returns c = λ d es l t e. let i = informed (c .before .before .before .before .before .before .before .before .before .before .before .before .before .before .before .before .before .before .before .before .before .before .before .before .before .args .text .now) d (c .before .before .before .before .before .before .before .before .before .before .before .before .before .before .before .before .before .before .before .before .before .before .before .before .before .args .at) (c .before .before .before .before .before .before .before .before .before .before .before .before .before .before .before .before .before .before .before .before .before .before .before .before .before .args .first) es l t e (c .before .before .before .before .before .before .before .before .before .before .before .before .before .before .before .before .before .before .before .before .before .before .before .note .result) (c .before .before .before .before .before .before .before .before .before .before .before .before .before .before .before .before .before .before .before .before .before .before .before .note .ensures) in c .sized .ensures ∙ info-sized (c .before .before .before .before .before .before .before .before .before .before .before .before .before .before .before .before .before .before .before .before .before .before .before .before .before .args .announce) (c .before .before .before .before .before .before .before .before .before .before .before .before .before .before .before .before .before .before .before .before .before .before .before .before .before .args .at) es (c .before .before .before .before .before .before .before .before .before .before .before .before .before .before .before .before .before .before .before .before .name .given .0 .0) (ap stringPaper (sym (c .before .before .before .before .before .before .before .before .before .before .before .before .before .before .before .before .before .before .before .before .name .given .1)) ∙ c .before .before .before .before .before .before .before .before .before .before .before .before .before .before .before .before .before .before .before .before .before .before .name-under .ensures (i .deep) (lookup (c .before .before .before .before .before .before .before .before .before .before .before .before .before .before .before .before .before .before .before .before .before .before .before .before .before .args .at + 1) es nameKey) (i .name)) (c .before .before .before .before .before .before .before .before .before .before .before .before .before .before .before .before .n .given .0 .0) (ap naturalPaper (sym (c .before .before .before .before .before .before .before .before .before .before .before .before .before .before .before .before .n .given .1)) ∙ c .before .before .before .before .before .before .before .before .before .before .before .before .before .before .before .before .before .before .piece-length-under .ensures (i .deep) (lookup (c .before .before .before .before .before .before .before .before .before .before .before .before .before .before .before .before .before .before .before .before .before .before .before .before .before .args .at + 1) es pieceLengthKey) (i .piece)) (c .before .before .before .before .before .before .before .before .before .before .before .before .hashes .given .0 .0) (ap stringPaper (sym (c .before .before .before .before .before .before .before .before .before .before .before .before .hashes .given .1)) ∙ c .before .before .before .before .before .before .before .before .before .before .before .before .before .before .string-under .ensures ∙ pieces-asked (c .before .before .before .before .before .before .before .before .before .before .before .before .before .before .before .before .before .before .before .before .before .before .before .before .before .args .text .now) (c .before .before .before .before .before .before .before .before .before .before .before .before .before .before .before .before .before .before .before .before .before .before .before .before .before .args .at) es (c .before .before .before .before .before .before .before .before .before .before .before .before .before .before .before .before .before .before .before .before .before .before .before .note .result) i) (c .before .before .from-to .result) (c .before .value .result) (c .before .before .before .before .before .before .before .before .c .given .0 .0) (c .before .before .from-to .ensures ∙ info-part (c .before .before .before .before .before .before .before .before .before .before .before .before .before .before .before .before .before .before .before .before .before .before .before .before .before .args .text .now) d (c .before .before .before .before .before .before .before .before .before .before .before .before .before .before .before .before .before .before .before .before .before .before .before .before .before .args .at) (c .before .before .before .before .before .before .before .before .before .before .before .before .before .before .before .before .before .before .before .before .before .before .before .before .before .args .first) es l t e (c .before .before .before .before .before .before .before .before .before .before .before .before .before .before .before .before .before .before .before .before .before .before .before .note .result) (c .before .before .before .before .before .before .before .before .before .before .before .before .before .before .before .before .before .before .before .before .before .before .before .note .ensures) (pastPaper (c .before .before .before .before .before .before .close .result)) (λ f b ws g u. c .before .before .before .before .before .before .close .ensures f b ws g u) (c .before .before .before .before .end .given .0 .0) (ap pastPaper (sym (c .before .before .before .before .end .given .1)))) (c .before .value .ensures ∙ pieces-place (c .before .before .before .before .before .before .before .before .before .before .before .before .before .before .before .before .before .before .before .before .before .before .before .before .before .args .text .now) (c .before .before .before .before .before .before .before .before .before .before .before .before .before .before .before .before .before .before .before .before .before .before .before .before .before .args .at) es (c .before .before .before .before .before .before .before .before .before .before .before .before .before .before .before .before .before .before .before .before .before .before .before .note .result) i) (ap contentPaper (sym (c .before .before .before .before .before .before .before .before .c .given .1)) ∙ c .before .before .before .before .before .before .before .before .before .before .content .ensures (i .deep) (lookup (c .before .before .before .before .before .before .before .before .before .before .before .before .before .before .before .before .before .before .before .before .before .before .before .before .before .args .at + 1) es lengthKey) (lookup (c .before .before .before .before .before .before .before .before .before .before .before .before .before .before .before .before .before .before .before .before .before .before .before .before .before .args .at + 1) es filesKey) (i .levels) (i .length) (i .files))
+returns c = λ d es l t e. let i = informed (c .before .before .before .before .before .before .before .before .before .before .before .before .before .before .before .before .before .before .before .before .before .before .before .before .before .before .args .text .now) d (c .before .before .before .before .before .before .before .before .before .before .before .before .before .before .before .before .before .before .before .before .before .before .before .before .before .before .args .at) (c .before .before .before .before .before .before .before .before .before .before .before .before .before .before .before .before .before .before .before .before .before .before .before .before .before .before .args .first) es l t e (c .before .before .before .before .before .before .before .before .before .before .before .before .before .before .before .before .before .before .before .before .before .before .before .before .note .result) (λ f b ws g u. c .before .before .before .before .before .before .before .before .before .before .before .before .before .before .before .before .before .before .before .before .before .before .before .before .note .ensures f b ws g u) in c .sized .ensures ∙ info-sized (c .before .before .before .before .before .before .before .before .before .before .before .before .before .before .before .before .before .before .before .before .before .before .before .before .before .before .args .announce) (c .before .before .before .before .before .before .before .before .before .before .before .before .before .before .before .before .before .before .before .before .before .before .before .before .before .before .args .at) es (c .before .before .before .before .before .before .before .before .before .before .before .before .before .before .before .before .before .before .before .before .before .name .given .0 .0) (ap stringPaper (sym (c .before .before .before .before .before .before .before .before .before .before .before .before .before .before .before .before .before .before .before .before .before .name .given .1)) ∙ c .before .before .before .before .before .before .before .before .before .before .before .before .before .before .before .before .before .before .before .before .before .before .before .name-under .ensures (i .deep) (lookup (c .before .before .before .before .before .before .before .before .before .before .before .before .before .before .before .before .before .before .before .before .before .before .before .before .before .before .args .at + 1) es nameKey) (i .noted .name)) (c .before .before .before .before .before .before .before .before .before .before .before .before .before .before .before .before .before .n .given .0 .0) (ap naturalPaper (sym (c .before .before .before .before .before .before .before .before .before .before .before .before .before .before .before .before .before .n .given .1)) ∙ c .before .before .before .before .before .before .before .before .before .before .before .before .before .before .before .before .before .before .before .piece-length-under .ensures (i .deep) (lookup (c .before .before .before .before .before .before .before .before .before .before .before .before .before .before .before .before .before .before .before .before .before .before .before .before .before .before .args .at + 1) es pieceLengthKey) (i .noted .piece)) (c .before .before .before .before .before .before .before .before .before .before .before .before .before .hashes .given .0 .0) (ap stringPaper (sym (c .before .before .before .before .before .before .before .before .before .before .before .before .before .hashes .given .1)) ∙ c .before .before .before .before .before .before .before .before .before .before .before .before .before .before .before .string-under .ensures ∙ pieces-asked (c .before .before .before .before .before .before .before .before .before .before .before .before .before .before .before .before .before .before .before .before .before .before .before .before .before .before .args .text .now) (c .before .before .before .before .before .before .before .before .before .before .before .before .before .before .before .before .before .before .before .before .before .before .before .before .before .before .args .at) es (c .before .before .before .before .before .before .before .before .before .before .before .before .before .before .before .before .before .before .before .before .before .before .before .before .note .result) i) (c .before .before .from-to .result) (c .before .value .result) (c .before .before .before .before .before .before .before .before .before .c .given .0 .0) (c .before .before .from-to .ensures ∙ info-part (c .before .before .before .before .before .before .before .before .before .before .before .before .before .before .before .before .before .before .before .before .before .before .before .before .before .before .args .text .now) (i .deep) (c .before .before .before .before .before .before .before .before .before .before .before .before .before .before .before .before .before .before .before .before .before .before .before .before .before .before .args .at) (c .before .before .before .before .before .before .before .stop .result) es (i .levels) (subst (Goes (c .before .before .before .before .before .before .before .before .before .before .before .before .before .before .before .before .before .before .before .before .before .before .before .before .before .before .args .text .now) (i .deep) (c .before .before .before .before .before .before .before .before .before .before .before .before .before .before .before .before .before .before .before .before .before .before .before .before .before .before .args .at + 1) es) (sym (c .before .before .before .before .before .before .before .stop .ensures)) (i .noted .close)) (pastPaper (c .before .before .before .before .before .before .close .result)) (λ f b ws g u. c .before .before .before .before .before .before .close .ensures f b ws g u) (c .before .before .before .before .end .given .0 .0) (ap pastPaper (sym (c .before .before .before .before .end .given .1)))) (c .before .value .ensures ∙ pieces-place (c .before .before .before .before .before .before .before .before .before .before .before .before .before .before .before .before .before .before .before .before .before .before .before .before .before .before .args .text .now) (c .before .before .before .before .before .before .before .before .before .before .before .before .before .before .before .before .before .before .before .before .before .before .before .before .before .before .args .at) es (c .before .before .before .before .before .before .before .before .before .before .before .before .before .before .before .before .before .before .before .before .before .before .before .before .note .result) i) (ap contentPaper (sym (c .before .before .before .before .before .before .before .before .before .c .given .1)) ∙ c .before .before .before .before .before .before .before .before .before .before .before .content .ensures (i .deep) (lookup (c .before .before .before .before .before .before .before .before .before .before .before .before .before .before .before .before .before .before .before .before .before .before .before .before .before .before .args .at + 1) es lengthKey) (lookup (c .before .before .before .before .before .before .before .before .before .before .before .before .before .before .before .before .before .before .before .before .before .before .before .before .before .before .args .at + 1) es filesKey) (i .levels) (i .noted .length) (i .noted .files) (i .noted .listed))
 
--- src/info.rt:32:1
 returns-2 : tie.Need-returns-2
-returns-2 c = λ d es l t e. info-read (c .before .before .before .before .before .before .before .before .before .before .before .before .before .before .before .before .before .before .before .before .before .before .args .text .now) d (c .before .before .before .before .before .before .before .before .before .before .before .before .before .before .before .before .before .before .before .before .before .before .args .at) (c .before .before .before .before .before .before .before .before .before .before .before .before .before .before .before .before .before .before .before .before .before .before .args .first) es l t e (c .before .before .before .before .before .before .before .before .before .before .before .before .before .before .before .before .before .before .before .before .note .result) (c .before .before .before .before .before .before .before .before .before .before .before .before .before .before .before .before .before .before .before .before .note .ensures) (pastPaper (c .before .before .before .close .result)) (λ f b ws g u. c .before .before .before .close .ensures f b ws g u) (c .before .r .given .0 .0 .number) (c .before .r .given .0 .0 .place) (ap pastPaper (sym (c .before .r .given .1)))
+returns-2 c = λ d es l t e. let i = informed (c .before .before .before .before .before .before .before .before .before .before .before .before .before .before .before .before .before .before .before .before .before .before .before .args .text .now) d (c .before .before .before .before .before .before .before .before .before .before .before .before .before .before .before .before .before .before .before .before .before .before .before .args .at) (c .before .before .before .before .before .before .before .before .before .before .before .before .before .before .before .before .before .before .before .before .before .before .before .args .first) es l t e (c .before .before .before .before .before .before .before .before .before .before .before .before .before .before .before .before .before .before .before .before .before .note .result) (λ f b ws g u. c .before .before .before .before .before .before .before .before .before .before .before .before .before .before .before .before .before .before .before .before .before .note .ensures f b ws g u) in info-read (c .before .before .before .before .before .before .before .before .before .before .before .before .before .before .before .before .before .before .before .before .before .before .before .args .text .now) (i .deep) (c .before .before .before .before .before .before .before .before .before .before .before .before .before .before .before .before .before .before .before .before .before .before .before .args .at) (c .before .before .before .before .stop .result) es (i .levels) (subst (Goes (c .before .before .before .before .before .before .before .before .before .before .before .before .before .before .before .before .before .before .before .before .before .before .before .args .text .now) (i .deep) (c .before .before .before .before .before .before .before .before .before .before .before .before .before .before .before .before .before .before .before .before .before .before .before .args .at + 1) es) (sym (c .before .before .before .before .stop .ensures)) (i .noted .close)) (pastPaper (c .before .before .before .close .result)) (λ f b ws g u. c .before .before .before .close .ensures f b ws g u) (c .before .r .given .0 .0 .number) (c .before .r .given .0 .0 .place) (ap pastPaper (sym (c .before .r .given .1)))
 
--- src/info.rt:32:1
 returns-3 : tie.Need-returns-3
-returns-3 c = λ d es l t e. let i = informed (c .before .before .before .before .before .before .before .before .before .before .before .before .before .before .before .before .before .before .args .text .now) d (c .before .before .before .before .before .before .before .before .before .before .before .before .before .before .before .before .before .before .args .at) (c .before .before .before .before .before .before .before .before .before .before .before .before .before .before .before .before .before .before .args .first) es l t e (c .before .before .before .before .before .before .before .before .before .before .before .before .before .before .before .before .note .result) (c .before .before .before .before .before .before .before .before .before .before .before .before .before .before .before .before .note .ensures) in info-content (c .before .before .before .before .before .before .before .before .before .before .before .before .before .before .before .before .before .before .args .announce) (c .before .before .before .before .before .before .before .before .before .before .before .before .before .before .before .before .before .before .args .at) es (c .before .before .before .before .before .before .before .before .before .before .before .before .before .name .given .0 .0) (ap stringPaper (sym (c .before .before .before .before .before .before .before .before .before .before .before .before .before .name .given .1)) ∙ c .before .before .before .before .before .before .before .before .before .before .before .before .before .before .before .name-under .ensures (i .deep) (lookup (c .before .before .before .before .before .before .before .before .before .before .before .before .before .before .before .before .before .before .args .at + 1) es nameKey) (i .name)) (c .before .before .before .before .before .before .before .before .before .n .given .0 .0) (ap naturalPaper (sym (c .before .before .before .before .before .before .before .before .before .n .given .1)) ∙ c .before .before .before .before .before .before .before .before .before .before .before .piece-length-under .ensures (i .deep) (lookup (c .before .before .before .before .before .before .before .before .before .before .before .before .before .before .before .before .before .before .args .at + 1) es pieceLengthKey) (i .piece)) (c .before .before .before .before .before .hashes .given .0 .0) (ap stringPaper (sym (c .before .before .before .before .before .hashes .given .1)) ∙ c .before .before .before .before .before .before .before .string-under .ensures ∙ pieces-asked (c .before .before .before .before .before .before .before .before .before .before .before .before .before .before .before .before .before .before .args .text .now) (c .before .before .before .before .before .before .before .before .before .before .before .before .before .before .before .before .before .before .args .at) es (c .before .before .before .before .before .before .before .before .before .before .before .before .before .before .before .before .note .result) i) (c .before .r2 .given .0 .0 .number) (c .before .r2 .given .0 .0 .place) (ap contentPaper (sym (c .before .r2 .given .1)) ∙ c .before .before .before .content .ensures (i .deep) (lookup (c .before .before .before .before .before .before .before .before .before .before .before .before .before .before .before .before .before .before .args .at + 1) es lengthKey) (lookup (c .before .before .before .before .before .before .before .before .before .before .before .before .before .before .before .before .before .before .args .at + 1) es filesKey) (i .levels) (i .length) (i .files))
+returns-3 c = λ d es l t e. let i = informed (c .before .before .before .before .before .before .before .before .before .before .before .before .before .before .before .before .before .before .args .text .now) d (c .before .before .before .before .before .before .before .before .before .before .before .before .before .before .before .before .before .before .args .at) (c .before .before .before .before .before .before .before .before .before .before .before .before .before .before .before .before .before .before .args .first) es l t e (c .before .before .before .before .before .before .before .before .before .before .before .before .before .before .before .before .note .result) (λ f b ws g u. c .before .before .before .before .before .before .before .before .before .before .before .before .before .before .before .before .note .ensures f b ws g u) in info-content (c .before .before .before .before .before .before .before .before .before .before .before .before .before .before .before .before .before .before .args .announce) (c .before .before .before .before .before .before .before .before .before .before .before .before .before .before .before .before .before .before .args .at) es (c .before .before .before .before .before .before .before .before .before .before .before .before .before .name .given .0 .0) (ap stringPaper (sym (c .before .before .before .before .before .before .before .before .before .before .before .before .before .name .given .1)) ∙ c .before .before .before .before .before .before .before .before .before .before .before .before .before .before .before .name-under .ensures (i .deep) (lookup (c .before .before .before .before .before .before .before .before .before .before .before .before .before .before .before .before .before .before .args .at + 1) es nameKey) (i .noted .name)) (c .before .before .before .before .before .before .before .before .before .n .given .0 .0) (ap naturalPaper (sym (c .before .before .before .before .before .before .before .before .before .n .given .1)) ∙ c .before .before .before .before .before .before .before .before .before .before .before .piece-length-under .ensures (i .deep) (lookup (c .before .before .before .before .before .before .before .before .before .before .before .before .before .before .before .before .before .before .args .at + 1) es pieceLengthKey) (i .noted .piece)) (c .before .before .before .before .before .hashes .given .0 .0) (ap stringPaper (sym (c .before .before .before .before .before .hashes .given .1)) ∙ c .before .before .before .before .before .before .before .string-under .ensures ∙ pieces-asked (c .before .before .before .before .before .before .before .before .before .before .before .before .before .before .before .before .before .before .args .text .now) (c .before .before .before .before .before .before .before .before .before .before .before .before .before .before .before .before .before .before .args .at) es (c .before .before .before .before .before .before .before .before .before .before .before .before .before .before .before .before .note .result) i) (c .before .r2 .given .0 .0 .number) (c .before .r2 .given .0 .0 .place) (ap contentPaper (sym (c .before .r2 .given .1)) ∙ c .before .before .before .content .ensures (i .deep) (lookup (c .before .before .before .before .before .before .before .before .before .before .before .before .before .before .before .before .before .before .args .at + 1) es lengthKey) (lookup (c .before .before .before .before .before .before .before .before .before .before .before .before .before .before .before .before .before .before .args .at + 1) es filesKey) (i .levels) (i .noted .length) (i .noted .files) (i .noted .listed))
 
--- src/info.rt:32:1
 returns-4 : tie.Need-returns-4
-returns-4 c = λ d es l t e. let i = informed (c .before .before .before .before .before .before .before .before .before .before .before .before .before .before .args .text .now) d (c .before .before .before .before .before .before .before .before .before .before .before .before .before .before .args .at) (c .before .before .before .before .before .before .before .before .before .before .before .before .before .before .args .first) es l t e (c .before .before .before .before .before .before .before .before .before .before .before .before .note .result) (c .before .before .before .before .before .before .before .before .before .before .before .before .note .ensures) in info-pieces (c .before .before .before .before .before .before .before .before .before .before .before .before .before .before .args .announce) (c .before .before .before .before .before .before .before .before .before .before .before .before .before .before .args .at) es (c .before .before .before .before .before .before .before .before .before .name .given .0 .0) (ap stringPaper (sym (c .before .before .before .before .before .before .before .before .before .name .given .1)) ∙ c .before .before .before .before .before .before .before .before .before .before .before .name-under .ensures (i .deep) (lookup (c .before .before .before .before .before .before .before .before .before .before .before .before .before .before .args .at + 1) es nameKey) (i .name)) (c .before .before .before .before .before .n .given .0 .0) (ap naturalPaper (sym (c .before .before .before .before .before .n .given .1)) ∙ c .before .before .before .before .before .before .before .piece-length-under .ensures (i .deep) (lookup (c .before .before .before .before .before .before .before .before .before .before .before .before .before .before .args .at + 1) es pieceLengthKey) (i .piece)) (c .before .r3 .given .0 .0 .number) (c .before .r3 .given .0 .0 .place) (ap stringPaper (sym (c .before .r3 .given .1)) ∙ c .before .before .before .string-under .ensures ∙ pieces-asked (c .before .before .before .before .before .before .before .before .before .before .before .before .before .before .args .text .now) (c .before .before .before .before .before .before .before .before .before .before .before .before .before .before .args .at) es (c .before .before .before .before .before .before .before .before .before .before .before .before .note .result) i)
+returns-4 c = λ d es l t e. let i = informed (c .before .before .before .before .before .before .before .before .before .before .before .before .before .before .args .text .now) d (c .before .before .before .before .before .before .before .before .before .before .before .before .before .before .args .at) (c .before .before .before .before .before .before .before .before .before .before .before .before .before .before .args .first) es l t e (c .before .before .before .before .before .before .before .before .before .before .before .before .note .result) (λ f b ws g u. c .before .before .before .before .before .before .before .before .before .before .before .before .note .ensures f b ws g u) in info-pieces (c .before .before .before .before .before .before .before .before .before .before .before .before .before .before .args .announce) (c .before .before .before .before .before .before .before .before .before .before .before .before .before .before .args .at) es (c .before .before .before .before .before .before .before .before .before .name .given .0 .0) (ap stringPaper (sym (c .before .before .before .before .before .before .before .before .before .name .given .1)) ∙ c .before .before .before .before .before .before .before .before .before .before .before .name-under .ensures (i .deep) (lookup (c .before .before .before .before .before .before .before .before .before .before .before .before .before .before .args .at + 1) es nameKey) (i .noted .name)) (c .before .before .before .before .before .n .given .0 .0) (ap naturalPaper (sym (c .before .before .before .before .before .n .given .1)) ∙ c .before .before .before .before .before .before .before .piece-length-under .ensures (i .deep) (lookup (c .before .before .before .before .before .before .before .before .before .before .before .before .before .before .args .at + 1) es pieceLengthKey) (i .noted .piece)) (c .before .r3 .given .0 .0 .number) (c .before .r3 .given .0 .0 .place) (ap stringPaper (sym (c .before .r3 .given .1)) ∙ c .before .before .before .string-under .ensures ∙ pieces-asked (c .before .before .before .before .before .before .before .before .before .before .before .before .before .before .args .text .now) (c .before .before .before .before .before .before .before .before .before .before .before .before .before .before .args .at) es (c .before .before .before .before .before .before .before .before .before .before .before .before .note .result) i)
 
--- src/info.rt:32:1
 returns-5 : tie.Need-returns-5
-returns-5 c = λ d es l t e. let i = informed (c .before .before .before .before .before .before .before .before .before .before .args .text .now) d (c .before .before .before .before .before .before .before .before .before .before .args .at) (c .before .before .before .before .before .before .before .before .before .before .args .first) es l t e (c .before .before .before .before .before .before .before .before .note .result) (c .before .before .before .before .before .before .before .before .note .ensures) in info-length (c .before .before .before .before .before .before .before .before .before .before .args .announce) (c .before .before .before .before .before .before .before .before .before .before .args .at) es (c .before .before .before .before .before .name .given .0 .0) (ap stringPaper (sym (c .before .before .before .before .before .name .given .1)) ∙ c .before .before .before .before .before .before .before .name-under .ensures (i .deep) (lookup (c .before .before .before .before .before .before .before .before .before .before .args .at + 1) es nameKey) (i .name)) (c .before .r4 .given .0 .0 .number) (c .before .r4 .given .0 .0 .place) (ap naturalPaper (sym (c .before .r4 .given .1)) ∙ c .before .before .before .piece-length-under .ensures (i .deep) (lookup (c .before .before .before .before .before .before .before .before .before .before .args .at + 1) es pieceLengthKey) (i .piece))
+returns-5 c = λ d es l t e. let i = informed (c .before .before .before .before .before .before .before .before .before .before .args .text .now) d (c .before .before .before .before .before .before .before .before .before .before .args .at) (c .before .before .before .before .before .before .before .before .before .before .args .first) es l t e (c .before .before .before .before .before .before .before .before .note .result) (λ f b ws g u. c .before .before .before .before .before .before .before .before .note .ensures f b ws g u) in info-length (c .before .before .before .before .before .before .before .before .before .before .args .announce) (c .before .before .before .before .before .before .before .before .before .before .args .at) es (c .before .before .before .before .before .name .given .0 .0) (ap stringPaper (sym (c .before .before .before .before .before .name .given .1)) ∙ c .before .before .before .before .before .before .before .name-under .ensures (i .deep) (lookup (c .before .before .before .before .before .before .before .before .before .before .args .at + 1) es nameKey) (i .noted .name)) (c .before .r4 .given .0 .0 .number) (c .before .r4 .given .0 .0 .place) (ap naturalPaper (sym (c .before .r4 .given .1)) ∙ c .before .before .before .piece-length-under .ensures (i .deep) (lookup (c .before .before .before .before .before .before .before .before .before .before .args .at + 1) es pieceLengthKey) (i .noted .piece))
 
--- src/info.rt:32:1
 returns-6 : tie.Need-returns-6
-returns-6 c = λ d es l t e. let i = informed (c .before .before .before .before .before .before .args .text .now) d (c .before .before .before .before .before .before .args .at) (c .before .before .before .before .before .before .args .first) es l t e (c .before .before .before .before .note .result) (c .before .before .before .before .note .ensures) in info-name (c .before .before .before .before .before .before .args .announce) (c .before .before .before .before .before .before .args .at) es (c .before .r5 .given .0 .0 .number) (c .before .r5 .given .0 .0 .place) (ap stringPaper (sym (c .before .r5 .given .1)) ∙ c .before .before .before .name-under .ensures (i .deep) (lookup (c .before .before .before .before .before .before .args .at + 1) es nameKey) (i .name))
+returns-6 c = λ d es l t e. let i = informed (c .before .before .before .before .before .before .args .text .now) d (c .before .before .before .before .before .before .args .at) (c .before .before .before .before .before .before .args .first) es l t e (c .before .before .before .before .note .result) (λ f b ws g u. c .before .before .before .before .note .ensures f b ws g u) in info-name (c .before .before .before .before .before .before .args .announce) (c .before .before .before .before .before .before .args .at) es (c .before .r5 .given .0 .0 .number) (c .before .r5 .given .0 .0 .place) (ap stringPaper (sym (c .before .r5 .given .1)) ∙ c .before .before .before .name-under .ensures (i .deep) (lookup (c .before .before .before .before .before .before .args .at + 1) es nameKey) (i .noted .name))
 
 pub read-spec : {M : Type 1} → statement M
-read-spec =
-    tie.close
-    (tie.spec
-    note-requires
-    name-under-requires
-    enum-known-name
-    piece-length-under-requires
-    enum-known-n
-    string-under-requires
-    enum-known-hashes
-    content-requires
-    enum-known-c
-    close-requires
-    enum-known-end
-    from-to-requires
-    value-requires
-    sized-requires
-    enum-known-r
-    enum-known-r-2
-    enum-known-r-3
-    enum-known-r-4
-    enum-known-r-5
-    returns
-    returns-2
-    returns-3
-    returns-4
-    returns-5
-    returns-6)
+read-spec = tie.close (tie.spec note-requires name-under-requires enum-known-name piece-length-under-requires enum-known-n string-under-requires enum-known-hashes content-requires enum-known-c stop-requires close-requires enum-known-end from-to-requires value-requires sized-requires enum-known-r enum-known-r-2 enum-known-r-3 enum-known-r-4 enum-known-r-5 returns returns-2 returns-3 returns-4 returns-5 returns-6)
