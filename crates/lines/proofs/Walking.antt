@@ -253,12 +253,12 @@ module _ (s : List ℕ) (first at : ℕ) (o : List ℕ) (p offset to : ℕ) (out
   files-done r q e w a = let l = g w a in going-end w at o (l .going) (files-end s p offset (l .left) (l .stands) r q e)
 
   module _ (f : File) (e : taken f ≡ fileAt s p) where
-    pub files-again : (r : ℕ) (out₁ : List ℕ) → ((x : List ℕ) → PathAt s (f .path) 32 x → Ran (decimal offset ++ (32 ∷ (decimal (f .length) ++ (x ++ (10 ∷ []))))) to out r out₁)
-        → FilesGoing s first at o (f .next) (offset + f .length) r out₁
-    files-again r out₁ h w a =
+    pub files-again : (after : ℕ) → offset + f .length ≡ after → (r : ℕ) (out₁ : List ℕ) → ((x : List ℕ) → PathAt s (f .path) 32 x → Ran (decimal offset ++ (32 ∷ (decimal (f .length) ++ (x ++ (10 ∷ []))))) to out r out₁)
+        → FilesGoing s first at o (f .next) after r out₁
+    files-again after k r out₁ h w a =
         let l = g w a in
         let n = files-more s p offset (l .left) (l .stands) f e in
-        record { left = n .rest; stands = n .next; going = going-more w at o (l .going) _ (n .rest) (n .whole) (h (n .path) (n .stands)) }
+        record { left = n .rest; stands = subst (λ (q : ℕ). FilesAt s (f .next) q (n .rest)) k (n .next); going = going-more w at o (l .going) _ (n .rest) (n .whole) (h (n .path) (n .stands)) }
 
     -- the room that the files found is enough for this one
     pub files-room : (w : List ℕ) → FilesAt s first 0 w → at + length w + 60 ≤ far → (x : List ℕ) × PathAt s (f .path) 32 x × (to + length x + 60 ≤ far)

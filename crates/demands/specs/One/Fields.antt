@@ -4,10 +4,11 @@ use mathlib.Core.Path.{_≡_}
 use Prim.Native.Nat.{ℕ}
 use Rattle.walk.specs.Walk.{seekPaper}
 use Rattle.walk.specs.declared.Sought.{Sought}
-use Rattle.fields.specs.Looks.{stringPaper, stringOf, naturalPaper, naturalOf, insidePaper, listOf, dictionaryOf, needed, soughtAfter}
+use Rattle.fields.specs.Looks.{stringPaper, stringOf, naturalPaper, naturalOf, numberPaper, numberOf, insidePaper, listOf, dictionaryOf, needed, soughtAfter}
 use Rattle.fields.specs.declared.Bytes.{Bytes}
 use Rattle.fields.specs.declared.Inside.{Inside}
 use Rattle.fields.specs.declared.Natural.{Natural}
+use Rattle.fields.specs.declared.Number.{Number}
 use Rattle.fields.proofs.Determined as laws
 use Rattle.demands.specs.One.{Lent, now, Determined}
 
@@ -24,6 +25,13 @@ natural-at-ensures text at most r = naturalPaper r ≡ naturalOf most (now (text
 
 pub natural-at-determined : (text : Lent (List ℕ)) (at most : ℕ) → Determined (natural-at-ensures text at most)
 natural-at-determined text at most r r′ e f = laws.natural-determined _ r r′ e f
+
+-- fields::number_at
+abbrev number-at-ensures : (text : Lent (List ℕ)) (at most : ℕ) → Number → Type 0
+number-at-ensures text at most r = numberPaper r ≡ numberOf most (now (text .entry)) at
+
+pub number-at-determined : (text : Lent (List ℕ)) (at most : ℕ) → Determined (number-at-ensures text at most)
+number-at-determined text at most r r′ e f = laws.number-determined _ r r′ e f
 
 -- fields::list_at
 abbrev list-at-ensures : (text : Lent (List ℕ)) (at : ℕ) → Inside → Type 0

@@ -35,7 +35,7 @@ loop-less : tie.Need-loop-less Inv-loop μ-loop
 loop-less c = omega (arith, file-further (c .before .before .before .before .before .before .before .before .before .before .before .before .args .text .now) (c .before .before .before .before .before .before .before .before .before .loop .p) (c .before .before .before .before .before .before .f .given .0 .0) (ap filePaper (sym (c .before .before .before .before .before .before .f .given .1)) ∙ c .before .before .before .before .before .before .before .before .file-at .ensures) .0, file-further (c .before .before .before .before .before .before .before .before .before .before .before .before .args .text .now) (c .before .before .before .before .before .before .before .before .before .loop .p) (c .before .before .before .before .before .before .f .given .0 .0) (ap filePaper (sym (c .before .before .before .before .before .before .f .given .1)) ∙ c .before .before .before .before .before .before .before .before .file-at .ensures) .1)
 
 loop-again : tie.Need-loop-again Inv-loop μ-loop
-loop-again c = files-again (c .before .before .before .before .before .before .before .before .before .before .before .before .args .text .now) (c .before .before .before .before .before .before .before .before .before .before .before .before .args .first) (c .before .before .before .before .before .before .before .before .before .before .before .before .args .at) (c .before .before .before .before .before .before .before .before .before .before .before .before .args .out .now) (c .before .before .before .before .before .before .before .before .before .loop .p) (c .before .before .before .before .before .before .before .before .before .loop .offset) (c .before .before .before .before .before .before .before .before .before .loop .to) (c .before .before .before .before .before .before .before .before .before .loop .out) (c .before .before .before .before .before .before .before .before .before .loop .inv) (c .before .before .before .before .before .before .f .given .0 .0) (ap filePaper (sym (c .before .before .before .before .before .before .f .given .1)) ∙ c .before .before .before .before .before .before .before .before .file-at .ensures) _ _ (c .before .before .before .line .ensures)
+loop-again c = files-again (c .before .before .before .before .before .before .before .before .before .before .before .before .args .text .now) (c .before .before .before .before .before .before .before .before .before .before .before .before .args .first) (c .before .before .before .before .before .before .before .before .before .before .before .before .args .at) (c .before .before .before .before .before .before .before .before .before .before .before .before .args .out .now) (c .before .before .before .before .before .before .before .before .before .loop .p) (c .before .before .before .before .before .before .before .before .before .loop .offset) (c .before .before .before .before .before .before .before .before .before .loop .to) (c .before .before .before .before .before .before .before .before .before .loop .out) (c .before .before .before .before .before .before .before .before .before .loop .inv) (c .before .before .before .before .before .before .f .given .0 .0) (ap filePaper (sym (c .before .before .before .before .before .before .f .given .1)) ∙ c .before .before .before .before .before .before .before .before .file-at .ensures) _ (omega arith) _ _ (c .before .before .before .line .ensures)
 
 enum-told : tie.Need-enum-told Inv-loop μ-loop
 enum-told c = search needs
