@@ -31,6 +31,7 @@ fns = {
     'seating::sit_step': dict(params=[H, S, ROWS_MUT, HOLDERS, I, N], result='Stepped', ensures=lambda r, v, z: f"turn {r} ({z['rows']}) {v['holders']} ≡ sitOf {v['i']} {v['n']} {AROUND(v)}"),
     'seating::leave_step': dict(params=[H, S, ROWS_MUT, HOLDERS_MUT, I, N], result='Stepped', ensures=lambda r, v, z: f"turn {r} ({z['rows']}) ({z['holders']}) ≡ leaveOf {v['i']} {v['n']} {AROUND(v)}"),
     'hearing::feed_step': dict(params=[H, S, ROWS_MUT, HOLDERS_MUT, I, N, ('bytes', 'slice', 'u8')], result='Stepped', ensures=lambda r, v, z: f"turn {r} ({z['rows']}) ({z['holders']}) ≡ feedOf {v['i']} {v['bytes']} {v['n']} {AROUND(v)}"),
+    'hearing::heard_head': dict(params=[val('was', 'Head'), H], result='Head', ensures=lambda r, v, z: f"{r} ≡ counted ({v['was']} .taken) ({v['h']} .complete) {v['was']}"),
     'seating::choke_step': dict(params=[H, S, ROWS, HOLDERS, I, N, ON, OUT], result='Stepped', ensures=mark('weChoke', 'chokeFrame')),
     'seating::interest_step': dict(params=[H, S, ROWS, HOLDERS, I, N, ON, OUT], result='Stepped', ensures=mark('weWant', 'interestFrame')),
     'seating::looks::scarcest': dict(params=[H, N, ROWS, HOLDERS], result='Answer', ensures=looks(lambda v: f"scarcestOf {v['n']}")),
@@ -57,7 +58,7 @@ says = {
     'start': lambda c: f"start-is {T} pieces lengths last r1 {c['seats']} {c['rows']} {c['holders']} (e1 seats refl) e2",
     'sit': lambda c: f"sit-is {T} r1 r2 r3 {c['seats']} {c['rows']} e1 e2 e3 e4",
     'leave': lambda c: f"leave-is {T} seat r1 r2 {c['seats']} {c['rows']} {c['holders']} e1 e2 e3",
-    'feed': lambda c: f"feed-is {T} seat bytes r1 r2 {c['seats']} {c['rows']} {c['holders']} e1 e2 e3",
+    'feed': lambda c: f"feed-is {T} seat bytes r1 r2 r4 {c['seats']} {c['rows']} {c['holders']} e1 e2 e3 e4",
     'choke': lambda c: f"choke-is {T} seat on sheet {c['sheet']} r1 r2 {c['seats']} e1 e2 e3 e2a",
     'interest': lambda c: f"interest-is {T} seat on sheet {c['sheet']} r1 r2 {c['seats']} e1 e2 e3 e2a",
     'missing': lambda c: f"missing-is {T} first page {c['page']} r1 r2 r3 r4 e1 e2 e3 e4",
@@ -66,7 +67,7 @@ says = {
     'has': lambda c: f"has-is {T} seat piece r1 e1",
     'count': lambda c: f"count-is {T} piece r1 e1",
 }
-SPECS = '''use Rattle.tables.specs.Seats.{cleared, weChoke, weWant}
+SPECS = '''use Rattle.tables.specs.Seats.{cleared, weChoke, weWant, counted}
 use Rattle.tables.specs.Tables.{paper, around, turn, yardOf, sizesFit}
 use Rattle.tables.specs.Frames.{feedOf}
 use Rattle.tables.specs.Seating.{startOf, lowestFree, sitOf, leaveOf, markOf}

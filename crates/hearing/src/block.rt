@@ -14,14 +14,15 @@ use tables::Seat;
 use tables::Stepped;
 use tables::sizes::wide;
 
-// A block of len bytes at an offset of piece p; a is the answer where there is such a block.
-pub fn block_step(h: Head, s: Seat, p: u32, begin: u32, len: usize, a: Answer) -> Stepped
-    ensures { λ r. ⌜ ((rows holders : List ℕ) (said : Said) → paper a ≡ taken said → turn r rows holders ≡ blockOf p begin len said (around h s rows holders)) ⌝ }
+// A block of piece p that fits or not; a is the answer where it does. The head's lengths are looked at by who calls, so that
+// LLVM keeps the numbers of the head that is handed on apart.
+pub fn block_step(h: Head, s: Seat, p: u32, fits: bool, a: Answer) -> Stepped
+    ensures { λ r. ⌜ ((rows holders : List ℕ) (begin len : ℕ) (said : Said) → fits ≡ blockFits h p begin len → paper a ≡ taken said → turn r rows holders ≡ blockOf p begin len said (around h s rows holders)) ⌝ }
 {
     if h.pieces <= p {
         return answer::refused(h, s, number::BEYOND);
     }
-    if !lies_within(h, p, begin, len) {
+    if !fits {
         return answer::refused(h, s, number::OUTSIDE);
     }
     Stepped {
@@ -45,7 +46,7 @@ pub fn asked(s: Seat, used: usize) -> Answer
 }
 
 // A block has 1 to 16,384 bytes and ends within its piece.
-fn lies_within(h: Head, p: u32, begin: u32, len: usize) -> bool
+pub fn lies_within(h: Head, p: u32, begin: u32, len: usize) -> bool
     ensures { λ r. ⌜ r ≡ blockFits h p begin len ⌝ }
 {
     if len < 1 {

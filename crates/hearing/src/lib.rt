@@ -2,7 +2,7 @@
 // the holder counts as they are lent; whatever they hold, a refusal and a wait leave them as they were.
 ghost use mathlib.Core.Path.{_≡_};
 ghost use Rattle.wire.specs.Frames.{message, meant};
-ghost use Rattle.tables.specs.Seats.{theyChoke, theyWant};
+ghost use Rattle.tables.specs.Seats.{theyChoke, theyWant, counted};
 ghost use Rattle.tables.specs.Tables.{around, turn};
 ghost use Rattle.tables.specs.Frames.{messageOf, feedOf};
 ghost use Rattle.hearing.specs.Steps.{Sized, Inside};
@@ -79,16 +79,28 @@ fn frame_step(
             news::bitfield_step(h, s, rows, holders, i, n, used, &bytes[from..end])
         }
         Frame::Request(p, begin, len) => {
-            block::block_step(h, s, p, begin, wide(len), block::asked(s, used))
+            let within = block::lies_within(h, p, begin, wide(len));
+            block::block_step(h, s, p, within, block::asked(s, used))
         }
         Frame::Piece(p, begin, part) => {
-            block::block_step(h, s, p, begin, part.len, Answer::Taken(used))
+            let within = block::lies_within(h, p, begin, part.len);
+            block::block_step(h, s, p, within, Answer::Taken(used))
         }
         Frame::Cancel(p, begin, len) => {
-            block::block_step(h, s, p, begin, wide(len), Answer::Taken(used))
+            let within = block::lies_within(h, p, begin, wide(len));
+            block::block_step(h, s, p, within, Answer::Taken(used))
         }
         Frame::Other(_, _) => answer::passed(h, s, used),
     }
+}
+
+// The head with what a frame may change of it: the seats complete.
+pub fn heard_head(was: Head, h: Head) -> Head
+    ensures { λ r. ⌜ r ≡ counted (was .taken) (h .complete) was ⌝ }
+{
+    let mut g = was;
+    g.complete = h.complete;
+    g
 }
 
 fn they_choke(s: Seat, b: bool) -> Seat

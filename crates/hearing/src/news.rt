@@ -127,13 +127,13 @@ fn too_many(h: Head, s: Seat, n: usize, news: News) -> bool
     }
     let sum = wide(s.held) + news.added;
     let pieces = wide(h.pieces);
+    if sum < pieces {
+        return false;
+    }
     if pieces < sum {
         return true;
     }
-    if sum == pieces {
-        return n <= wide(h.complete);
-    }
-    false
+    n <= wide(h.complete)
 }
 
 // The head and the seat with the new pieces.

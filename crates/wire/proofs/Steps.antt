@@ -1,5 +1,5 @@
 -- The ways out of the readers, each by the tests that lead there. Assumes nothing.
-use mathlib.Core.Path.{_≡_, refl, sym, ap, _∙_}
+use mathlib.Core.Path.{_≡_, refl, sym, ap, ap₂, _∙_}
 use mathlib.Core.Bool.{Bool, true, false, cond, _&&_}
 use mathlib.Core.List.{List, [], _∷_}
 use Prim.Native.Nat.{ℕ, zero, suc, _+_, _-_, _≤_, _<_, _^_}
@@ -37,12 +37,6 @@ by-id P a b c d e f g h i o (suc (suc (suc (suc (suc (suc (suc (suc (suc k))))))
 
 -- ---- lengths
 
--- within a table, what stands past it does not matter
-in-table : (l : List ℕ) (i d e : ℕ) → i < length l → getD l i d ≡ getD l i e
-in-table [] i d e h = absurd (omega arith)
-in-table (a ∷ l) zero d e h = refl
-in-table (a ∷ l) (suc i) d e h = in-table l i d e (omega arith)
-
 pub least-other : (id : ℕ) → 8 < id → least id ≡ 1
 unfolding least
 least-other id h = List·getD-eq-default leasts 1 h
@@ -50,15 +44,6 @@ least-other id h = List·getD-eq-default leasts 1 h
 pub most-other : (id : ℕ) → 8 < id → most id ≡ longestFrame
 unfolding most
 most-other id h = List·getD-eq-default mosts longestFrame h
-
--- within the table the code's own is the same
-pub least-known : (id : ℕ) → id < 9 → getD leasts id 0 ≡ least id
-unfolding least
-least-known id h = in-table leasts id 0 1 h
-
-pub most-known : (id : ℕ) → id < 9 → getD mosts id 0 ≡ most id
-unfolding most
-most-known id h = in-table mosts id 0 longestFrame h
 
 pub most-most : (id : ℕ) → most id ≤ longestFrame
 unfolding most
@@ -164,12 +149,21 @@ module _ {B : Type 0} {number number′ : ℕ → ℕ} {from from′ : ℕ → B
 
 -- ---- the tests as the code makes them
 
-module _ (id n : ℕ) {low : ℕ} (l : low ≡ least id) where
-  pub allowed-low : n < low → leb low n ≡ allowed id n
-  allowed-low h = rw (l, lt-leb (least id) n (rw l at h))
+module _ (n low high : ℕ) where
+  pub between-low : n < low → leb low n ≡ (leb low n && leb n high)
+  between-low h = rw (lt-leb low n h)
 
-  pub allowed-high : {high : ℕ} → low ≤ n → high ≡ most id → leb n high ≡ allowed id n
-  allowed-high h e = rw (le-leb (least id) n (rw l at h), e)
+  pub between-high : low ≤ n → leb n high ≡ (leb low n && leb n high)
+  between-high h = rw (le-leb low n h)
+
+-- the lengths that the code names for an id are the tables'
+module _ (id n : ℕ) where
+  pub allowed-by : (k : ℕ) → id ≡ k → (leb (getD leasts k 1) n && leb n (getD mosts k longestFrame)) ≡ allowed id n
+  unfolding least most
+  allowed-by k e = ap (λ (x : ℕ). allowed x n) (sym e)
+
+  pub allowed-other : 8 < id → (leb 1 n && leb n longestFrame) ≡ allowed id n
+  allowed-other h = ap₂ (λ (a b : ℕ). leb a n && leb n b) (sym (least-other id h)) (sym (most-other id h))
 
 module _ (at : ℕ) (s : List ℕ) where
   pub word-is : {n : ℕ} → numberAt 4 s at ≡ Is n → n ≡ numberIn s at
@@ -180,16 +174,6 @@ module _ (at : ℕ) (s : List ℕ) where
 
   pub word-there : at + 4 ≤ length s → numberAt 4 s at ≡ Cut → ⊥
   word-there h e = omega (arith, is-cut 4 at s e)
-
-module _ (s : List ℕ) where
-  pub frame-there : {n : ℕ} → numberAt 4 s 0 ≡ Is n → 4 ≤ length s
-  frame-there e = is-there 4 0 s e .0
-
-  pub frame-sized : {n : ℕ} → numberAt 4 s 0 ≡ Is n → sizedOf s n ≡ readOf s
-  frame-sized e = ap (sizedOf s) (word-is 0 s e) ∙ sym (read-sized s (frame-there e))
-
-  pub frame-few : numberAt 4 s 0 ≡ Cut → taken wait ≡ readOf s
-  frame-few e = sym (read-few s (is-cut 4 0 s e))
 
 -- ---- the arms of the code's match on the id
 

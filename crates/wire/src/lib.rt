@@ -1,11 +1,12 @@
 // The wire between peers: frames and the handshake, read from the start of lent bytes. `write` has the writers.
 // Each reader uses only the first frame or handshake that the bytes hold; a wait uses nothing.
 ghost use mathlib.Core.Path.{_≡_};
-ghost use mathlib.Core.Bool.{true};
+ghost use mathlib.Core.Bool.{true, _&&_};
 ghost use Prim.Native.Nat.{_+_, _-_, _≤_, _<_};
+ghost use lib.Dec.{leb};
 ghost use lib.ListN.{length, getD};
 ghost use Rattle.refusal.specs.Limits.{longestFrame};
-ghost use Rattle.wire.specs.Frames.{least, most, allowed, numberIn, messageIn, sizedOf, readOf, message, paper};
+ghost use Rattle.wire.specs.Frames.{allowed, numberIn, messageIn, sizedOf, readOf, message, paper};
 ghost use Rattle.wire.specs.Handshake.{agree, shakeOf};
 ghost use Rattle.wire.specs.Handshake.{paper as shaken};
 use refusal::Refusal;
@@ -59,10 +60,10 @@ pub enum Greeting {
 pub fn read_frame(bytes: &[u8]) -> Read
     ensures { λ r. ⌜ paper r ≡ readOf (now (bytes .entry)) ⌝ }
 {
-    match big_endian::read4(bytes, 0) {
-        Number::Is(n) => sized(bytes, n),
-        Number::Cut => Read::Wait,
+    if bytes.len() < 4 {
+        return Read::Wait;
     }
+    sized(bytes, word(bytes, 0))
 }
 
 // The handshake at the start of the bytes, for an info hash.
@@ -82,11 +83,11 @@ pub fn read_handshake(bytes: &[u8], info: &[u8; 20]) -> Greeting
 }
 
 // A frame whose length is read.
-fn sized(bytes: &[u8], n: u64) -> Read
+fn sized(bytes: &[u8], n: u32) -> Read
     requires { ⌜ 4 ≤ length (now bytes) ⌝ }
     ensures { λ r. ⌜ paper r ≡ sizedOf (now (bytes .entry)) n ⌝ }
 {
-    if (limit::FRAME as u64) < n {
+    if limit::FRAME < n as usize {
         return refused(number::FRAME);
     }
     if n == 0 {
@@ -142,31 +143,24 @@ fn whole(bytes: &[u8], id: u8, n: usize) -> Frame
 fn is_allowed(id: u8, n: usize) -> bool
     ensures { λ r. ⌜ r ≡ allowed id n ⌝ }
 {
-    least(id) <= n && n <= most(id)
+    match id {
+        0 => between(n, 1, 1),
+        1 => between(n, 1, 1),
+        2 => between(n, 1, 1),
+        3 => between(n, 1, 1),
+        4 => between(n, 5, 5),
+        5 => between(n, 2, 2049),
+        6 => between(n, 13, 13),
+        7 => between(n, 10, 16393),
+        8 => between(n, 13, 13),
+        _ => between(n, 1, limit::FRAME),
+    }
 }
 
-const LEAST: [usize; 9] = [1, 1, 1, 1, 5, 2, 13, 10, 13];
-
-const MOST: [usize; 9] = [1, 1, 1, 1, 5, 2049, 13, 16393, 13];
-
-fn least(id: u8) -> usize
-    ensures { λ r. ⌜ r ≡ least id ⌝ }
+fn between(n: usize, low: usize, high: usize) -> bool
+    ensures { λ r. ⌜ r ≡ (leb low n && leb n high) ⌝ }
 {
-    let i = id as usize;
-    if 9 <= i {
-        return 1;
-    }
-    LEAST[i]
-}
-
-fn most(id: u8) -> usize
-    ensures { λ r. ⌜ r ≡ most id ⌝ }
-{
-    let i = id as usize;
-    if 9 <= i {
-        return limit::FRAME;
-    }
-    MOST[i]
+    low <= n && n <= high
 }
 
 // The number in four bytes that are there.

@@ -8,7 +8,7 @@ use borrow.Author.Tests.{leb-true}
 use lib.Dec.{eqb, leb}
 use lib.ListN.{length, getD, set, replicate}
 use lib.Seq.{sets}
-use Rattle.tables.specs.Seats.{cleared, weChoke, weWant}
+use Rattle.tables.specs.Seats.{cleared, weChoke, weWant, counted}
 use Rattle.tables.specs.Tables.{Yard, Said, listed, Around, Turn, Out, paper, around, turn, refuse, says, sizesFit, yardOf, out, atSeat}
 use Rattle.tables.specs.Frames.{feedOf}
 use Rattle.tables.specs.Seating.{startOf, lowestFree, sitOf, leaveOf, markOf}
@@ -17,6 +17,7 @@ use Rattle.tables.specs.Step.{Call, start, sit, leave, feed, choke, interest, m
 use Rattle.refusal.specs.Numbers.{seat, sizes}
 use Rattle.refusal.specs.Limits.{mostSeats}
 use Rattle.tables.proofs.Sizing.{fitting}
+use Rattle.yard.proofs.Heard.{head-same}
 use Rattle.tables.specs.declared.Page.{Page}
 use Rattle.scans.specs.declared.Asked.{Asked}
 use Rattle.scans.specs.Pages.{asLines}
@@ -57,10 +58,16 @@ module _ (h : Head) (seats : List Seat) (rows holders : List ℕ) where
   unfolding step
   leave-is i s r seats′ rows′ holders′ e t b = put-back i (leaveOf i) s r seats′ rows′ holders′ e t b
 
-  pub feed-is : (i : ℕ) (bytes : List ℕ) (s : Seat) (r : Stepped) (seats′ : List Seat) (rows′ holders′ : List ℕ) → s ≡ getD seats i cleared
-      → turn r rows′ holders′ ≡ feedOf i bytes (length seats) (around h s rows holders) → seats′ ≡ set seats i (r .seat) → out (r .answer) (r .head) seats′ rows′ holders′ ≡ step (feed i bytes) Y
+  -- a frame's call puts back the seats complete alone
+  pub feed-is : (i : ℕ) (bytes : List ℕ) (s : Seat) (r : Stepped) (h′ : Head) (seats′ : List Seat) (rows′ holders′ : List ℕ) → s ≡ getD seats i cleared
+      → turn r rows′ holders′ ≡ feedOf i bytes (length seats) (around h s rows holders) → seats′ ≡ set seats i (r .seat) → h′ ≡ counted (h .taken) (r .head .complete) h
+      → out (r .answer) h′ seats′ rows′ holders′ ≡ step (feed i bytes) Y
   unfolding step
-  feed-is i bytes s r seats′ rows′ holders′ e t b = put-back i (feedOf i bytes) s r seats′ rows′ holders′ e t b
+  feed-is i bytes s r h′ seats′ rows′ holders′ e t b k =
+      let g : r .head ≡ feedOf i bytes (length seats) (around h s rows holders) .after .head = ap (λ (x : Turn). x .after .head) t in
+      ap (λ (x : Head). out (r .answer) x seats′ rows′ holders′)
+      (k ∙ ap (λ (x : Head). counted (h .taken) (x .complete) h) g ∙ head-same (length seats) i (around h s rows holders) bytes .head ∙ sym g)
+      ∙ put-back i (feedOf i bytes) s r seats′ rows′ holders′ e t b
 
   pub choke-is : (i : ℕ) (on : Bool) (frame frame′ : List ℕ) (s : Seat) (r : Stepped) (seats′ : List Seat) → s ≡ getD seats i cleared
       → turn r rows holders ≡ markOf (weChoke on) (length frame) i (length seats) (around h s rows holders) → seats′ ≡ set seats i (r .seat)

@@ -6,6 +6,7 @@ ghost use lib.Seq.{sets};
 ghost use Rattle.tables.specs.Tables.{paper, out, yardOf};
 ghost use Rattle.tables.specs.Step.{Call, step, written};
 use hearing::feed_step;
+use hearing::heard_head;
 use scans::clear_seats;
 use scans::list_missing;
 use scans::lowest_free;
@@ -92,7 +93,8 @@ pub fn feed(
     let s = seat_get(seats, seat);
     let r = feed_step(*head, s, rows, holders, seat, n, bytes);
     seat_set(seats, seat, r.seat);
-    *head = r.head;
+    let heard = heard_head(*head, r.head);
+    *head = heard;
     r.answer
 }
 

@@ -78,6 +78,9 @@ enum-known-f-3 c = search needs
 wide-requires-2 : tie.Need-wide-requires-2
 wide-requires-2 c κs = search needs
 
+lies-within-requires : tie.Need-lies-within-requires
+lies-within-requires c κs = search needs
+
 asked-requires : tie.Need-asked-requires
 asked-requires c κs = search needs
 
@@ -87,6 +90,9 @@ block-step-requires c κs = search needs
 enum-known-f-4 : tie.Need-enum-known-f-4
 enum-known-f-4 c = search needs
 
+lies-within-requires-2 : tie.Need-lies-within-requires-2
+lies-within-requires-2 c κs = search needs
+
 block-step-requires-2 : tie.Need-block-step-requires-2
 block-step-requires-2 c κs = search needs
 
@@ -95,6 +101,9 @@ enum-known-f-5 c = search needs
 
 wide-requires-3 : tie.Need-wide-requires-3
 wide-requires-3 c κs = search needs
+
+lies-within-requires-3 : tie.Need-lies-within-requires-3
+lies-within-requires-3 c κs = search needs
 
 block-step-requires-3 : tie.Need-block-step-requires-3
 block-step-requires-3 c κs = search needs
@@ -136,13 +145,13 @@ returns-6 : tie.Need-returns-6
 returns-6 c = said-bits (c .before .before .before .before .before .before .before .before .before .before .before .before .before .before .before .args .h) (c .before .before .before .before .before .before .before .before .before .before .before .before .before .before .before .args .s) (c .before .before .before .before .before .before .before .before .before .before .before .before .before .before .before .args .rows .now) (c .before .before .before .before .before .before .before .before .before .before .before .before .before .before .before .args .holders .now) (c .before .before .before .before .before .before .before .before .before .before .before .before .before .before .before .args .n) (c .before .before .before .before .before .before .before .before .before .before .before .before .before .before .before .args .i) (c .before .before .before .before .before .before .before .before .before .before .before .before .before .before .before .args .used) (c .before .before .before .before .before .before .before .before .before .before .before .before .before .before .before .args .bytes .now) (c .before .before .before .before .before .before .before .before .before .before .before .before .before .before .before .args .f) _ _ (c .before .before .before .before .before .before .before .before .before .before .f2 .given .1) (c .before .before .before .before .bitfield-step .ensures)
 
 returns-7 : tie.Need-returns-7
-returns-7 c = said-request (c .before .before .before .before .before .before .before .before .before .args .h) (c .before .before .before .before .before .before .before .before .before .args .s) (c .before .before .before .before .before .before .before .before .before .args .rows .now) (c .before .before .before .before .before .before .before .before .before .args .holders .now) (c .before .before .before .before .before .before .before .before .before .args .n) (c .before .before .before .before .before .before .before .before .before .args .i) (c .before .before .before .before .before .before .before .before .before .args .used) (c .before .before .before .before .before .before .before .before .before .args .bytes .now) (c .before .before .before .before .before .before .before .before .before .args .f) _ _ _ _ (c .before .before .wide2 .result) (c .before .before .before .before .f3 .given .1) (c .before .before .wide2 .ensures) (c .block-step .ensures (c .before .before .before .before .before .before .before .before .before .args .rows .now) (c .before .before .before .before .before .before .before .before .before .args .holders .now) (requested (c .before .before .before .before .before .before .before .before .before .args .used) (c .before .before .before .before .before .before .before .before .before .args .s)) (c .before .asked .ensures))
+returns-7 c = said-request (c .before .before .before .before .before .before .before .before .before .before .args .h) (c .before .before .before .before .before .before .before .before .before .before .args .s) (c .before .before .before .before .before .before .before .before .before .before .args .rows .now) (c .before .before .before .before .before .before .before .before .before .before .args .holders .now) (c .before .before .before .before .before .before .before .before .before .before .args .n) (c .before .before .before .before .before .before .before .before .before .before .args .i) (c .before .before .before .before .before .before .before .before .before .before .args .used) (c .before .before .before .before .before .before .before .before .before .before .args .bytes .now) (c .before .before .before .before .before .before .before .before .before .before .args .f) _ _ _ _ (c .before .before .before .wide2 .result) (c .before .before .before .before .before .f3 .given .1) (c .before .before .before .wide2 .ensures) (c .block-step .ensures (c .before .before .before .before .before .before .before .before .before .before .args .rows .now) (c .before .before .before .before .before .before .before .before .before .before .args .holders .now) _ (c .before .before .before .wide2 .result) (requested (c .before .before .before .before .before .before .before .before .before .before .args .used) (c .before .before .before .before .before .before .before .before .before .before .args .s)) (c .before .before .lies-within .ensures) (c .before .asked .ensures))
 
 returns-8 : tie.Need-returns-8
-returns-8 c = said-piece (c .before .before .before .before .before .before .before .args .h) (c .before .before .before .before .before .before .before .args .s) (c .before .before .before .before .before .before .before .args .rows .now) (c .before .before .before .before .before .before .before .args .holders .now) (c .before .before .before .before .before .before .before .args .n) (c .before .before .before .before .before .before .before .args .i) (c .before .before .before .before .before .before .before .args .used) (c .before .before .before .before .before .before .before .args .bytes .now) (c .before .before .before .before .before .before .before .args .f) _ _ _ _ (c .before .before .f4 .given .1) (c .before .before .before .before .before .before .before .pre .1) (c .block-step2 .ensures (c .before .before .before .before .before .before .before .args .rows .now) (c .before .before .before .before .before .before .before .args .holders .now) (used (c .before .before .before .before .before .before .before .args .used)) refl)
+returns-8 c = said-piece (c .before .before .before .before .before .before .before .before .args .h) (c .before .before .before .before .before .before .before .before .args .s) (c .before .before .before .before .before .before .before .before .args .rows .now) (c .before .before .before .before .before .before .before .before .args .holders .now) (c .before .before .before .before .before .before .before .before .args .n) (c .before .before .before .before .before .before .before .before .args .i) (c .before .before .before .before .before .before .before .before .args .used) (c .before .before .before .before .before .before .before .before .args .bytes .now) (c .before .before .before .before .before .before .before .before .args .f) _ _ _ _ (c .before .before .before .f4 .given .1) (c .before .before .before .before .before .before .before .before .pre .1) (c .block-step2 .ensures (c .before .before .before .before .before .before .before .before .args .rows .now) (c .before .before .before .before .before .before .before .before .args .holders .now) _ _ (used (c .before .before .before .before .before .before .before .before .args .used)) (c .before .lies-within2 .ensures) refl)
 
 returns-9 : tie.Need-returns-9
-returns-9 c = said-cancel (c .before .before .before .before .before .before .before .before .args .h) (c .before .before .before .before .before .before .before .before .args .s) (c .before .before .before .before .before .before .before .before .args .rows .now) (c .before .before .before .before .before .before .before .before .args .holders .now) (c .before .before .before .before .before .before .before .before .args .n) (c .before .before .before .before .before .before .before .before .args .i) (c .before .before .before .before .before .before .before .before .args .used) (c .before .before .before .before .before .before .before .before .args .bytes .now) (c .before .before .before .before .before .before .before .before .args .f) _ _ _ _ (c .before .wide3 .result) (c .before .before .before .f5 .given .1) (c .before .wide3 .ensures) (c .block-step3 .ensures (c .before .before .before .before .before .before .before .before .args .rows .now) (c .before .before .before .before .before .before .before .before .args .holders .now) (used (c .before .before .before .before .before .before .before .before .args .used)) refl)
+returns-9 c = said-cancel (c .before .before .before .before .before .before .before .before .before .args .h) (c .before .before .before .before .before .before .before .before .before .args .s) (c .before .before .before .before .before .before .before .before .before .args .rows .now) (c .before .before .before .before .before .before .before .before .before .args .holders .now) (c .before .before .before .before .before .before .before .before .before .args .n) (c .before .before .before .before .before .before .before .before .before .args .i) (c .before .before .before .before .before .before .before .before .before .args .used) (c .before .before .before .before .before .before .before .before .before .args .bytes .now) (c .before .before .before .before .before .before .before .before .before .args .f) _ _ _ _ (c .before .before .wide3 .result) (c .before .before .before .before .f5 .given .1) (c .before .before .wide3 .ensures) (c .block-step3 .ensures (c .before .before .before .before .before .before .before .before .before .args .rows .now) (c .before .before .before .before .before .before .before .before .before .args .holders .now) _ (c .before .before .wide3 .result) (used (c .before .before .before .before .before .before .before .before .before .args .used)) (c .before .lies-within3 .ensures) refl)
 
 returns-10 : tie.Need-returns-10
 returns-10 c = heard-other (c .before .before .before .before .before .before .args .h) (c .before .before .before .before .before .before .args .s) (c .before .before .before .before .before .before .args .rows .now) (c .before .before .before .before .before .before .args .holders .now) (c .before .before .before .before .before .before .args .n) (c .before .before .before .before .before .before .args .i) (c .before .before .before .before .before .before .args .used) (c .before .before .before .before .before .before .args .bytes .now) (c .before .before .before .before .before .before .args .f) (c .before .before .before .before .before .before .args .s) (c .passed5 .result) (c .passed5 .ensures) _ _ (c .before .enum-told5 .given .1) refl
@@ -174,12 +183,15 @@ frame-step-spec =
     bitfield-step-requires
     enum-known-f-3
     wide-requires-2
+    lies-within-requires
     asked-requires
     block-step-requires
     enum-known-f-4
+    lies-within-requires-2
     block-step-requires-2
     enum-known-f-5
     wide-requires-3
+    lies-within-requires-3
     block-step-requires-3
     enum-told-5
     passed-requires-5

@@ -12,22 +12,19 @@ refused-requires : tie.Need-refused-requires
 refused-requires c κs = search needs
 
 returns : tie.Need-returns
-returns c = λ rows holders said e. block-beyond (c .before .before .before .args .h) (c .before .before .before .args .s) (c .before .before .before .args .p) (c .before .before .before .args .begin) (c .before .before .before .args .len) (c .refused .result) rows holders said (c .before .if1 .taken) (c .refused .ensures)
-
-lies-within-requires : tie.Need-lies-within-requires
-lies-within-requires c κs = search needs
+returns c = λ rows holders begin len said f e. block-beyond (c .before .before .before .args .h) (c .before .before .before .args .s) (c .before .before .before .args .p) begin len (c .refused .result) rows holders said (c .before .if1 .taken) (c .refused .ensures)
 
 refused-requires-2 : tie.Need-refused-requires-2
 refused-requires-2 c κs = search needs
 
 returns-2 : tie.Need-returns-2
-returns-2 c = λ rows holders said e. block-outside (c .before .before .before .before .before .args .h) (c .before .before .before .before .before .args .s) (c .before .before .before .before .before .args .p) (c .before .before .before .before .before .args .begin) (c .before .before .before .before .before .args .len) (c .refused2 .result) rows holders said (c .before .before .lies-within .result) (c .before .before .before .if1 .left) (c .before .before .lies-within .ensures) (not-true (c .before .before .lies-within .result) (c .before .if2 .taken)) (c .refused2 .ensures)
+returns-2 c = λ rows holders begin len said f e. block-outside (c .before .before .before .before .args .h) (c .before .before .before .before .args .s) (c .before .before .before .before .args .p) begin len (c .refused2 .result) rows holders said (c .before .before .before .before .args .fits) (c .before .before .if1 .left) f (not-true (c .before .before .before .before .args .fits) (c .before .if2 .taken)) (c .refused2 .ensures)
 
 spoken-requires : tie.Need-spoken-requires
 spoken-requires c κs = search needs
 
 returns-3 : tie.Need-returns-3
-returns-3 c = λ rows holders said e. block-there (c .before .before .before .before .before .args .h) (c .before .before .before .before .before .args .s) (c .before .before .before .before .before .args .p) (c .before .before .before .before .before .args .begin) (c .before .before .before .before .before .args .len) _ rows holders said (c .before .before .lies-within .result) (c .before .before .before .before .before .args .a) (c .before .before .before .if1 .left) (c .before .before .lies-within .ensures) (not-false (c .before .before .lies-within .result) (c .before .if2 .left)) (ap (λ (t : Seat). stepped (c .before .before .before .before .before .args .h) t (c .before .before .before .before .before .args .a)) (c .spoken .ensures)) e
+returns-3 c = λ rows holders begin len said f e. block-there (c .before .before .before .before .args .h) (c .before .before .before .before .args .s) (c .before .before .before .before .args .p) begin len _ rows holders said (c .before .before .before .before .args .fits) (c .before .before .before .before .args .a) (c .before .before .if1 .left) f (not-false (c .before .before .before .before .args .fits) (c .before .if2 .left)) (ap (λ (t : Seat). stepped (c .before .before .before .before .args .h) t (c .before .before .before .before .args .a)) (c .spoken .ensures)) e
 
 pub block-step-spec : {M : Type 1} → statement M
 block-step-spec =
@@ -35,7 +32,6 @@ block-step-spec =
     (tie.spec
     refused-requires
     returns
-    lies-within-requires
     refused-requires-2
     returns-2
     spoken-requires

@@ -21,16 +21,16 @@ wide-requires-2 : tie.Need-wide-requires-2
 wide-requires-2 c κs = search needs
 
 returns-3 : tie.Need-returns-3
-returns-3 c = many-past (c .before .before .before .before .before .before .before .args .n) (c .before .before .before .before .before .before .before .args .h) (c .before .before .before .before .before .before .before .args .s) (c .before .before .before .before .before .before .before .args .news) (c .before .before .before .wide .ensures) (c .before .wide2 .ensures) (c .before .before .before .before .before .before .if1 .left) (c .before .before .before .before .if2 .left) (omega arith)
+returns-3 c = many-not (c .before .before .before .before .before .before .before .args .n) (c .before .before .before .before .before .before .before .args .h) (c .before .before .before .before .before .before .before .args .s) (c .before .before .before .before .before .before .before .args .news) (c .before .before .before .wide .ensures) (c .before .wide2 .ensures) (c .before .before .before .before .before .before .if1 .left) (c .before .before .before .before .if2 .left) (omega arith) (λ e. omega arith)
+
+returns-4 : tie.Need-returns-4
+returns-4 c = many-past (c .before .before .before .before .before .before .before .before .args .n) (c .before .before .before .before .before .before .before .before .args .h) (c .before .before .before .before .before .before .before .before .args .s) (c .before .before .before .before .before .before .before .before .args .news) (c .before .before .before .before .wide .ensures) (c .before .before .wide2 .ensures) (c .before .before .before .before .before .before .before .if1 .left) (c .before .before .before .before .before .if2 .left) (omega arith)
 
 wide-requires-3 : tie.Need-wide-requires-3
 wide-requires-3 c κs = search needs
 
-returns-4 : tie.Need-returns-4
-returns-4 c = many-full (c .before .before .before .before .before .before .before .before .before .args .n) (c .before .before .before .before .before .before .before .before .before .args .h) (c .before .before .before .before .before .before .before .before .before .args .s) (c .before .before .before .before .before .before .before .before .before .args .news) (c .before .before .before .before .before .wide .ensures) (c .before .before .before .wide2 .ensures) (c .before .before .before .before .before .before .before .before .if1 .left) (c .before .before .before .before .before .before .if2 .left) (c .before .if4 .taken) (c .wide3 .ensures)
-
 returns-5 : tie.Need-returns-5
-returns-5 c = many-not (c .before .before .before .before .before .before .before .before .args .n) (c .before .before .before .before .before .before .before .before .args .h) (c .before .before .before .before .before .before .before .before .args .s) (c .before .before .before .before .before .before .before .before .args .news) (c .before .before .before .before .wide .ensures) (c .before .before .wide2 .ensures) (c .before .before .before .before .before .before .before .if1 .left) (c .before .before .before .before .before .if2 .left) (omega arith) (c .if4 .left)
+returns-5 c = many-full (c .before .before .before .before .before .before .before .before .before .args .n) (c .before .before .before .before .before .before .before .before .before .args .h) (c .before .before .before .before .before .before .before .before .before .args .s) (c .before .before .before .before .before .before .before .before .before .args .news) (c .before .before .before .before .before .wide .ensures) (c .before .before .before .wide2 .ensures) (c .before .before .before .before .before .before .before .before .if1 .left) (c .before .before .before .before .before .before .if2 .left) (omega arith) (c .wide3 .ensures)
 
 pub too-many-spec : {M : Type 1} → statement M
 too-many-spec =
@@ -42,6 +42,6 @@ too-many-spec =
     add-sum
     wide-requires-2
     returns-3
-    wide-requires-3
     returns-4
+    wide-requires-3
     returns-5)
