@@ -222,7 +222,7 @@ module _ {M : Type 1} (𝓤 : URA M) (H : Heap 𝓤) (A : Atoms 𝓤) (W : Given
         await ! tt $ split ! $ rewrite ! 0 (λ (m : ℕ). ‵ (MutSlice (named 1) κ1 R-Seat .own (record { ptr = (b1, o1); name = γ1; now = z3 .0 }) (sliceVal (b1, o1) m ∷ []))) (refl) refl $
         assigns ! (of-opd ! (load ! (from ! (hop ! (look ! 50 refl) (stop !))) (look-raw ! 8 refl))) (from ! (stop !)) (store ! 26 refl (LL.lawful T-Head.the-type L-Head.the-laws 𝓤 H A W .typed head _ was-head .0)) $
         -- the call of `heard_head`
-        
+
         use0 W (raw (K3 𝓤 H A mem run .pre (((tt), (tt), tt, ((head, (r2 .head, tt))), ((L-Head.lowered head ∷ [], (L-Head.lowered (r2 .head) ∷ [], tt)))), tt))) (qed W ([]) ∵ nothing ! $ nothing ! $ owned ! R-Head (Is R-Head) (LL.makes T-Head.the-type L-Head.the-plain 𝓤 H A) (r2 .head) (L-Head.lowered (r2 .head) ∷ []) (parts-Stepped r2 _ (subst (Is R-Stepped r2) (L-Stepped.lowers .val-is r2 _ is2) is2) .0) $ fjoin ! $ owned ! R-Head (Is R-Head) (LL.makes T-Head.the-type L-Head.the-plain 𝓤 H A) head (L-Head.lowered head ∷ []) was-head $ fjoin ! $ move ! (1 ∷ 0 ∷ []) $ join ! $ frame ! $ done !) $
         calls-at ! fm (K3 𝓤 H A mem run) k3 (((tt), (tt), tt, ((head, (r2 .head, tt))), ((L-Head.lowered head ∷ [], (L-Head.lowered (r2 .head) ∷ [], tt)))), tt) (and-then ! (load ! (from ! (stop !)) (look ! 27 refl)) (and-then ! (load ! (from ! (fld ! refl (stop !))) (look-in ! 35 (sub ! 0 refl (whole !)))) (no-more !))) (λ v4.
         use1 W (later (some (λ (r4 : Head). ((‵ ftrue) ⊛ ‵ (R-Head .own r4 (v4 ∷ []))) ⊛ raw (ensured 𝓤 H A c3.ended (c3.clauses 𝓤 H A mem run) (tt) ((head, (r2 .head, tt))) tt r4)))) (id⊢ 𝓤 _) $ await ! tt $ pick ! (λ r4. split ! $
