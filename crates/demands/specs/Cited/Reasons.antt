@@ -16,7 +16,8 @@ use Rattle.tables.specs.Step.{Call, start, sit, feed, missing, look, has, count
 use Rattle.history.specs.History.{History, seated, fresh, pieces}
 use Rattle.history.specs.Causes.{Sits, Nobody, On, Marks, Says, Block, Fits, StartFits, Cause, Waits, cut-off, too-long, wrong-payload, not-first, no-such-have, no-such-block, no-such-has, no-such-count, wrong-length, spare-bit, past-piece, all-taken, nobody, past-list, past-look, past-has, no-room, unfit}
 use Rattle.history.proofs.Demand.{fair, fair-wait, never-damaged}
-use Rattle.demands.specs.One.Causes.{Ran, ran}
+use Rattle.history.specs.Run.{Accepted, State, after}
+use Rattle.demands.specs.Three.Program.{Made, made-run}
 
 module _ (n : ℕ) (h : History) where
   abbrev At20 : Call → Type 0
@@ -144,15 +145,24 @@ module _ (n : ℕ) (h : History) where
   pub cause-38 : (c : Call) (place : ℕ) → (Cause n h c 38 × (place ≡ 0)) ↔ (((q : ℕ) × (l : ℕ) × (k : ℕ) × (c ≡ start q l k) × (StartFits h q l k → ⊥)) × (place ≡ 0))
   cause-38 c place = (λ q. (by-number c 38 (q .0) (λ e x. absurd (omega arith)) (λ e x. absurd (omega arith)) (λ e x. absurd (omega arith)) (λ e x. absurd (omega arith)) (λ e x. absurd (omega arith)) (λ e x. absurd (omega arith)) (λ e x. absurd (omega arith)) (λ e x. absurd (omega arith)) (λ e x. absurd (omega arith)) (λ e x. absurd (omega arith)) (λ e x. x), q .1), λ q. (from-38 (q .0), q .1))
 
--- demand 3's laws, of a yard that has come so far
-pub ran-fair : (n : ℕ) (h : History) (y : Yard) → Ran n h y → (c : Call) (number place : ℕ) → step c y .answer ≡ refused number place ↔ (Cause n h c number × (place ≡ 0))
-ran-fair n h y (ran p l k z ok cs) c number place = fair p l k z ok cs c number place
+-- demand 3's laws, of what a program has made of its tables
+module _ (lent : Yard) (h : History) (y : Yard) (made : Made lent h y) (c : Call) where
+  abbrev n : ℕ
+  n = length (lent .seats)
 
-pub ran-wait : (n : ℕ) (h : History) (y : Yard) → Ran n h y → (c : Call) → step c y .answer ≡ taken wait ↔ ((i : ℕ) × (s : List ℕ) × (c ≡ feed i s) × Sits n h i × (Few s ⊎ Cut s))
-ran-wait n h y (ran p l k z ok cs) c = let f = fair-wait p l k z ok cs c in (λ e. go c (f .0 e), λ q. f .1 (subst (Waits n h) (sym (q .2)) (cut-off (q .0) (q .1) (q .3) (q .4))))
-  where
-    go : (c : Call) → Waits n h c → (i : ℕ) × (s : List ℕ) × (c ≡ feed i s) × Sits n h i × (Few s ⊎ Cut s)
-    go c (cut-off i s g w) = (i, s, refl, g, w)
+  at-end : (P : History → Yard → Type 0) → ((p l k : ℕ) (ok : Accepted p l k lent) (cs : List Call) → P (after p l k lent cs .past) (after p l k lent cs .yard)) → P h y
+  at-end P f = let b = made-run lent h y made in subst (λ (s : State). P (s .past) (s .yard)) (b .is) (f (b .pieces) (b .piece-length) (b .last-length) (b .accepted) (b .calls))
 
-pub ran-undamaged : (n : ℕ) (h : History) (y : Yard) → Ran n h y → (c : Call) (place : ℕ) → step c y .answer ≡ refused 39 place → ⊥
-ran-undamaged n h y (ran p l k z ok cs) c place = never-damaged p l k z ok cs c place
+  pub made-fair : (number place : ℕ) → step c y .answer ≡ refused number place ↔ (Cause n h c number × (place ≡ 0))
+  made-fair number place = at-end (λ g z. step c z .answer ≡ refused number place ↔ (Cause n g c number × (place ≡ 0))) (λ p l k ok cs. fair p l k lent ok cs c number place)
+
+  pub made-undamaged : (place : ℕ) → step c y .answer ≡ refused 39 place → ⊥
+  made-undamaged place = at-end (λ g z. step c z .answer ≡ refused 39 place → ⊥) (λ p l k ok cs. never-damaged p l k lent ok cs c place)
+
+  pub made-wait : step c y .answer ≡ taken wait ↔ ((i : ℕ) × (s : List ℕ) × (c ≡ feed i s) × Sits n h i × (Few s ⊎ Cut s))
+  made-wait =
+      let f = at-end (λ g z. step c z .answer ≡ taken wait ↔ Waits n g c) (λ p l k ok cs. fair-wait p l k lent ok cs c) in
+      (λ e. go c (f .0 e), λ q. f .1 (subst (Waits n h) (sym (q .2)) (cut-off (q .0) (q .1) (q .3) (q .4))))
+    where
+      go : (c : Call) → Waits n h c → (i : ℕ) × (s : List ℕ) × (c ≡ feed i s) × Sits n h i × (Few s ⊎ Cut s)
+      go c (cut-off i s g w) = (i, s, refl, g, w)

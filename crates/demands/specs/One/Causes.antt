@@ -12,10 +12,6 @@ use Rattle.metainfo.specs.declared.Torrent.{Torrent}
 use Rattle.authoring.specs.Writing.{Fields, textOf}
 use Rattle.authoring.specs.Rules.{Broken, Ruled}
 use Rattle.contents.specs.Pieces.{pieceBytes}
-use Rattle.tables.specs.Tables.{Yard}
-use Rattle.tables.specs.Step.{Call}
-use Rattle.history.specs.History.{History}
-use Rattle.history.specs.Run.{Accepted, after}
 
 -- the text is the encoding of a value that keeps bencode's limits and is no reply
 abbrev pub NoReplyText : List ℕ → ℕ → ℕ → Type 0
@@ -31,8 +27,3 @@ pub data Unchecked (t : Torrent) (n : ℕ) (m : List ℕ) : ℕ → Type 0 where
 pub data Unsized (f : Fields) : ℕ → Type 0 where
   broken : {n : ℕ} → Broken f n → Unsized f n
   over : Ruled f → mostText < length (textOf f) → Unsized f 8
-
--- the yard y of n seats has come so far, after an accepted start on any tables and any calls, and h is what happened
-pub data Ran : ℕ → History → Yard → Type 0 where
-  ran : (p l k : ℕ) (tables : Yard) → Accepted p l k tables → (calls : List Call)
-      → Ran (length (tables .seats)) (after p l k tables calls .past) (after p l k tables calls .yard)

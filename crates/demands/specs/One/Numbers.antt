@@ -2,7 +2,7 @@
 -- is given at a place exactly when its cause holds there. A cause says that the checks before it are passed; the left side is what the contract of the
 -- call says of its answer. The causes: causes/specs/Causes (1 to 7), torrents/specs/Causes and tracker/specs/Causes (10 to 15), blocks/specs/Covers,
 -- wire/specs/Causes (20 to 23, wait), authoring/specs/Rules and tracker/specs/Faults (the writers), history/specs/Causes and Damage (the yard's
--- words), and One/Causes. Assumes nothing.
+-- words), and One/Causes. `Made lent h y` (Three/Program): the tables `lent`, started and then called any way, have become y, and h is what happened. Assumes nothing.
 use mathlib.Core.Path.{_≡_, refl, sym, ap, _∙_}
 use mathlib.Core.Logic.{_⊎_, _↔_}
 use mathlib.Core.Bool.{true, false}
@@ -57,7 +57,8 @@ use Rattle.history.specs.History.{History, seated, fresh, pieces}
 use Rattle.history.specs.Causes.{Sits, Nobody, On, Marks, Says, Block, Fits, StartFits}
 use Rattle.history.specs.Damage.{Unfit, Damaged}
 use Rattle.history.proofs.Damage as damage
-use Rattle.demands.specs.One.Causes.{Unchecked, Unsized, NoReplyText, Ran}
+use Rattle.demands.specs.One.Causes.{Unchecked, Unsized, NoReplyText}
+use Rattle.demands.specs.Three.Program.{Made}
 use Rattle.demands.specs.Cited.Reasons as reasons
 use Rattle.demands.specs.Cited.Numbers as cited
 use Rattle.demands.specs.Cited.Numbers.{both-ways, map-refused, at-place, decode-8}
@@ -317,10 +318,10 @@ frame-20 s p = cited.frame-20 s p
 pub write-20 : (rest o : List ℕ) (p : ℕ) → frames.writeOf rest o .answer ≡ refused 20 p ↔ ((longestFrame < length rest) × (p ≡ 0))
 write-20 rest o p = cited.write-20 rest o p
 
--- given by yard, of n seats, after an accepted start and any calls
-pub yard-20 : (n : ℕ) (h : History) (y : Yard) → Ran n h y → (c : Call) (place : ℕ) → step c y .answer ≡ refused 20 place
-    ↔ (((i : ℕ) × (s : List ℕ) × (c ≡ feed i s) × Sits n h i × TooLong s) × (place ≡ 0))
-yard-20 n h y r c place = both-ways (reasons.ran-fair n h y r c 20 place) (reasons.cause-20 n h c place)
+-- given by yard, after an accepted start and any calls
+pub yard-20 : (lent : Yard) (h : History) (y : Yard) → Made lent h y → (c : Call) (place : ℕ) → step c y .answer ≡ refused 20 place
+    ↔ (((i : ℕ) × (s : List ℕ) × (c ≡ feed i s) × Sits (length (lent .seats)) h i × TooLong s) × (place ≡ 0))
+yard-20 lent h y m c place = both-ways (reasons.made-fair lent h y m c 20 place) (reasons.cause-20 (length (lent .seats)) h c place)
 
 -- ---- 21: "payload length wrong for its id"
 
@@ -332,10 +333,10 @@ frame-21 s p = cited.frame-21 s p
 pub write-21 : (rest o : List ℕ) (p : ℕ) → frames.writeOf rest o .answer ≡ refused 21 p ↔ ((length rest ≤ longestFrame) × (Allowed (getD rest 0 0) (length rest) → ⊥) × (p ≡ 0))
 write-21 rest o p = cited.write-21 rest o p
 
--- given by yard, of n seats, after an accepted start and any calls
-pub yard-21 : (n : ℕ) (h : History) (y : Yard) → Ran n h y → (c : Call) (place : ℕ) → step c y .answer ≡ refused 21 place
-    ↔ (((i : ℕ) × (s : List ℕ) × (c ≡ feed i s) × Sits n h i × All s × (Right s → ⊥)) × (place ≡ 0))
-yard-21 n h y r c place = both-ways (reasons.ran-fair n h y r c 21 place) (reasons.cause-21 n h c place)
+-- given by yard, after an accepted start and any calls
+pub yard-21 : (lent : Yard) (h : History) (y : Yard) → Made lent h y → (c : Call) (place : ℕ) → step c y .answer ≡ refused 21 place
+    ↔ (((i : ℕ) × (s : List ℕ) × (c ≡ feed i s) × Sits (length (lent .seats)) h i × All s × (Right s → ⊥)) × (place ≡ 0))
+yard-21 lent h y m c place = both-ways (reasons.made-fair lent h y m c 21 place) (reasons.cause-21 (length (lent .seats)) h c place)
 
 -- ---- 22: "handshake's first 20 bytes wrong"
 
@@ -351,20 +352,20 @@ handshake-23 info s p h = cited.handshake-23 info s p h
 
 -- ---- 30: "bitfield not first"
 
--- given by yard, of n seats, after an accepted start and any calls
-pub yard-30 : (n : ℕ) (h : History) (y : Yard) → Ran n h y → (c : Call) (place : ℕ) → step c y .answer ≡ refused 30 place
-    ↔ (((i : ℕ) × (s : List ℕ) × (b : List ℕ) × (bytes : ℕ) × (c ≡ feed i s) × Sits n h i × Says s (bits b) bytes × (fresh h i ≡ false)) × (place ≡ 0))
-yard-30 n h y r c place = both-ways (reasons.ran-fair n h y r c 30 place) (reasons.cause-30 n h c place)
+-- given by yard, after an accepted start and any calls
+pub yard-30 : (lent : Yard) (h : History) (y : Yard) → Made lent h y → (c : Call) (place : ℕ) → step c y .answer ≡ refused 30 place
+    ↔ (((i : ℕ) × (s : List ℕ) × (b : List ℕ) × (bytes : ℕ) × (c ≡ feed i s) × Sits (length (lent .seats)) h i × Says s (bits b) bytes × (fresh h i ≡ false)) × (place ≡ 0))
+yard-30 lent h y m c place = both-ways (reasons.made-fair lent h y m c 30 place) (reasons.cause-30 (length (lent .seats)) h c place)
 
 -- ---- 31: "piece, file or entry number too large"
 
--- given by yard, of n seats, after an accepted start and any calls
-pub yard-31 : (n : ℕ) (h : History) (y : Yard) → Ran n h y → (c : Call) (place : ℕ) → step c y .answer ≡ refused 31 place
-    ↔ ((((i : ℕ) × (s : List ℕ) × (q : ℕ) × (bytes : ℕ) × (c ≡ feed i s) × Sits n h i × Says s (have q) bytes × (pieces h ≤ q))
-    ⊎ (((i : ℕ) × (s : List ℕ) × (m : Message (List ℕ)) × (q : ℕ) × (b : ℕ) × (k : ℕ) × (bytes : ℕ) × (c ≡ feed i s) × Sits n h i × Says s m bytes × Block q b k m × (pieces h ≤ q))
-    ⊎ (((i : ℕ) × (q : ℕ) × (c ≡ has i q) × (i < n) × (pieces h ≤ q))
+-- given by yard, after an accepted start and any calls
+pub yard-31 : (lent : Yard) (h : History) (y : Yard) → Made lent h y → (c : Call) (place : ℕ) → step c y .answer ≡ refused 31 place
+    ↔ ((((i : ℕ) × (s : List ℕ) × (q : ℕ) × (bytes : ℕ) × (c ≡ feed i s) × Sits (length (lent .seats)) h i × Says s (have q) bytes × (pieces h ≤ q))
+    ⊎ (((i : ℕ) × (s : List ℕ) × (m : Message (List ℕ)) × (q : ℕ) × (b : ℕ) × (k : ℕ) × (bytes : ℕ) × (c ≡ feed i s) × Sits (length (lent .seats)) h i × Says s m bytes × Block q b k m × (pieces h ≤ q))
+    ⊎ (((i : ℕ) × (q : ℕ) × (c ≡ has i q) × (i < (length (lent .seats))) × (pieces h ≤ q))
     ⊎ ((q : ℕ) × (c ≡ count q) × (pieces h ≤ q))))) × (place ≡ 0))
-yard-31 n h y r c place = both-ways (reasons.ran-fair n h y r c 31 place) (reasons.cause-31 n h c place)
+yard-31 lent h y m c place = both-ways (reasons.made-fair lent h y m c 31 place) (reasons.cause-31 (length (lent .seats)) h c place)
 
 -- given by blocks::block
 pub block-31 : (files : List Span) (pl p o n : ℕ) (out : List ℕ) (q : ℕ) → written (blockOf files pl p o n) out .answer ≡ refused 31 q ↔ (BlockCause files pl p o n (length out) 31 × (q ≡ 0))
@@ -397,24 +398,24 @@ piece-check-31 s n m p = cited.check-own s n m 31 p (omega arith)
 
 -- ---- 32: "bitfield length wrong"
 
--- given by yard, of n seats, after an accepted start and any calls
-pub yard-32 : (n : ℕ) (h : History) (y : Yard) → Ran n h y → (c : Call) (place : ℕ) → step c y .answer ≡ refused 32 place
-    ↔ (((i : ℕ) × (s : List ℕ) × (b : List ℕ) × (bytes : ℕ) × (c ≡ feed i s) × Sits n h i × Says s (bits b) bytes × (fresh h i ≡ true) × (length b ≡ width (pieces h) → ⊥)) × (place ≡ 0))
-yard-32 n h y r c place = both-ways (reasons.ran-fair n h y r c 32 place) (reasons.cause-32 n h c place)
+-- given by yard, after an accepted start and any calls
+pub yard-32 : (lent : Yard) (h : History) (y : Yard) → Made lent h y → (c : Call) (place : ℕ) → step c y .answer ≡ refused 32 place
+    ↔ (((i : ℕ) × (s : List ℕ) × (b : List ℕ) × (bytes : ℕ) × (c ≡ feed i s) × Sits (length (lent .seats)) h i × Says s (bits b) bytes × (fresh h i ≡ true) × (length b ≡ width (pieces h) → ⊥)) × (place ≡ 0))
+yard-32 lent h y m c place = both-ways (reasons.made-fair lent h y m c 32 place) (reasons.cause-32 (length (lent .seats)) h c place)
 
 -- ---- 33: "spare bit set"
 
--- given by yard, of n seats, after an accepted start and any calls
-pub yard-33 : (n : ℕ) (h : History) (y : Yard) → Ran n h y → (c : Call) (place : ℕ) → step c y .answer ≡ refused 33 place
-    ↔ (((i : ℕ) × (s : List ℕ) × (b : List ℕ) × (bytes : ℕ) × (q : ℕ) × (c ≡ feed i s) × Sits n h i × Says s (bits b) bytes × (fresh h i ≡ true) × (length b ≡ width (pieces h)) × (pieces h ≤ q) × (q < 8 * length b) × (bitAt b q ≡ true)) × (place ≡ 0))
-yard-33 n h y r c place = both-ways (reasons.ran-fair n h y r c 33 place) (reasons.cause-33 n h c place)
+-- given by yard, after an accepted start and any calls
+pub yard-33 : (lent : Yard) (h : History) (y : Yard) → Made lent h y → (c : Call) (place : ℕ) → step c y .answer ≡ refused 33 place
+    ↔ (((i : ℕ) × (s : List ℕ) × (b : List ℕ) × (bytes : ℕ) × (q : ℕ) × (c ≡ feed i s) × Sits (length (lent .seats)) h i × Says s (bits b) bytes × (fresh h i ≡ true) × (length b ≡ width (pieces h)) × (pieces h ≤ q) × (q < 8 * length b) × (bitAt b q ≡ true)) × (place ≡ 0))
+yard-33 lent h y m c place = both-ways (reasons.made-fair lent h y m c 33 place) (reasons.cause-33 (length (lent .seats)) h c place)
 
 -- ---- 34: "block or file offset outside its bounds, or a piece to check of the wrong length"
 
--- given by yard, of n seats, after an accepted start and any calls
-pub yard-34 : (n : ℕ) (h : History) (y : Yard) → Ran n h y → (c : Call) (place : ℕ) → step c y .answer ≡ refused 34 place
-    ↔ (((i : ℕ) × (s : List ℕ) × (m : Message (List ℕ)) × (q : ℕ) × (b : ℕ) × (k : ℕ) × (bytes : ℕ) × (c ≡ feed i s) × Sits n h i × Says s m bytes × Block q b k m × (q < pieces h) × (Fits h q b k → ⊥)) × (place ≡ 0))
-yard-34 n h y r c place = both-ways (reasons.ran-fair n h y r c 34 place) (reasons.cause-34 n h c place)
+-- given by yard, after an accepted start and any calls
+pub yard-34 : (lent : Yard) (h : History) (y : Yard) → Made lent h y → (c : Call) (place : ℕ) → step c y .answer ≡ refused 34 place
+    ↔ (((i : ℕ) × (s : List ℕ) × (m : Message (List ℕ)) × (q : ℕ) × (b : ℕ) × (k : ℕ) × (bytes : ℕ) × (c ≡ feed i s) × Sits (length (lent .seats)) h i × Says s m bytes × Block q b k m × (q < pieces h) × (Fits h q b k → ⊥)) × (place ≡ 0))
+yard-34 lent h y m c place = both-ways (reasons.made-fair lent h y m c 34 place) (reasons.cause-34 (length (lent .seats)) h c place)
 
 -- given by blocks::block
 pub block-34 : (files : List Span) (pl p o n : ℕ) (out : List ℕ) (q : ℕ) → written (blockOf files pl p o n) out .answer ≡ refused 34 q ↔ (BlockCause files pl p o n (length out) 34 × (q ≡ 0))
@@ -431,27 +432,27 @@ piece-check-34 s n m p = cited.check-own s n m 34 p (omega arith)
 
 -- ---- 35: "every seat taken"
 
--- given by yard, of n seats, after an accepted start and any calls
-pub yard-35 : (n : ℕ) (h : History) (y : Yard) → Ran n h y → (c : Call) (place : ℕ) → step c y .answer ≡ refused 35 place
-    ↔ (((c ≡ sit) × ((i : ℕ) → i < n → seated h i ≡ true)) × (place ≡ 0))
-yard-35 n h y r c place = both-ways (reasons.ran-fair n h y r c 35 place) (reasons.cause-35 n h c place)
+-- given by yard, after an accepted start and any calls
+pub yard-35 : (lent : Yard) (h : History) (y : Yard) → Made lent h y → (c : Call) (place : ℕ) → step c y .answer ≡ refused 35 place
+    ↔ (((c ≡ sit) × ((i : ℕ) → i < (length (lent .seats)) → seated h i ≡ true)) × (place ≡ 0))
+yard-35 lent h y m c place = both-ways (reasons.made-fair lent h y m c 35 place) (reasons.cause-35 (length (lent .seats)) h c place)
 
 -- ---- 36: "seat number too large, or seat free"
 
--- given by yard, of n seats, after an accepted start and any calls
-pub yard-36 : (n : ℕ) (h : History) (y : Yard) → Ran n h y → (c : Call) (place : ℕ) → step c y .answer ≡ refused 36 place
-    ↔ ((((i : ℕ) × On i c × Nobody n h i)
-    ⊎ (((first : ℕ) × (space : ℕ) × (c ≡ missing first space) × (n < first))
-    ⊎ (((i : ℕ) × (c ≡ look i) × (n ≤ i))
-    ⊎ ((i : ℕ) × (q : ℕ) × (c ≡ has i q) × (n ≤ i))))) × (place ≡ 0))
-yard-36 n h y r c place = both-ways (reasons.ran-fair n h y r c 36 place) (reasons.cause-36 n h c place)
+-- given by yard, after an accepted start and any calls
+pub yard-36 : (lent : Yard) (h : History) (y : Yard) → Made lent h y → (c : Call) (place : ℕ) → step c y .answer ≡ refused 36 place
+    ↔ ((((i : ℕ) × On i c × Nobody (length (lent .seats)) h i)
+    ⊎ (((first : ℕ) × (space : ℕ) × (c ≡ missing first space) × ((length (lent .seats)) < first))
+    ⊎ (((i : ℕ) × (c ≡ look i) × ((length (lent .seats)) ≤ i))
+    ⊎ ((i : ℕ) × (q : ℕ) × (c ≡ has i q) × ((length (lent .seats)) ≤ i))))) × (place ≡ 0))
+yard-36 lent h y m c place = both-ways (reasons.made-fair lent h y m c 36 place) (reasons.cause-36 (length (lent .seats)) h c place)
 
 -- ---- 37: "lent output too short"
 
--- given by yard, of n seats, after an accepted start and any calls
-pub yard-37 : (n : ℕ) (h : History) (y : Yard) → Ran n h y → (c : Call) (place : ℕ) → step c y .answer ≡ refused 37 place
-    ↔ (((i : ℕ) × (space : ℕ) × Marks i space c × Sits n h i × (space < 5)) × (place ≡ 0))
-yard-37 n h y r c place = both-ways (reasons.ran-fair n h y r c 37 place) (reasons.cause-37 n h c place)
+-- given by yard, after an accepted start and any calls
+pub yard-37 : (lent : Yard) (h : History) (y : Yard) → Made lent h y → (c : Call) (place : ℕ) → step c y .answer ≡ refused 37 place
+    ↔ (((i : ℕ) × (space : ℕ) × Marks i space c × Sits (length (lent .seats)) h i × (space < 5)) × (place ≡ 0))
+yard-37 lent h y m c place = both-ways (reasons.made-fair lent h y m c 37 place) (reasons.cause-37 (length (lent .seats)) h c place)
 
 -- given by blocks::block
 pub block-37 : (files : List Span) (pl p o n : ℕ) (out : List ℕ) (q : ℕ) → written (blockOf files pl p o n) out .answer ≡ refused 37 q ↔ (BlockCause files pl p o n (length out) 37 × (q ≡ 0))
@@ -476,10 +477,10 @@ torrent-writer-37 f o p = cited.torrent-written f o 37 p
 
 -- ---- 38: "yard sizes don't fit"
 
--- given by yard, of n seats, after an accepted start and any calls
-pub start-38 : (n : ℕ) (h : History) (y : Yard) → Ran n h y → (c : Call) (place : ℕ) → step c y .answer ≡ refused 38 place
+-- given by yard, after an accepted start and any calls
+pub start-38 : (lent : Yard) (h : History) (y : Yard) → Made lent h y → (c : Call) (place : ℕ) → step c y .answer ≡ refused 38 place
     ↔ (((q : ℕ) × (l : ℕ) × (k : ℕ) × (c ≡ start q l k) × (StartFits h q l k → ⊥)) × (place ≡ 0))
-start-38 n h y r c place = both-ways (reasons.ran-fair n h y r c 38 place) (reasons.cause-38 n h c place)
+start-38 lent h y m c place = both-ways (reasons.made-fair lent h y m c 38 place) (reasons.cause-38 (length (lent .seats)) h c place)
 
 -- given by yard, on any tables
 pub yard-38 : (y : Yard) (c : Call) (place : ℕ) → step c y .answer ≡ refused 38 place ↔ (Unfit y c × (place ≡ 0))
@@ -492,8 +493,8 @@ pub yard-39 : (y : Yard) (c : Call) (place : ℕ) → step c y .answer ≡ refus
 yard-39 y c place = damage.damaged-exactly y c place
 
 -- never given by yard after an accepted start and any calls
-pub never-39 : (n : ℕ) (h : History) (y : Yard) → Ran n h y → (c : Call) (place : ℕ) → step c y .answer ≡ refused 39 place → ⊥
-never-39 n h y r c place = reasons.ran-undamaged n h y r c place
+pub never-39 : (lent : Yard) (h : History) (y : Yard) → Made lent h y → (c : Call) (place : ℕ) → step c y .answer ≡ refused 39 place → ⊥
+never-39 lent h y m c place = reasons.made-undamaged lent h y m c place
 
 -- ---- wait: "more bytes are needed, nothing is used"
 
@@ -505,6 +506,6 @@ frame-wait s = wait-exactly s
 pub handshake-wait : (info s : List ℕ) → length info ≡ 20 → shakeOf info s ≡ taken handshake.wait ↔ (Named s × (length s < 68))
 handshake-wait info s h = shake-wait-exactly info s h
 
--- given by yard, of n seats, after an accepted start and any calls
-pub yard-wait : (n : ℕ) (h : History) (y : Yard) → Ran n h y → (c : Call) → step c y .answer ≡ taken wait ↔ ((i : ℕ) × (s : List ℕ) × (c ≡ feed i s) × Sits n h i × (Few s ⊎ causes.Cut s))
-yard-wait n h y r c = reasons.ran-wait n h y r c
+-- given by yard, after an accepted start and any calls
+pub yard-wait : (lent : Yard) (h : History) (y : Yard) → Made lent h y → (c : Call) → step c y .answer ≡ taken wait ↔ ((i : ℕ) × (s : List ℕ) × (c ≡ feed i s) × Sits (length (lent .seats)) h i × (Few s ⊎ causes.Cut s))
+yard-wait lent h y m c = reasons.made-wait lent h y m c
