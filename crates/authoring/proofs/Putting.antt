@@ -1,76 +1,15 @@
 -- A torrent's text, put part by part. Assumes nothing.
-use mathlib.Core.Path.{_≡_, refl, sym, ap, _∙_}
+use mathlib.Core.Path.{_≡_, sym, ap, _∙_}
 use mathlib.Core.List.{List, [], _∷_, _++_, append-assoc}
-use Prim.Native.Nat.{ℕ, _+_, _^_, _<_, _≤_}
+use Prim.Native.Nat.{ℕ, _+_, _≤_}
 use native.Mathlib.Omega.{arith}
 use lib.ListN.{length, length-append}
-use lib.Seq.{sets, length-sets}
 use Rattle.refusal.specs.Paper.{Outcome}
-use Rattle.refusal.proofs.Places.{sets-append}
 use Rattle.scalar.specs.Written.{decimal, decimalIn, written}
 use Rattle.bencode.specs.Value.{encode}
-use Rattle.writer.specs.Put.{Left, left, putOf}
-use Rattle.writer.proofs.Laws.{put-whole}
-use Rattle.writer.proofs.Decimals.{length-most}
-use Rattle.authoring.specs.Writing.{Fields, textOf, endOf}
-
--- ---- what is put so far
-
--- w is put into o from a place on, up to `next`, which leaves out
-pub record Done (o : List ℕ) (at : ℕ) (w : List ℕ) (next : ℕ) (out : List ℕ) : Type 0 where
-  pub place : next ≡ at + length w
-  pub holds : out ≡ sets o at w
-
-module _ (o : List ℕ) (at : ℕ) where
-  pub nothing-done : Done o at [] at o
-  nothing-done = record { place = omega arith; holds = refl }
-
-  module _ (w v : List ℕ) {here : ℕ} {out : List ℕ} (d : Done o at w here out) where
-    pub more-done : {next : ℕ} {after : List ℕ} → next ≡ here + length v → after ≡ sets out here v → Done o at (w ++ v) next after
-    more-done e h = record {
-      place = omega (arith, d .place, length-append w v);
-      holds = h ∙ rw (d .holds, d .place) (sym (sets-append o at w v));
-    }
-
-    pub room-for : at + length (w ++ v) ≤ length o → here + length v ≤ length out
-    room-for h = omega (arith, d .place, length-append w v, ap length (d .holds), length-sets o at w)
-
-    -- by a part of the writers
-    pub put-done : {next : ℕ} {after : List ℕ} {a : Outcome ℕ} → at + length (w ++ v) ≤ length o → left a after ≡ putOf v here out → next ≡ endOf a → Done o at (w ++ v) next after
-    put-done h e f =
-        let g = e ∙ put-whole v here out (room-for h) in
-        more-done (f ∙ ap (λ (x : Left). endOf (x .answer)) g) (ap (λ (x : Left). x .out) g)
-
--- what leads to a string, and the string
-pub put-pair : (o : List ℕ) (at : ℕ) (lead w : List ℕ) {a b : ℕ} {o₁ o₂ : List ℕ} {r₁ r₂ : Outcome ℕ} → at + length (lead ++ w) ≤ length o
-    → left r₁ o₁ ≡ putOf lead at o → a ≡ endOf r₁ → left r₂ o₂ ≡ putOf w a o₁ → b ≡ endOf r₂ → (b ≡ at + length (lead ++ w)) × (o₂ ≡ sets o at (lead ++ w))
-put-pair o at lead w h e₁ f₁ e₂ f₂ =
-    let l = length-append lead w in
-    let d₁ = put-done o at [] lead (nothing-done o at) (omega arith) e₁ f₁ in
-    let d₂ = put-done o at lead w d₁ h e₂ f₂ in
-    (d₂ .place, d₂ .holds)
-
--- what leads to digits, the digits, and e
-pub put-three : (o : List ℕ) (at : ℕ) (lead w v : List ℕ) {a b c : ℕ} {o₁ o₂ o₃ : List ℕ} {r₁ r₂ r₃ : Outcome ℕ} → at + length (lead ++ (w ++ v)) ≤ length o
-    → left r₁ o₁ ≡ putOf lead at o → a ≡ endOf r₁ → left r₂ o₂ ≡ putOf w a o₁ → b ≡ endOf r₂ → left r₃ o₃ ≡ putOf v b o₂ → c ≡ endOf r₃
-    → (c ≡ at + length (lead ++ (w ++ v))) × (o₃ ≡ sets o at (lead ++ (w ++ v)))
-put-three o at lead w v h e₁ f₁ e₂ f₂ e₃ f₃ =
-    let q = append-assoc lead w v in
-    let k = ap length q in
-    let l = length-append lead w in
-    let m = length-append (lead ++ w) v in
-    let d₁ = put-done o at [] lead (nothing-done o at) (omega arith) e₁ f₁ in
-    let d₂ = put-done o at lead w d₁ (omega arith) e₂ f₂ in
-    let d₃ = put-done o at (lead ++ w) v d₂ (omega arith) e₃ f₃ in
-    (d₃ .place ∙ ap (λ (x : List ℕ). at + length x) q, d₃ .holds ∙ ap (sets o at) q)
-
--- the digits of a number, from the room that they take
-pub counted-digits : (n : ℕ) (room : List ℕ) {r : Outcome ℕ} {out : List ℕ} {at : ℕ} → n < 2 ^ 64 → length room ≡ 20 → left r out ≡ putOf (decimal n) 0 room → at ≡ endOf r → (at ≡ length (decimal n)) × (at ≤ 20)
-counted-digits n room {at = at} h l e f =
-    let m : length (decimal n) ≤ 20 = length-most 19 n (omega arith) in
-    let g = e ∙ put-whole (decimal n) 0 room (omega arith) in
-    let k : at ≡ length (decimal n) = f ∙ ap (λ (x : Left). endOf (x .answer)) g ∙ omega arith in
-    (k, omega arith)
+use Rattle.writer.specs.Put.{left, putOf, endOf, Ran}
+use Rattle.writer.proofs.Runs.{ran-then, ran-as, ran-room, ran-put}
+use Rattle.authoring.specs.Writing.{Fields, textOf}
 
 -- ---- the text's parts
 
@@ -144,10 +83,6 @@ module _ (f : Fields) where
         length-append toPieces (written (f .pieces)),
       )
 
--- v is put from `at` on, as a function that puts it ensures
-abbrev pub Put : List ℕ → ℕ → List ℕ → ℕ → List ℕ → Type 0
-Put o at v next out = (next ≡ at + length v) × (out ≡ sets o at v)
-
 -- the parts one after the other, where the whole text fits
 module _ (f : Fields) (o : List ℕ) (h : length (textOf f) ≤ length o) where
   abbrev v₁ : List ℕ
@@ -183,36 +118,32 @@ module _ (f : Fields) (o : List ℕ) (h : length (textOf f) ≤ length o) where
   pub room-announce : 0 + length v₁ ≤ length o
   room-announce = omega (arith, fits₂, length-append v₁ v₂)
 
-  module _ {a : ℕ} {o₁ : List ℕ} (p₁ : Put o 0 v₁ a o₁) where
-    d₁ : Done o 0 v₁ a o₁
-    d₁ = record { place = p₁ .0; holds = p₁ .1 }
-
+  module _ {a : ℕ} {o₁ : List ℕ} (r₁ : Ran v₁ 0 o a o₁) where
     pub room-length : a + length v₂ ≤ length o₁
-    room-length = room-for o 0 v₁ v₂ d₁ fits₂
+    room-length = ran-room r₁ v₂ fits₂
 
-    module _ {b : ℕ} {o₂ : List ℕ} (p₂ : Put o₁ a v₂ b o₂) where
-      d₂ : Done o 0 (v₁ ++ v₂) b o₂
-      d₂ = more-done o 0 v₁ v₂ d₁ (p₂ .0) (p₂ .1)
+    module _ {b : ℕ} {o₂ : List ℕ} (p₂ : Ran v₂ a o₁ b o₂) where
+      r₂ : Ran (v₁ ++ v₂) 0 o b o₂
+      r₂ = ran-then r₁ p₂
 
       pub room-name : b + length v₃ ≤ length o₂
-      room-name = room-for o 0 (v₁ ++ v₂) v₃ d₂ fits₃
+      room-name = ran-room r₂ v₃ fits₃
 
-      module _ {c : ℕ} {o₃ : List ℕ} (p₃ : Put o₂ b v₃ c o₃) where
-        d₃ : Done o 0 ((v₁ ++ v₂) ++ v₃) c o₃
-        d₃ = more-done o 0 (v₁ ++ v₂) v₃ d₂ (p₃ .0) (p₃ .1)
+      module _ {c : ℕ} {o₃ : List ℕ} (p₃ : Ran v₃ b o₂ c o₃) where
+        r₃ : Ran ((v₁ ++ v₂) ++ v₃) 0 o c o₃
+        r₃ = ran-then r₂ p₃
 
         pub room-piece : c + length v₄ ≤ length o₃
-        room-piece = room-for o 0 ((v₁ ++ v₂) ++ v₃) v₄ d₃ fits₄
+        room-piece = ran-room r₃ v₄ fits₄
 
-        module _ {d : ℕ} {o₄ : List ℕ} (p₄ : Put o₃ c v₄ d o₄) where
-          d₄ : Done o 0 (((v₁ ++ v₂) ++ v₃) ++ v₄) d o₄
-          d₄ = more-done o 0 ((v₁ ++ v₂) ++ v₃) v₄ d₃ (p₄ .0) (p₄ .1)
+        module _ {d : ℕ} {o₄ : List ℕ} (p₄ : Ran v₄ c o₃ d o₄) where
+          r₄ : Ran (((v₁ ++ v₂) ++ v₃) ++ v₄) 0 o d o₄
+          r₄ = ran-then r₃ p₄
 
           pub room-pieces : d + length v₅ ≤ length o₄
-          room-pieces = room-for o 0 (((v₁ ++ v₂) ++ v₃) ++ v₄) v₅ d₄ fits₅
+          room-pieces = ran-room r₄ v₅ fits₅
 
-          pub all-put : {i j : ℕ} {o₅ o₆ : List ℕ} {r : Outcome ℕ} → Put o₄ d v₅ i o₅ → left r o₆ ≡ putOf (101 ∷ e) i o₅ → j ≡ endOf r → (j ≡ length (textOf f)) × (o₆ ≡ sets o 0 (textOf f))
+          pub all-put : {i j : ℕ} {o₅ o₆ : List ℕ} {a : Outcome ℕ} → Ran v₅ d o₄ i o₅ → left a o₆ ≡ putOf (101 ∷ e) i o₅ → j ≡ endOf a → Ran (textOf f) 0 o j o₆
           all-put p₅ g k =
-              let d₅ = more-done o 0 (((v₁ ++ v₂) ++ v₃) ++ v₄) v₅ d₄ (p₅ .0) (p₅ .1) in
-              let d₆ = put-done o 0 ((((v₁ ++ v₂) ++ v₃) ++ v₄) ++ v₅) (101 ∷ e) d₅ fits₆ g k in
-              (omega (arith, d₆ .place, ap length (parts f)), d₆ .holds ∙ ap (sets o 0) (sym (parts f)))
+              let r₅ = ran-then r₄ p₅ in
+              ran-as (ran-put r₅ (101 ∷ e) fits₆ g k) (sym (parts f))

@@ -7,8 +7,10 @@ use native.Mathlib.Omega.{arith}
 use lib.Dec.{leb}
 use lib.IntN.{pos, negsuc}
 use lib.ListN.{length}
-use Rattle.refusal.specs.Paper.{Outcome, taken, refused, map, then}
+use Rattle.refusal.specs.Paper.{Outcome, taken, refused, then}
 use Rattle.refusal.specs.Limits.{longestFile, longestPiece}
+use Rattle.refusal.proofs.Cases.{no-way}
+use Rattle.refusal.proofs.Outcomes.{then-then, map-then}
 use Rattle.bencode.specs.Value.{Value, str, int, list, dict}
 use Rattle.bencode.specs.Exact.{Fine}
 use Rattle.bencode.proofs.Exact.{fine-taken}
@@ -21,7 +23,6 @@ use Rattle.metainfo.specs.Rules.{goodName, nameAt, pieceLengthAt, contentOf, on
 use Rattle.metainfo.specs.Reading.{readOf}
 use Rattle.metainfo.specs.declared.Content.{Content}
 use Rattle.metainfo.specs.declared.Torrent.{Torrent}
-use Rattle.metainfo.proofs.Naming.{no-way}
 use Rattle.metainfo.proofs.Exact.{torrent-exact}
 use Rattle.authoring.specs.Writing.{Fields, fields, topWith, infoWith, valueOf, textOf, puts, writeOf}
 use Rattle.authoring.specs.Rules.{Ruled}
@@ -60,15 +61,6 @@ module _ {B : Type 0} (t : B) (p : ℕ) where
   number-only most (list vs) g e = no-way (cc)
   number-only most (dict es) g e = no-way (cc)
 
--- one check after another, and the second of what the first took
-in-turn : {X Y Z : Type 0} (o : Outcome X) (g : X → Outcome Y) (h : Y → Outcome Z) → then (then o g) h ≡ then o (λ x. then (g x) h)
-in-turn (taken x) g h = refl
-in-turn (refused n p) g h = refl
-
-mapped : {X Y Z : Type 0} (o : Outcome X) (g : X → Y) (h : Y → Outcome Z) → then (map g o) h ≡ then o (λ x. h (g x))
-mapped (taken x) g h = refl
-mapped (refused n p) g h = refl
-
 -- ---- a torrent with only those keys has fields
 
 same-value : (a l n pl ps : Value) {A N S : List ℕ} {p m : ℕ} → a ≡ str A → n ≡ str N → pl ≡ int (pos p) → ps ≡ str S → l ≡ int (pos m) → topWith a (infoWith l n pl ps) ≡ valueOf (fields A N p S m)
@@ -104,7 +96,7 @@ module _ (a l n pl ps : Value) (t : Torrent) where
   after-name : (x y : Part) → k₂ x y ≡ taken t → (m : ℕ) × (pl ≡ int (pos m)) × (k₃ x y m ≡ taken t)
   unfolding k₂
   after-name x y e =
-      let r = number-only t (piecePlace a l n) longestPiece pl (λ m. then (tested m) (k₃ x y)) (sym (in-turn (naturalAt longestPiece (piecePlace a l n) pl) tested (k₃ x y)) ∙ e) in
+      let r = number-only t (piecePlace a l n) longestPiece pl (λ m. then (tested m) (k₃ x y)) (sym (then-then (naturalAt longestPiece (piecePlace a l n) pl) tested (k₃ x y)) ∙ e) in
       (r .0, r .1, legal (r .0) (pieceLength (r .0)) (r .2))
     where
       tested : ℕ → Outcome ℕ
@@ -121,7 +113,7 @@ module _ (a l n pl ps : Value) (t : Torrent) where
   after-pieces : (x y : Part) (m : ℕ) (z : Part) → k₄ x y m z ≡ taken t → (i : ℕ) × (l ≡ int (pos i))
   unfolding k₄
   after-pieces x y m z e =
-      let r = number-only t (lengthPlace a) longestFile l (λ i. k₅ x y m z (oneFile (lengthPlace a) i)) (sym (mapped (naturalAt longestFile (lengthPlace a) l) (oneFile (lengthPlace a)) (k₅ x y m z)) ∙ e) in
+      let r = number-only t (lengthPlace a) longestFile l (λ i. k₅ x y m z (oneFile (lengthPlace a) i)) (sym (map-then (naturalAt longestFile (lengthPlace a) l) (oneFile (lengthPlace a)) (k₅ x y m z)) ∙ e) in
       (r .0, r .1)
 
   pub has-fields : torrentOf (topWith a (infoWith l n pl ps)) ≡ taken t → (f : Fields) × (topWith a (infoWith l n pl ps) ≡ valueOf f)

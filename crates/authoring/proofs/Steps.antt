@@ -6,18 +6,17 @@ use Prim.Native.Nat.{ℕ, _+_, _*_, _<_, _≤_}
 use native.Mathlib.Omega.{arith}
 use lib.Dec.{eqb, ltb}
 use lib.ListN.{length, length-append}
-use lib.Seq.{sets}
 use borrow.Author.Tests.{eq-eqb, ne-eqb, lt-ltb, le-ltb, ltb-true, ltb-false, eqb-true}
 use Rattle.refusal.specs.Paper.{Outcome, taken, refused, then}
+use Rattle.refusal.proofs.Cases.{no-way}
 use Rattle.scalar.specs.Written.{decimal, written}
-use Rattle.writer.specs.Put.{left, putOf}
+use Rattle.writer.specs.Put.{left, putOf, Ran}
 use Rattle.writer.specs.Put.{paper as putPaper}
 use Rattle.writer.specs.declared.Put.{Put}
 use Rattle.writer.specs.declared.Put.the-variants.{Refused}
-use Rattle.writer.proofs.Laws.{put-whole, put-none}
+use Rattle.writer.proofs.Laws.{put-none, put-done}
 use Rattle.metainfo.specs.Rules.{torrentOf}
 use Rattle.metainfo.specs.declared.Torrent.{Torrent}
-use Rattle.metainfo.proofs.Naming.{no-way}
 use Rattle.metainfo.proofs.Sizing.{few-pieces}
 use Rattle.authoring.specs.Writing.{Fields, valueOf, textOf, atStart, sizeOf, puts, writeOf, paper}
 use Rattle.authoring.specs.Rules.{pieceCount, Ruled, Broken}
@@ -107,7 +106,5 @@ module _ (f : Fields) where
       pub write-none : {r : Put} → length o < n → r ≡ Refused (record { number = 37; place = 0 }) → left (putPaper r) o ≡ writeOf f o
       write-none h g = ap (λ (x : Put). left (putPaper x) o) g ∙ sym (write-puts ∙ put-none (textOf f) 0 o (omega (arith, size-is n e)))
 
-      pub write-whole : {at : ℕ} {out : List ℕ} → n ≤ length o → at ≡ length (textOf f) → out ≡ sets o 0 (textOf f) → left (taken at) out ≡ writeOf f o
-      write-whole {at} h g w =
-          let z : at ≡ 0 + length (textOf f) = omega arith in
-          rw (z, w) (sym (write-puts ∙ put-whole (textOf f) 0 o (omega (arith, size-is n e))))
+      pub write-whole : {at : ℕ} {out : List ℕ} → n ≤ length o → Ran (textOf f) 0 o at out → left (taken at) out ≡ writeOf f o
+      write-whole h r = put-done (textOf f) 0 o (omega (arith, size-is n e)) (r .place) (r .out) ∙ sym write-puts

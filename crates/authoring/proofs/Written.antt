@@ -11,6 +11,7 @@ use lib.Seq.{sets}
 use borrow.Author.Tests.{leb-true, leb-false, lt-ltb}
 use Rattle.refusal.specs.Paper.{Outcome, taken, refused}
 use Rattle.refusal.specs.Limits.{longestFile}
+use Rattle.refusal.proofs.Cases.{no-way}
 use Rattle.scalar.specs.Written.{keyLt}
 use Rattle.bencode.specs.Value.{Value, str, int, empty, entry, encode, count, Keeps, start, last}
 use Rattle.bencode.specs.Exact.{Fine}
@@ -26,7 +27,6 @@ use Rattle.metainfo.specs.Keys.{announceKey, infoKey, lengthKey, nameKey, piece
 use Rattle.metainfo.specs.Rules.{torrentOf}
 use Rattle.metainfo.specs.Reading.{readOf}
 use Rattle.metainfo.specs.declared.Torrent.{Torrent}
-use Rattle.metainfo.proofs.Naming.{no-way}
 use Rattle.metainfo.proofs.Exact.{torrent-exact}
 use Rattle.authoring.specs.Writing.{Fields, infoWith, valueOf, textOf, sizeOf, puts, writeOf, paper}
 use Rattle.authoring.specs.Rules.{Ruled, NotWritten, broken, too-long, no-room}

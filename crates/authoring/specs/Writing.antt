@@ -62,8 +62,3 @@ writeOf f o = puts (textOf f) o (sizeOf f)
 abbrev pub paper : Sized → Outcome ℕ
 paper (Bytes n) = taken n
 paper (Refused r) = refusal r
-
--- the place past what was put
-abbrev pub endOf : Outcome ℕ → ℕ
-endOf (taken q) = q
-endOf (refused n p) = 0

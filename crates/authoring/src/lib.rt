@@ -3,19 +3,20 @@ ghost use mathlib.Core.Path.{_≡_};
 ghost use mathlib.Core.List.{[], _∷_, _++_};
 ghost use Prim.Native.Nat.{_+_, _≤_};
 ghost use lib.ListN.{length as lengthOf};
-ghost use lib.Seq.{sets};
 ghost use Rattle.refusal.specs.Numbers.{room};
 ghost use Rattle.refusal.specs.Limits.{mostText};
 ghost use Rattle.scalar.specs.Written.{decimal, written};
-ghost use Rattle.writer.specs.Put.{left};
+ghost use Rattle.writer.specs.Put.{left, Ran};
 ghost use Rattle.writer.specs.Put.{paper as putPaper};
-ghost use Rattle.authoring.specs.Writing.{fields, textOf, sizeOf, writeOf, paper, endOf};
+ghost use Rattle.authoring.specs.Writing.{fields, textOf, sizeOf, writeOf, paper};
 use blocks::rules;
 use blocks::rules::Total;
 use refusal::Refusal;
 use refusal::limit;
 use refusal::number;
 use writer::Put;
+use writer::digits;
+use writer::end;
 
 // How many bytes a torrent's text has.
 pub enum Sized {
@@ -91,7 +92,7 @@ fn put_all(
     length: u64,
 ) -> usize
     requires { ⌜ lengthOf (textOf (fields (now announce) (now name) «piece_length» (now pieces) length)) ≤ lengthOf (now out) ⌝ }
-    ensures { λ r. ⌜ (r ≡ lengthOf (textOf (fields (now (announce .entry)) (now (name .entry)) «piece_length» (now (pieces .entry)) length))) × (now (out .exit) ≡ sets (now (out .entry)) 0 (textOf (fields (now (announce .entry)) (now (name .entry)) «piece_length» (now (pieces .entry)) length))) ⌝ }
+    ensures { λ r. ⌜ Ran (textOf (fields (now (announce .entry)) (now (name .entry)) «piece_length» (now (pieces .entry)) length)) 0 (now (out .entry)) r (now (out .exit)) ⌝ }
 {
     let a = put_string(out, 0, b"d8:announce", announce);
     let b = put_number(out, a, b"4:infod6:lengthi", length);
@@ -104,7 +105,7 @@ fn put_all(
 // Puts what leads to a string, and the string; gives the place past it.
 fn put_string(out: &mut [u8], at: usize, lead: &[u8], bytes: &[u8]) -> usize
     requires { ⌜ at + lengthOf (now lead ++ written (now bytes)) ≤ lengthOf (now out) ⌝ }
-    ensures { λ r. ⌜ (r ≡ at + lengthOf (now (lead .entry) ++ written (now (bytes .entry)))) × (now (out .exit) ≡ sets (now (out .entry)) at (now (lead .entry) ++ written (now (bytes .entry)))) ⌝ }
+    ensures { λ r. ⌜ Ran (now (lead .entry) ++ written (now (bytes .entry))) at (now (out .entry)) r (now (out .exit)) ⌝ }
 {
     let a = end(writer::literal(out, at, lead));
     end(writer::string(out, a, bytes))
@@ -113,35 +114,19 @@ fn put_string(out: &mut [u8], at: usize, lead: &[u8], bytes: &[u8]) -> usize
 // Puts what leads to an integer's digits, the digits, and its e; gives the place past it.
 fn put_number(out: &mut [u8], at: usize, lead: &[u8], n: u64) -> usize
     requires { ⌜ at + lengthOf (now lead ++ (decimal n ++ (101 ∷ []))) ≤ lengthOf (now out) ⌝ }
-    ensures { λ r. ⌜ (r ≡ at + lengthOf (now (lead .entry) ++ (decimal n ++ (101 ∷ [])))) × (now (out .exit) ≡ sets (now (out .entry)) at (now (lead .entry) ++ (decimal n ++ (101 ∷ [])))) ⌝ }
+    ensures { λ r. ⌜ Ran (now (lead .entry) ++ (decimal n ++ (101 ∷ []))) at (now (out .entry)) r (now (out .exit)) ⌝ }
 {
     let a = end(writer::literal(out, at, lead));
     let b = end(writer::decimal(out, a, n));
     end(writer::literal(out, b, b"e"))
 }
 
+// How many bytes a string has as it is written.
 fn string_size(bytes: &[u8]) -> usize
     requires { ⌜ lengthOf (now bytes) ≤ mostText ⌝ }
     ensures { λ r. ⌜ (r ≡ lengthOf (written (now (bytes .entry)))) × (r ≤ mostText + 21) ⌝ }
 {
     digits(bytes.len() as u64) + 1 + bytes.len()
-}
-
-fn digits(n: u64) -> usize
-    ensures { λ r. ⌜ (r ≡ lengthOf (decimal n)) × (r ≤ 20) ⌝ }
-{
-    let mut room = [0u8; 20];
-    end(writer::decimal(&mut room, 0, n))
-}
-
-// The place past what was put.
-fn end(put: Put) -> usize
-    ensures { λ r. ⌜ r ≡ endOf (putPaper put) ⌝ }
-{
-    match put {
-        Put::To(at) => at,
-        Put::Refused(_) => 0,
-    }
 }
 
 fn refused(number: u8) -> Sized

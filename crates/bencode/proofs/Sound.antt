@@ -1,6 +1,6 @@
 -- A value that is taken was written so, is counted, and keeps the rules. Assumes nothing.
 use mathlib.Core.Path.{_≡_, refl, sym, ap, _∙_, subst}
-use mathlib.Core.Bool.{Bool, true, false, cond}
+use mathlib.Core.Bool.{Bool, true, false, false≢true, cond}
 use mathlib.Core.List.{List, [], _∷_, _++_}
 use Prim.Native.Nat.{ℕ, zero, suc, _+_, _<_, _≤_}
 use native.Mathlib.Omega.{arith}
@@ -9,9 +9,10 @@ use lib.IntN.{ℤ}
 use lib.ListN.{length, drop}
 use borrow.Author.Tests.{ltb-true, eqb-true}
 use Rattle.refusal.specs.Numbers.{byte, order, integer, many}
+use Rattle.refusal.proofs.Cases.{by-test}
 use Rattle.scalar.specs.Written.{written, writtenInt, inRange}
 use Rattle.scalar.specs.Reading.{Got, got, bad, andThen, mapGot, onHead, isDigit, stringOf, integerOf}
-use Rattle.scalar.proofs.Sound.{Holds, holds-map, holds-then, holds-cond, by-cond, At, at-then, at-byte, at-left, TextP, string-sound, IntP, int-sound, never}
+use Rattle.scalar.proofs.Sound.{Holds, holds-map, holds-then, holds-cond, At, at-then, at-byte, at-left, TextP, string-sound, IntP, int-sound}
 use Rattle.bencode.specs.Value.{Value, Items, Entries, str, int, list, dict, none, item, empty, entry, encode, encodeItems, encodeEntries, count, countItems, countEntries, Keeps, KeepsItems, KeepsEntries, Prev, start, last, follows}
 use Rattle.bencode.specs.Decode.{Kind, digit, letterI, letterL, letterD, other, kindOf, begin, ranged, valueBy, closes, itemsBy, itemsOf, ordered, keyOf, entriesBy, entriesOf, valueOf}
 
@@ -58,7 +59,7 @@ pub record TookEntries (l : List ℕ) (d : ℕ) (prev : Prev) (p n : ℕ) (es : 
   pub keeps : KeepsEntries es d prev
 
 at-e : (l : List ℕ) (p : ℕ) → closes l ≡ true → At l p (drop 1 l) (p + 1) (101 ∷ [])
-at-e [] p h = absurd (never h)
+at-e [] p h = absurd (false≢true h)
 at-e (b ∷ t) p h = subst (λ (c : ℕ). At (b ∷ t) p t (p + 1) (c ∷ [])) (eqb-true b 101 h) (at-byte b t p)
 
 module _ (d e : ℕ) (val : List ℕ → ℕ → ℕ → Got Value) (sound : (l : List ℕ) (p n : ℕ) → p + length l ≡ e → Holds (Took l d p n) (val l p n)) where
@@ -137,10 +138,10 @@ KindP b other = Unit
 pub kind-view : (b : ℕ) → KindP b (kindOf b)
 unfolding kindOf
 kind-view b =
-    by-cond (KindP b) (eqb b 105) _ _ (λ y. eqb-true b 105 y)
-    (λ x. by-cond (KindP b) (eqb b 108) _ _ (λ y. eqb-true b 108 y)
-    (λ x. by-cond (KindP b) (eqb b 100) _ _ (λ y. eqb-true b 100 y)
-    (λ x. by-cond (KindP b) (isDigit b) _ _ (λ y. y) (λ y. tt))))
+    by-test (KindP b) (eqb b 105) (λ y. eqb-true b 105 y)
+    (λ x. by-test (KindP b) (eqb b 108) (λ y. eqb-true b 108 y)
+    (λ x. by-test (KindP b) (eqb b 100) (λ y. eqb-true b 100 y)
+    (λ x. by-test (KindP b) (isDigit b) (λ y. y) (λ y. tt))))
 
 value-by : (d e b : ℕ) (t : List ℕ) (p n : ℕ) (ls : List ℕ → ℕ → ℕ → Got Items) (ds : List ℕ → ℕ → ℕ → Got Entries) → p + suc (length t) ≡ e → (k : Kind) → KindP b k
     → (b ≡ 108 → n < 16384 → Holds (λ vs. Took (b ∷ t) d p n (list vs)) (ls t (p + 1) (n + 1)))

@@ -11,6 +11,7 @@ use lib.Seq.{drop-drop, drop-append-seam}
 use borrow.Author.Tests.{lt-ltb, le-ltb, ne-eqb, eq-eqb, eqb-true, eqb-false}
 use Rattle.refusal.specs.Numbers.{cut, byte, order, integer, deep, many}
 use Rattle.refusal.specs.declared.Refusal.{Refusal}
+use Rattle.refusal.proofs.Cases.{no-way}
 use Rattle.scalar.specs.Written.{decimal, written, inRange}
 use Rattle.scalar.specs.Reading.{Got, got, bad, andThen, mapGot, onHead, isDigit, stringOf, stringAt, integerOf, integerAt}
 use Rattle.scalar.specs.Answers.{textOf, integerIs}
@@ -32,9 +33,6 @@ use Rattle.bencode.specs.declared.Step.{Step}
 use Rattle.bencode.specs.declared.Step.the-variants.{Past, Bad}
 use Rattle.bencode.proofs.Sound.{Took, value-sound, KeyP, key-sound}
 use Rattle.bencode.proofs.Complete.{encode-pos, kind-digit}
-
-abbrev no-way : {A : Type 0} → _≡_ {A = ℕ} 0 1 → A
-no-way e = absurd (omega arith)
 
 pub step-map : {A B : Type 0} (f : A → B) (g : Got A) → stepOf (mapGot f g) ≡ stepOf g
 step-map f (got v l q m) = refl

@@ -1,9 +1,7 @@
 -- The ★ texts of document 01 as one table, each with the count it is taken with or the number and place of its refusal. Assumes nothing.
 use mathlib.Core.Path.{_≡_, refl}
-use mathlib.Core.Bool.{Bool, true, false}
-use mathlib.Core.List.{List, [], _∷_}
+use mathlib.Core.List.{List, [], _∷_, map}
 use Prim.Native.Nat.{ℕ}
-use lib.Dec.{eqb}
 use Rattle.refusal.specs.Paper.{Outcome, taken, refused}
 use Rattle.scalar.specs.Written.{keyLt}
 use Rattle.scalar.specs.Reading.{digitsVal, digitsLen, stringOf, closedOf, integerOf}
@@ -14,20 +12,6 @@ use Rattle.bencode.specs.Answers.{checkOf}
 pub record Star : Type 0 where
   pub text : List ℕ
   pub answer : Outcome ℕ
-
-abbrev both : Bool → Bool → Bool
-both true b = b
-both false b = false
-
-abbrev same : Outcome ℕ → Outcome ℕ → Bool
-same (taken m) (taken n) = eqb m n
-same (taken m) (refused r p) = false
-same (refused q o) (taken n) = false
-same (refused q o) (refused r p) = both (eqb q r) (eqb o p)
-
-unfoldable pub all : List Star → Bool
-all [] = true
-all (x ∷ xs) = both (same (checkOf (x .text)) (x .answer)) (all xs)
 
 -- each text stands above its bytes
 unfoldable pub stars : List Star
@@ -54,6 +38,7 @@ stars =
     record { text = 108 ∷ 101 ∷ 101 ∷ []; answer = refused 7 2 } ∷
     []
 
-pub stars-hold : all stars ≡ true
-unfolding all stars decode valueOf itemsOf entriesOf kindOf stringOf closedOf integerOf keyOf digitsVal digitsLen keyLt count
+-- `check` is to answer what the table says
+pub stars-hold : map (λ (x : Star). checkOf (x .text)) stars ≡ map (λ (x : Star). x .answer) stars
+unfolding stars decode valueOf itemsOf entriesOf kindOf stringOf closedOf integerOf keyOf digitsVal digitsLen keyLt count
 stars-hold = refl

@@ -1,6 +1,7 @@
 // The order of a dictionary's keys: by their bytes, strictly, a prefix first.
 use crate::report::each;
 
+// Every case of this file.
 pub fn all() {
     // The empty key, a prefix, a shorter key that comes after, the case of a letter, digits: each right and wrong.
     each(

@@ -1,6 +1,7 @@
 // The limits: 1,048,576 bytes, 32 levels, 16,384 values.
 use crate::report::each;
 
+// Texts about as long as a text may be.
 pub fn bytes() {
     each(
         b"1048568:(1048568*s) 1048569:(1048569*s) 1048569:(1048568*s) i(1048574*1)e \
@@ -8,6 +9,7 @@ pub fn bytes() {
     );
 }
 
+// Lists as deep as they may be, and deeper.
 pub fn levels() {
     each(
         b"(31*d0:)de(31*e) (32*d0:)de(32*e) (16*ld0:)0:(32*e) (31*l)lele(31*e) \

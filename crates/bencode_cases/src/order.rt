@@ -1,6 +1,7 @@
 // Which refusal comes first where a text has cause for two.
 use crate::report::each;
 
+// Every case of this file.
 pub fn all() {
     // Where value number 16,385 begins, a key or not: a wrong byte, then too many values, then too many levels.
     each(

@@ -1,6 +1,7 @@
 // The texts that document 01 names; `(0*x)` is the empty one.
 use crate::report::each;
 
+// Every case of this file.
 pub fn all() {
     each(
         b"i-3e i-0e i03e d3:cow3:moo4:spam4:eggse d4:spam4:eggs3:cow3:mooe d1:a0:1:a0:e (0*x) \

@@ -1,6 +1,7 @@
 // Integers and strings.
 use crate::report::each;
 
+// Integers, whole and broken.
 pub fn integers() {
     each(b"i0e i10e i-10e i ie i- i-e i-0 i-01e i--1e i0 i00e i+1e i%201e i1 i1x i1-e");
     // The range, and numbers that 64 bits would wrap.
@@ -17,6 +18,7 @@ pub fn integers() {
     );
 }
 
+// Strings, whole and broken.
 pub fn strings() {
     each(
         b"0 0: 1 1: 1:a 4:spam 5:spam 10:0123456789 3:i1e 3:%00%0A%FF \

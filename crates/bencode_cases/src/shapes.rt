@@ -1,6 +1,7 @@
 // Lists and dictionaries, and what stands before and after a value.
 use crate::report::each;
 
+// Every case of this file.
 pub fn all() {
     each(b"e x I1e / ; %00 %20 %FF");
     each(b"l le l0: l0:e li1e li1e1:ae lx lle llelee ldee");

@@ -2,6 +2,7 @@
 use crate::report::block;
 use crate::report::byte;
 
+// Every case of this file.
 pub fn all() {
     ones();
     ends();

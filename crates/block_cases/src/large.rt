@@ -3,6 +3,7 @@ use crate::report::block;
 use crate::report::byte;
 use crate::report::size;
 
+// Every case of this file.
 pub fn all() {
     one();
     two();

@@ -3,6 +3,7 @@ use crate::report::block;
 use crate::report::byte;
 use crate::report::size;
 
+// Every case of this file.
 pub fn all() {
     let three = [20000u64, 0, 12769];
     blocks(&three);

@@ -4,6 +4,7 @@ use crate::report::byte;
 use crate::report::each_length;
 use crate::report::size;
 
+// Every case of this file.
 pub fn all() {
     let one = [32769u64];
     powers(&one);

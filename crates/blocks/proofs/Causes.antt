@@ -9,17 +9,19 @@ use lib.ListN.{length, getD}
 use borrow.Author.Tests.{ltb-true, ltb-false, leb-false, lt-leb, lt-ltb, le-ltb}
 use Rattle.refusal.specs.Paper.{Outcome, taken, refused}
 use Rattle.refusal.specs.Numbers as no
+use Rattle.refusal.proofs.Cases.{cannot, false-if}
+use Rattle.refusal.proofs.Outcomes.{not-refused, same-refusal}
 use Rattle.blocks.specs.Spans.{Span, lengths, partsOf, heldIn, nowhere}
 use Rattle.blocks.specs.Answers.{Spot, spotAt, pieces, keeps, lies, sizeOf, blockOf, byteOf, left, written}
 use Rattle.blocks.specs.Covers.{Block, Rules, SizeCause, size-range, size-beyond, BlockCause, block-range, block-beyond, block-outside, block-room, ByteCause, byte-range, byte-beyond, byte-outside}
-use Rattle.blocks.proofs.Legal.{never, lawful-is, is-lawful}
+use Rattle.blocks.proofs.Legal.{lawful-is, is-lawful}
 use Rattle.blocks.proofs.Whole.{lies-is, is-lies}
 
 -- ---- a test that fails says that its rule does not hold
 
 module _ (ss : List Span) (pl : ℕ) where
   breaks : keeps ss pl ≡ false → Rules ss pl → ⊥
-  breaks e h = never (sym e ∙ is-lawful pl (lengths ss) (pieces ss pl) h)
+  breaks e h = cannot _ e (is-lawful pl (lengths ss) (pieces ss pl) h)
 
   rules-of : keeps ss pl ≡ true → Rules ss pl
   rules-of e = lawful-is pl (lengths ss) (pieces ss pl) e
@@ -28,25 +30,10 @@ module _ (ss : List Span) (pl : ℕ) where
   keeps-of h = is-lawful pl (lengths ss) (pieces ss pl) h
 
   not-keeps : (Rules ss pl → ⊥) → keeps ss pl ≡ false
-  not-keeps h = by (keeps ss pl) refl
-    where
-      by : (t : Bool) → keeps ss pl ≡ t → keeps ss pl ≡ false
-      by true e = absurd (h (rules-of e))
-      by false e = e
+  not-keeps h = false-if (keeps ss pl) (λ e. h (rules-of e))
 
 not-lies : (held o n : ℕ) → (Block held o n → ⊥) → lies held o n ≡ false
-not-lies held o n h = by (lies held o n) refl
-  where
-    by : (t : Bool) → lies held o n ≡ t → lies held o n ≡ false
-    by true e = absurd (h (lies-is held o n e))
-    by false e = e
-
--- two refusals that are one have one number and one place
-same-number : {A : Type 0} (r s p q : ℕ) → _≡_ {A = Outcome A} (refused r p) (refused s q) → (r ≡ s) × (p ≡ q)
-same-number r s p q e = (cc, cc)
-
-not-refused : {A B : Type 0} (x : A) (r q : ℕ) → taken x ≡ refused r q → B
-not-refused x r q e = let z : _≡_ {A = ℕ} 0 1 = cc in absurd (omega arith)
+not-lies held o n h = false-if (lies held o n) (λ e. h (lies-is held o n e))
 
 -- ---- a block
 
@@ -57,16 +44,16 @@ module _ (ss : List Span) (pl p o n : ℕ) (out : List ℕ) where
       by (keeps ss pl) (ltb p (pieces ss pl)) (lies (heldIn ss pl p) o n) (leb (3 * length (partsOf ss (p * pl + o) n)) (length out)) refl refl refl refl
     where
       number : (k : ℕ) → _≡_ {A = Outcome ℕ} (refused k 0) (refused r q) → BlockCause ss pl p o n (length out) k → BlockCause ss pl p o n (length out) r × (q ≡ 0)
-      number k e h = let s = same-number k r 0 q e in (rw (← s .0) h, sym (s .1))
+      number k e h = let s = same-refusal e in (rw (← s .0) h, sym (s .1))
 
       by : (a b c d : Bool) → keeps ss pl ≡ a → ltb p (pieces ss pl) ≡ b → lies (heldIn ss pl p) o n ≡ c → leb (3 * length (partsOf ss (p * pl + o) n)) (length out) ≡ d
           → written (cond a (cond b (cond c (taken (partsOf ss (p * pl + o) n)) (refused no.outside 0)) (refused no.beyond 0)) (refused no.range 0)) out .answer ≡ refused r q
           → BlockCause ss pl p o n (length out) r × (q ≡ 0)
-      by true true true true f g h i e = not-refused (length (partsOf ss (p * pl + o) n)) r q (rw i at e)
+      by true true true true f g h i e = not-refused (rw i at e)
       by true true true false f g h i e =
           number no.room (rw i at e) (block-room (rules-of ss pl f) (ltb-true _ _ g) (lies-is (heldIn ss pl p) o n h) (leb-false _ _ i))
       by true true false d f g h i e =
-          number no.outside e (block-outside (rules-of ss pl f) (ltb-true _ _ g) (λ b. never (sym h ∙ is-lies (heldIn ss pl p) o n b)))
+          number no.outside e (block-outside (rules-of ss pl f) (ltb-true _ _ g) (λ b. cannot _ h (is-lies (heldIn ss pl p) o n b)))
       by true false c d f g h i e = number no.beyond e (block-beyond (rules-of ss pl f) (ltb-false _ _ g))
       by false b c d f g h i e = number no.range e (block-range (breaks ss pl f))
 
@@ -87,12 +74,12 @@ module _ (ss : List Span) (pl f o : ℕ) where
   byte-refused-only r q = by (keeps ss pl) (ltb f (length ss)) (ltb o (getD ss f nowhere .size)) refl refl refl
     where
       number : (k : ℕ) → _≡_ {A = Outcome Spot} (refused k 0) (refused r q) → ByteCause ss pl f o k → ByteCause ss pl f o r × (q ≡ 0)
-      number k e h = let s = same-number k r 0 q e in (rw (← s .0) h, sym (s .1))
+      number k e h = let s = same-refusal e in (rw (← s .0) h, sym (s .1))
 
       by : (a b c : Bool) → keeps ss pl ≡ a → ltb f (length ss) ≡ b → ltb o (getD ss f nowhere .size) ≡ c
           → cond a (cond b (cond c (taken (spotAt pl (getD ss f nowhere .start + o))) (refused no.outside 0)) (refused no.beyond 0)) (refused no.range 0) ≡ refused r q
           → ByteCause ss pl f o r × (q ≡ 0)
-      by true true true g h i e = not-refused (spotAt pl (getD ss f nowhere .start + o)) r q e
+      by true true true g h i e = not-refused e
       by true true false g h i e = number no.outside e (byte-outside (rules-of ss pl g) (ltb-true _ _ h) (ltb-false _ _ i))
       by true false c g h i e = number no.beyond e (byte-beyond (rules-of ss pl g) (ltb-false _ _ h))
       by false b c g h i e = number no.range e (byte-range (breaks ss pl g))
@@ -111,11 +98,11 @@ module _ (ss : List Span) (pl p : ℕ) where
   size-refused-only r q = by (keeps ss pl) (ltb p (pieces ss pl)) refl refl
     where
       number : (k : ℕ) → _≡_ {A = Outcome ℕ} (refused k 0) (refused r q) → SizeCause ss pl p k → SizeCause ss pl p r × (q ≡ 0)
-      number k e h = let s = same-number k r 0 q e in (rw (← s .0) h, sym (s .1))
+      number k e h = let s = same-refusal e in (rw (← s .0) h, sym (s .1))
 
       by : (a b : Bool) → keeps ss pl ≡ a → ltb p (pieces ss pl) ≡ b
           → cond a (cond b (taken (heldIn ss pl p)) (refused no.beyond 0)) (refused no.range 0) ≡ refused r q → SizeCause ss pl p r × (q ≡ 0)
-      by true true f g e = not-refused (heldIn ss pl p) r q e
+      by true true f g e = not-refused e
       by true false f g e = number no.beyond e (size-beyond (rules-of ss pl f) (ltb-false _ _ g))
       by false b f g e = number no.range e (size-range (breaks ss pl f))
 

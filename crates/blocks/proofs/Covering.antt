@@ -9,9 +9,9 @@ use native.Mathlib.Numerals.{add-one}
 use borrow.Author.Tests.{lt-ltb, le-ltb}
 use lib.ListN.{length, getD, drop, length-drop}
 use lib.Seq.{getD-drop, drop-drop}
+use Rattle.refusal.proofs.Cases.{lt-or-le}
 use Rattle.blocks.specs.Spans.{Span, Part, part, low, high, cut, partsFrom, partsOf, nowhere}
 use Rattle.blocks.specs.Covers.{run, placesOf, Neat, Ordered, InSome}
-use Rattle.blocks.proofs.Legal.{lt-or-le}
 
 pub run-split : (a m n : ℕ) → run a (m + n) ≡ run a m ++ run (a + m) n
 unfolding run

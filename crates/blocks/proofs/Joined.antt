@@ -4,12 +4,12 @@ use mathlib.Core.Logic.{_⊎_, inl, inr, ⊎-elim}
 use mathlib.Core.List.{List, [], _∷_}
 use Prim.Native.Nat.{ℕ, zero, suc, _+_, _-_, _*_, _≤_, _<_, min, max}
 use native.Mathlib.Omega.{arith}
-use native.Mathlib.Nat.{add-assoc}
+use native.Mathlib.Nat.{add-assoc, min-eq-left, min-eq-right, max-eq-left, max-eq-right}
 use lib.ListN.{length, getD, take}
+use Rattle.refusal.proofs.Cases.{lt-or-le}
 use Rattle.blocks.specs.Rules.{sum, piecesOf, lawful}
 use Rattle.blocks.specs.Spans.{Span, Part, span, low, high, cut, partsFrom, joinedFrom, joined, lengths, endFrom, endOf, nowhere, sizes, heldIn}
 use Rattle.blocks.specs.Covers.{Ordered, InSome, Laid}
-use Rattle.blocks.proofs.Legal.{lt-or-le}
 use Rattle.blocks.proofs.Covering.{cut-some, cut-none}
 
 -- ---- any files in order
@@ -81,23 +81,11 @@ sizes-cut k s from to rest =
 telescopes : (a n s from to : ℕ) → (min to (a + n) - max from a) + (min to (a + n + s) - max from (a + n)) ≡ min to (a + (n + s)) - max from a
 telescopes a n s from to = by (lt-or-le from (a + n)) (lt-or-le to (a + n))
   where
-    lower : (x y : ℕ) → x < y → min x y ≡ x
-    lower x y h = omega arith
-
-    upper : (x y : ℕ) → y ≤ x → min x y ≡ y
-    upper x y h = omega arith
-
-    higher : (x y : ℕ) → x < y → max x y ≡ y
-    higher x y h = omega arith
-
-    above : (x y : ℕ) → y ≤ x → max x y ≡ x
-    above x y h = omega arith
-
     by : (from < a + n) ⊎ (a + n ≤ from) → (to < a + n) ⊎ (a + n ≤ to)
         → (min to (a + n) - max from a) + (min to (a + n + s) - max from (a + n)) ≡ min to (a + (n + s)) - max from a
-    by (inl l) (inl i) = rw (lower to (a + n) i, lower to (a + n + s) (omega arith), lower to (a + (n + s)) (omega arith)) (omega arith)
-    by (inl l) (inr i) = rw (upper to (a + n) i, higher from (a + n) l, ← add-assoc) (omega arith)
-    by (inr l) i = rw (above from (a + n) l, above from a (omega arith), ← add-assoc) (omega arith)
+    by (inl l) (inl i) = rw (min-eq-left {n = to} {m = a + n} (omega arith), min-eq-left {n = to} {m = a + n + s} (omega arith), min-eq-left {n = to} {m = a + (n + s)} (omega arith)) (omega arith)
+    by (inl l) (inr i) = rw (min-eq-right {n = a + n} {m = to} i, max-eq-right {n = from} {m = a + n} (omega arith), ← add-assoc) (omega arith)
+    by (inr l) i = rw (max-eq-left {n = from} {m = a + n} l, max-eq-left {n = from} {m = a} (omega arith), ← add-assoc) (omega arith)
 
 held-from : (k a : ℕ) (ns : List ℕ) (from to : ℕ) → sizes (partsFrom k (joinedFrom a ns) from to) ≡ min to (a + sum ns) - max from a
 unfolding partsFrom joinedFrom sum sizes

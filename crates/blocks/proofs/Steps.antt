@@ -8,10 +8,10 @@ use native.Mathlib.Numerals.{add-one}
 use lib.ListN.{length, getD, take, drop, drop-of-length-le}
 use lib.Seq.{drop-cons, sets, length-sets}
 use Rattle.refusal.proofs.Places.{sets-append}
+use Rattle.refusal.proofs.Cases.{lt-or-le}
 use Rattle.blocks.specs.Rules.{sum, largest}
 use Rattle.blocks.specs.Spans.{span, part, cut, partsFrom, joinedFrom, joined}
 use Rattle.blocks.specs.Answers.{flat}
-use Rattle.blocks.proofs.Legal.{lt-or-le}
 use Rattle.blocks.proofs.Covering.{cut-some, cut-none, empty-from}
 use Rattle.blocks.proofs.Joined.{joined-ordered}
 

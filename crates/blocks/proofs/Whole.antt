@@ -11,17 +11,16 @@ use borrow.Author.Tests.{ltb-true, leb-true, le-leb, lt-ltb}
 use Rattle.refusal.specs.Paper.{taken, refused}
 use Rattle.refusal.specs.Numbers.{range, beyond, outside}
 use Rattle.refusal.specs.Limits.{longestBlock}
+use Rattle.refusal.proofs.Cases.{both}
+use Rattle.refusal.proofs.Outcomes.{not-taken}
 use Rattle.blocks.specs.Spans.{Span, Part, part, lengths, endOf, partsOf, heldIn, nowhere}
 use Rattle.blocks.specs.Answers.{Spot, spotAt, pieces, keeps, lies, blockOf, byteOf}
 use Rattle.blocks.specs.Covers.{run, InSome, Laid, Covers, Block}
-use Rattle.blocks.proofs.Legal.{both, is-piece, lawful-is, piece-bounds}
+use Rattle.blocks.proofs.Legal.{is-piece, lawful-is, piece-bounds}
 use Rattle.blocks.proofs.Covering.{covers, neat, one-part}
 use Rattle.blocks.proofs.Joined.{inside-end, byte-inside}
 
 -- ---- tests one after the other
-
-pub not-taken : {A B : Type 0} {r q : ℕ} {x : A} → refused r q ≡ taken x → B
-not-taken e = let z : _≡_ {A = ℕ} 0 1 = cc in absurd (omega arith)
 
 -- what is taken passed all three
 pub passed : {A : Type 0} (a b c : Bool) (x y : A) → cond a (cond b (cond c (taken x) (refused outside 0)) (refused beyond 0)) (refused range 0) ≡ taken y

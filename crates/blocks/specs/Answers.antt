@@ -4,7 +4,8 @@ use mathlib.Core.List.{List, [], _∷_, _++_}
 use Prim.Native.Nat.{ℕ, _+_, _*_, _/_, _%_}
 use lib.Dec.{ltb, leb}
 use lib.ListN.{length, getD, drop}
-use Rattle.refusal.specs.Paper.{Outcome, taken, refused, refusal}
+use Rattle.refusal.specs.Paper.{Outcome, taken, refused, refusal, Left as Leaves}
+pub use Rattle.refusal.specs.Paper.{left}
 use Rattle.refusal.specs.Numbers.{range, beyond, outside, room}
 use Rattle.refusal.specs.Limits.{longestBlock}
 use Rattle.blocks.specs.Rules.{piecesOf, lawful}
@@ -88,14 +89,9 @@ unfoldable pub flat : List Part → List ℕ
 flat [] = []
 flat (p ∷ ps) = p .file ∷ p .offset ∷ p .size ∷ flat ps
 
--- what a call leaves: its answer, and what the lent output holds then
-pub record Left : Type 0 where
-  pub answer : Outcome ℕ
-  pub out : List ℕ
-
--- the answer a, and the output o
-abbrev pub left : Outcome ℕ → List ℕ → Left
-left a o = record { answer = a; out = o }
+-- what a call leaves: how many parts were written or a refusal, and the output
+abbrev pub Left : Type 0
+Left = Leaves ℕ
 
 -- the parts from the output's start on and the rest as it was, where they fit; else 37 and all of it as it was
 unfoldable pub written : Outcome (List Part) → List ℕ → Left

@@ -1,6 +1,6 @@
 -- The ★ blocks of document 01 and the two bytes beside them as one table. Assumes nothing.
 use mathlib.Core.Path.{_≡_, refl}
-use mathlib.Core.List.{List, [], _∷_}
+use mathlib.Core.List.{List, [], _∷_, map as each}
 use Prim.Native.Nat.{ℕ}
 use Rattle.refusal.specs.Paper.{Outcome, taken, refused, map}
 use Rattle.blocks.specs.Rules.{powerFrom, sum, fileLengths, lawful}
@@ -26,11 +26,6 @@ abbrev pub given : Star → Outcome (List ℕ)
 given (block p o n x) = map flat (blockOf files 16384 p o n)
 given (byte f o x) = map (λ (s : Spot). s .piece ∷ s .offset ∷ []) (byteOf files 16384 f o)
 
--- of each row
-unfoldable pub each : (Star → Outcome (List ℕ)) → List Star → List (Outcome (List ℕ))
-each f [] = []
-each f (s ∷ ss) = f s ∷ each f ss
-
 -- document 01's rows
 unfoldable pub stars : List Star
 stars =
@@ -44,5 +39,5 @@ stars =
 
 -- the definitions give what the paper says
 pub stars-hold : each given stars ≡ each asked stars
-unfolding each stars blockOf byteOf flat lawful powerFrom sum fileLengths joinedFrom lengths endFrom partsFrom sizes
+unfolding stars blockOf byteOf flat lawful powerFrom sum fileLengths joinedFrom lengths endFrom partsFrom sizes
 stars-hold = refl

@@ -45,8 +45,6 @@ pub enum Size {
 
 // The parts of the block of `count` bytes at an offset of a piece, three numbers each from the start of `out` on: file, offset in it, length.
 // The output has room for a third as many parts as it has numbers; what stands past the parts stays.
-// One pass over the lengths: the files before the block, those in it, those past it. Only once everything is checked
-// those in it are read again, to write. So the cost is linear in the files, and no memory is used but `out`.
 pub fn block(
     lengths: &[u64],
     piece_length: u64,
@@ -57,6 +55,8 @@ pub fn block(
 ) -> Parts
     ensures { λ r. ⌜ left (partsPaper r) (now (out .exit)) ≡ written (blockOf (joined (now (lengths .entry))) «piece_length» (piece .0) (offset .0) count) (now (out .entry)) ⌝ }
 {
+    // One pass over the lengths: the files before the block, those in it, those past it. Only once everything is checked
+    // those in it are read again, to write. So the cost is linear in the files, and no memory is used but `out`.
     if !rules::legal_piece_length(piece_length) {
         return no_parts(number::RANGE);
     }

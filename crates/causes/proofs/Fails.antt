@@ -8,9 +8,10 @@ use lib.ListN.{length, length-append}
 use borrow.Author.Tests.{ltb-true, ltb-false}
 use Rattle.refusal.specs.Numbers.{many}
 use Rattle.refusal.specs.Limits.{mostValues}
+use Rattle.refusal.proofs.Cases.{by-test}
 use Rattle.scalar.specs.Written.{written}
 use Rattle.scalar.specs.Reading.{Got, got, bad, andThen, mapGot}
-use Rattle.scalar.proofs.Sound.{Holds, by-cond}
+use Rattle.scalar.proofs.Sound.{Holds}
 use Rattle.bencode.specs.Value.{encode}
 use Rattle.bencode.specs.Decode.{begin}
 use Rattle.causes.specs.Causes.{Due, Comes, top, an-item, in-list, past-item, in-dictionary, past-key, past-entry, Cut, Byte, Order, Integer, Deep, Many, After}
@@ -43,7 +44,7 @@ module _ {A : Type 0} (Q : ℕ → ℕ → Type 0) where
   fails-then P (bad r p) f h x k = x
 
   pub fails-begin : (n p : ℕ) (g : Got A) → (n < mostValues → Fails Q g) → (mostValues ≤ n → Q many p) → Fails Q (begin n p g)
-  fails-begin n p g h k = by-cond (Fails Q) (ltb n mostValues) g (bad many p) (λ e. h (ltb-true n mostValues e)) (λ e. k (ltb-false n mostValues e))
+  fails-begin n p g h k = by-test (Fails Q) (ltb n mostValues) (λ e. h (ltb-true n mostValues e)) (λ e. k (ltb-false n mostValues e))
 
 -- what is left, by its place
 pub place : {s l : List ℕ} {w : Due} {p n d : ℕ} → Comes s w l p n d → p + length l ≡ length s

@@ -11,9 +11,10 @@ use borrow.Author.Tests.{eqb-false}
 use Rattle.refusal.specs.Numbers.{byte, order, integer, after}
 use Rattle.refusal.specs.Limits.{mostValues, mostLevels}
 use Rattle.refusal.specs.Paper.{refused}
+use Rattle.refusal.proofs.Cases.{by-test}
 use Rattle.scalar.specs.Written.{written, inRange}
 use Rattle.scalar.specs.Reading.{Got, got, bad, isDigit, stringOf, integerOf}
-use Rattle.scalar.proofs.Sound.{Holds, by-cond, TextP, string-sound, IntP, int-sound}
+use Rattle.scalar.proofs.Sound.{Holds, TextP, string-sound, IntP, int-sound}
 use Rattle.bencode.specs.Value.{Value, Items, Entries, str, int, list, dict, entry, Prev, start, last, follows}
 use Rattle.bencode.specs.Value.{item as one}
 use Rattle.bencode.specs.Decode.{Kind, digit, letterI, letterL, letterD, other, kindOf, begun, ranged, valueBy, closes, itemsBy, itemsOf, ordered, keyOf, entriesBy, entriesOf, valueOf, wholeOf}
@@ -34,7 +35,7 @@ module _ (s : List ℕ) where
 
   -- an integer that is due
   ranged-fails : {t : List ℕ} {p n d : ℕ} → Comes s value (105 ∷ t) p n d → n < mostValues → (g : Got ℤ) → Holds (IntP (105 ∷ t) p (n + 1)) g → Fails (Cause s) g → Fails (Cause s) (ranged p g)
-  ranged-fails {p = p} c few (got z r q m) h x = by-cond (Fails (Cause s)) (inRange z) (got z r q m) (bad integer p) (λ y. tt) (λ y. Integer.outside z r (moved c (h .0 .text) refl refl) few y)
+  ranged-fails {p = p} c few (got z r q m) h x = by-test (Fails (Cause s)) (inRange z) (λ y. tt) (λ y. Integer.outside z r (moved c (h .0 .text) refl refl) few y)
   ranged-fails c few (bad r q) h x = x
 
   integer-due : {t : List ℕ} {p n d : ℕ} → Comes s value (105 ∷ t) p n d → n < mostValues → Fails (Cause s) (ranged p (integerOf (length s) t (p + 1) (n + 1)))
@@ -44,14 +45,14 @@ module _ (s : List ℕ) where
 
   -- a key that is due
   ordered-fails : {before : Prev} {l : List ℕ} {p n d : ℕ} → Comes s (key before) l p n d → n < mostValues → (g : Got (List ℕ)) → Holds (TextP l p (n + 1)) g → Fails (Cause s) g → Fails (Cause s) (ordered before p g)
-  ordered-fails {before} {p = p} c few (got k r q m) h x = by-cond (Fails (Cause s)) (follows before k) (got k r q m) (bad order p) (λ y. tt) (λ y. Order.not-greater k r (moved c (h .0 .text) refl refl) few y)
+  ordered-fails {before} {p = p} c few (got k r q m) h x = by-test (Fails (Cause s)) (follows before k) (λ y. tt) (λ y. Order.not-greater k r (moved c (h .0 .text) refl refl) few y)
   ordered-fails c few (bad r q) h x = x
 
   key-fails : (before : Prev) (l : List ℕ) (p n d : ℕ) → Comes s (key before) l p n d → closes l ≡ false → Fails (Cause s) (keyOf (length s) before l p n)
   unfolding keyOf
   key-fails before [] p n d c y = Cut.at-once c
   key-fails before (b ∷ t) p n d c y =
-      by-cond (Fails (Cause s)) (isDigit b) _ (bad byte p)
+      by-test (Fails (Cause s)) (isDigit b)
       (λ x. fails-begin (Cause s) n p _
       (λ few. ordered-fails c few (stringOf (length s) b t p (n + 1)) (string-sound (length s) b t p (n + 1) x (place c)) (string-due c few x (λ h. h) (λ v a h. h)))
       (λ h. Many.begins c (omega arith) x))

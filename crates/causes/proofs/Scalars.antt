@@ -1,6 +1,6 @@
 -- A string or an integer is refused exactly where the text ends within it, or a byte cannot stand there. Assumes nothing.
 use mathlib.Core.Path.{_≡_, refl, sym, ap, _∙_, subst}
-use mathlib.Core.Bool.{Bool, true, false, cond}
+use mathlib.Core.Bool.{Bool, true, false, false≢true, cond}
 use mathlib.Core.List.{List, [], _∷_, _++_, append-nil}
 use Prim.Native.Nat.{ℕ, suc, _+_, _-_, _<_, _≤_, pred}
 use native.Mathlib.Omega.{arith}
@@ -9,11 +9,12 @@ use lib.IntN.{ℤ, pos, negsuc}
 use lib.ListN.{length, drop, length-append}
 use borrow.Author.Tests.{leb-false, lt-leb, eqb-true, eqb-false, ne-eqb}
 use Rattle.refusal.specs.Numbers.{cut, byte}
+use Rattle.refusal.proofs.Cases.{by-test}
 use Rattle.scalar.specs.Written.{decimal, signed}
 use Rattle.scalar.specs.Reading.{Got, bad, isDigit, numVal, numLen, colonOf, stringOf, signedAs, endOf, closedOf, minusAt, integerOf}
 use Rattle.scalar.proofs.Decimal.{digit-range, range-digit}
 use Rattle.scalar.proofs.Printed.{num-pos}
-use Rattle.scalar.proofs.Sound.{at-number, shown, by-cond, At, at-then, at-byte, at-left, never}
+use Rattle.scalar.proofs.Sound.{at-number, shown, At, at-then, at-byte, at-left}
 use Rattle.causes.specs.Causes.{size, StringEnds, IntegerEnds, StringStops, IntegerStops}
 use Rattle.causes.proofs.Fails.{Fails}
 use Rattle.scalar.proofs.Numbers.{Over, more-other, over-number, digits}
@@ -23,8 +24,8 @@ module _ (Q : ℕ → ℕ → Type 0) (e p b : ℕ) (t : List ℕ) (ends : Strin
   colon-fails : (k m : ℕ) (r : List ℕ) (n : ℕ) → At (b ∷ t) p r k (decimal m) → k + length r ≡ e → Over m r → Fails Q (colonOf e k m r n)
   colon-fails k m [] n a h o = ends (subst StringEnds (sym (a .text ∙ append-nil (decimal m))) (StringEnds.in-length m))
   colon-fails k m (c ∷ u) n a h o =
-      by-cond (Fails Q) (eqb c 58) _ _
-      (λ x. by-cond (Fails Q) (leb m (e - (k + 1))) _ _ (λ y. tt)
+      by-test (Fails Q) (eqb c 58)
+      (λ x. by-test (Fails Q) (leb m (e - (k + 1))) (λ y. tt)
       (λ y. ends (subst StringEnds (sym (a .text ∙ ap (λ (z : ℕ). decimal m ++ z ∷ u) (eqb-true c 58 x))) (StringEnds.in-bytes m u (omega (arith, leb-false m (e - (k + 1)) y))))))
       (λ x. subst (Q byte) (sym (a .place)) (stops (decimal m) c u (a .text) (StringStops.in-length m c o (eqb-false c 58 x))))
 
@@ -44,7 +45,7 @@ module _ (Q : ℕ → ℕ → Type 0) (e o : ℕ) (l : List ℕ) (ends : Integer
   end-fails : (neg : Bool) (k m : ℕ) (r : List ℕ) (n : ℕ) → At (105 ∷ l) o r k (105 ∷ signed (signedAs neg m)) → Over (size (signedAs neg m)) r → Fails Q (endOf neg e k m r n)
   end-fails neg k m [] n a v = ends (subst IntegerEnds (sym (a .text ∙ append-nil (105 ∷ signed (signedAs neg m)))) (IntegerEnds.in-digits (signedAs neg m)))
   end-fails neg k m (c ∷ u) n a v =
-      by-cond (Fails Q) (eqb c 101) _ _ (λ x. tt)
+      by-test (Fails Q) (eqb c 101) (λ x. tt)
       (λ x. subst (Q byte) (sym (a .place)) (stops (105 ∷ signed (signedAs neg m)) c u (a .text) (IntegerStops.in-digits (signedAs neg m) c v (eqb-false c 101 x))))
 
   closed-fails : (neg : Bool) (b : ℕ) (t : List ℕ) (p n : ℕ) → isDigit b ≡ true → At (105 ∷ l) o (b ∷ t) p (cond neg (105 ∷ 45 ∷ []) (105 ∷ [])) → (neg ≡ true → 1 ≤ numVal b t) → Fails Q (closedOf neg e b t (p + 1) n)
@@ -61,24 +62,24 @@ minus-fails : (Q : ℕ → ℕ → Type 0) (e o : ℕ) (t : List ℕ) (n : ℕ) 
     → ((w : List ℕ) (c : ℕ) (u : List ℕ) → 105 ∷ 45 ∷ t ≡ w ++ c ∷ u → IntegerStops w c → Q byte (o + length w)) → Fails Q (minusAt e t (o + 1 + 1) n)
 minus-fails Q e o [] n ends stops = ends IntegerEnds.after-minus
 minus-fails Q e o (c ∷ t) n ends stops =
-    by-cond (Fails Q) (eqb c 48) _ _
+    by-test (Fails Q) (eqb c 48)
     (λ x. stops-at Q e o (45 ∷ c ∷ t) ends stops (o + 1 + 1) (105 ∷ 45 ∷ []) c t refl (omega arith) (IntegerStops.after-minus c (omega (arith, eqb-true c 48 x))))
-    (λ x. by-cond (Fails Q) (isDigit c) _ _
+    (λ x. by-test (Fails Q) (isDigit c)
     (λ y. closed-fails Q e o (45 ∷ c ∷ t) ends stops true c t (o + 1 + 1) n y (at-then (at-byte 105 (45 ∷ c ∷ t) o) (at-byte 45 (c ∷ t) (o + 1))) (λ z. num-pos c t y (eqb-false c 48 x)))
     (λ y. stops-at Q e o (45 ∷ c ∷ t) ends stops (o + 1 + 1) (105 ∷ 45 ∷ []) c t refl (omega arith)
-    (IntegerStops.after-minus c (λ h k. never (sym y ∙ range-digit c (omega arith) k)))))
+    (IntegerStops.after-minus c (λ h k. false≢true (sym y ∙ range-digit c (omega arith) k)))))
 
 pub integer-fails : (Q : ℕ → ℕ → Type 0) (e o : ℕ) (l : List ℕ) (n : ℕ) → (IntegerEnds (105 ∷ l) → Q cut e)
     → ((w : List ℕ) (c : ℕ) (u : List ℕ) → 105 ∷ l ≡ w ++ c ∷ u → IntegerStops w c → Q byte (o + length w)) → Fails Q (integerOf e l (o + 1) n)
 unfolding integerOf
 integer-fails Q e o [] n ends stops = ends IntegerEnds.after-i
 integer-fails Q e o (b ∷ t) n ends stops =
-    by-cond (Fails Q) (eqb b 45) _ _
+    by-test (Fails Q) (eqb b 45)
     (λ x.
     let z : b ≡ 45 = eqb-true b 45 x in
     minus-fails Q e o t n (λ h. ends (subst (λ (c : ℕ). IntegerEnds (105 ∷ c ∷ t)) (sym z) h)) (λ w c u h k. stops w c u (ap (λ (y : ℕ). 105 ∷ y ∷ t) z ∙ h) k))
-    (λ x. by-cond (Fails Q) (isDigit b) _ _
-    (λ y. closed-fails Q e o (b ∷ t) ends stops false b t (o + 1) n y (at-byte 105 (b ∷ t) o) (λ z. absurd (never z)))
+    (λ x. by-test (Fails Q) (isDigit b)
+    (λ y. closed-fails Q e o (b ∷ t) ends stops false b t (o + 1) n y (at-byte 105 (b ∷ t) o) (λ z. absurd (false≢true z)))
     (λ y. stops-at Q e o (b ∷ t) ends stops (o + 1) (105 ∷ []) b t refl (omega arith) (IntegerStops.after-i b y (eqb-false b 45 x))))
 
 -- a string that is refused by r at q
@@ -132,8 +133,8 @@ integer-stops e p u (IntegerStops.after-minus c h) =
     record {
       rest = 45 ∷ c ∷ u;
       text = refl;
-      reads = λ n. by-cond (λ (g : Got ℤ). g ≡ bad byte (p + 2)) (eqb c 48) _ _ (λ x. ap (bad byte) z)
-          (λ x. by-cond (λ (g : Got ℤ). g ≡ bad byte (p + 2)) (isDigit c) _ _
+      reads = λ n. by-test (λ (g : Got ℤ). g ≡ bad byte (p + 2)) (eqb c 48) (λ x. ap (bad byte) z)
+          (λ x. by-test (λ (g : Got ℤ). g ≡ bad byte (p + 2)) (isDigit c)
           (λ y. let r = digit-range c y in let n = eqb-false c 48 x in absurd (h (omega arith) (r .1)))
           (λ y. ap (bad byte) z));
     }

@@ -9,6 +9,7 @@ use lib.ListN.{length}
 use borrow.Author.Tests.{eqb-true}
 use Rattle.refusal.specs.Paper.{Outcome, taken, refused, then, map}
 use Rattle.refusal.specs.Limits.{mostText, mostPieces, longestPiece, longestFile}
+use Rattle.refusal.proofs.Outcomes.{then-taken}
 use Rattle.bencode.specs.Value.{Value, Items, Entries, str, int, list, dict, encode, start}
 use Rattle.bencode.specs.Exact.{Fine}
 use Rattle.walk.specs.Stands.{Stands}
@@ -29,10 +30,6 @@ use Rattle.metainfo.proofs.Informing.{named, pieced, hashed, contained, afterCo
 use Rattle.contents.specs.Files.{inside, into, inInfo}
 
 -- ---- checks one after the other that took something
-
-pub then-taken : {A B : Type 0} (o : Outcome A) (f : A → Outcome B) (y : B) → then o f ≡ taken y → (x : A) × (o ≡ taken x) × (f x ≡ taken y)
-then-taken (taken x) f y e = (x, refl, e)
-then-taken (refused n p) f y e = no-way (cc)
 
 must-taken : {A : Type 0} (D : ℕ) (u : Under) (f : ℕ → Value → Outcome A) (x : A) → must D u f ≡ taken x → (q : ℕ) × (v : Value) × (u ≡ under q v) × (f q v ≡ taken x)
 must-taken D nothing f x e = no-way (cc)

@@ -10,6 +10,7 @@ use lib.Seq.{drop-drop, take-append-le, drop-append-le}
 use borrow.Author.Tests.{lt-ltb, le-ltb, ltb-true, le-leb, lt-leb, eq-eqb, ne-eqb, eqb-true}
 use Rattle.refusal.specs.Paper.{Outcome, taken, refused, then}
 use Rattle.refusal.specs.Limits.{mostText, longestPiece}
+use Rattle.refusal.proofs.Outcomes.{then-taken}
 use Rattle.scalar.specs.Written.{decimal}
 use Rattle.bencode.specs.Value.{Value, str, encode}
 use Rattle.walk.specs.Lookup.{under}
@@ -27,7 +28,7 @@ use Rattle.metainfo.specs.declared.Torrent.{Torrent}
 use Rattle.metainfo.proofs.Naming.{no-way}
 use Rattle.contents.specs.Files.{inInfo}
 use Rattle.contents.specs.Pieces.{hashPart, hashIn, hashOf, pieceBytes, checkAgainst, checkIn, checkOf, PieceCheck}
-use Rattle.contents.proofs.Facts.{then-taken, Facts}
+use Rattle.contents.proofs.Facts.{Facts}
 use Rattle.contents.proofs.Numbering.{value-of}
 
 -- ---- the hashes of a torrent that was taken

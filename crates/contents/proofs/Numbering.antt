@@ -7,6 +7,7 @@ use native.Mathlib.Omega.{arith}
 use lib.ListN.{length}
 use Rattle.refusal.specs.Paper.{Outcome, taken, refused, then, map}
 use Rattle.refusal.specs.Limits.{mostText}
+use Rattle.refusal.proofs.Outcomes.{map-taken, then-taken}
 use Rattle.bencode.specs.Value.{Value, Items, list, none, item, encode}
 use Rattle.bencode.specs.Decode.{decode}
 use Rattle.bencode.proofs.Exact.{taken-fine}
@@ -27,11 +28,7 @@ use Rattle.metainfo.proofs.Filing.{file-stands, file-next}
 use Rattle.contents.specs.declared.Entry.{Entry}
 use Rattle.contents.specs.Files.{inInfo, entry, single, entriesFrom, entriesUnder, entriesOf, number, entryIn, entryOf}
 use Rattle.contents.specs.Steps.{walkTo}
-use Rattle.contents.proofs.Facts.{then-taken, Facts, facts, Holds, one, many}
-
-map-taken : {A B : Type 0} (g : A → B) (o : Outcome A) (y : B) → map g o ≡ taken y → (x : A) × (o ≡ taken x) × (g x ≡ y)
-map-taken g (taken x) y e = (x, refl, cc)
-map-taken g (refused n p) y e = no-way (cc)
+use Rattle.contents.proofs.Facts.{Facts, facts, Holds, one, many}
 
 -- ---- one file and the others
 

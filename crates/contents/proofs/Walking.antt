@@ -7,6 +7,7 @@ use native.Mathlib.Omega.{arith}
 use lib.ListN.{length, take, drop}
 use Rattle.refusal.specs.Paper.{Outcome, taken, refused, then, map}
 use Rattle.refusal.specs.Limits.{longestFile}
+use Rattle.refusal.proofs.Outcomes.{then-taken}
 use Rattle.scalar.specs.Written.{written}
 use Rattle.bencode.specs.Value.{Value, Items, str, int, list, dict, none, item, encode, encodeItems, start}
 use Rattle.bencode.specs.Decode.{valueOf, kindOf}
@@ -28,7 +29,6 @@ use Rattle.contents.specs.declared.Entry.{Entry}
 use Rattle.contents.specs.Files.{entry, entriesFrom}
 use Rattle.contents.specs.Paths.{element, elementIn, elementOf}
 use Rattle.contents.specs.Walks.{strings, stringsUnder, pathOf, Elements, ends, goes, Files, last, next, Walked}
-use Rattle.contents.proofs.Facts.{then-taken}
 use Rattle.contents.proofs.Numbering.{lengths-next, entries-taken, value-of, listed}
 
 -- ---- the elements of a path

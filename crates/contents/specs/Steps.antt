@@ -1,4 +1,5 @@
 -- A file by its number, as the walk over a text comes to it. Assumes nothing: these are definitions.
+-- It serves an inner contract alone and need not be believed: `number-listed` of contents/proofs/Numbering.antt ties it to Files.antt.
 use mathlib.Core.List.{List}
 use Prim.Native.Nat.{ℕ, zero, suc, _+_, min}
 use Rattle.refusal.specs.Paper.{Outcome, map, then}

@@ -9,7 +9,7 @@ use lib.Dec.{ltb, leb}
 use lib.ListN.{length, getD, replicate}
 use lib.Seq.{sets}
 use Rattle.refusal.specs.Paper.{Outcome, taken, refused}
-use Rattle.wire.proofs.Steps.{by-test}
+use Rattle.refusal.proofs.Cases.{by-test}
 use Rattle.sha1.specs.Digest.{Left, left}
 use Rattle.sha1.specs.Digest.{paper as hashPaper}
 use Rattle.sha1.specs.declared.Hashed.{Hashed}

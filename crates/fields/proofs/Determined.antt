@@ -2,10 +2,9 @@
 use mathlib.Core.Path.{_≡_, refl, sym, ap, _∙_}
 use Prim.Native.Nat.{ℕ}
 use Rattle.refusal.specs.Paper.{Outcome, taken, refused}
-use Rattle.walk.specs.Walk.{Hit, found, missing, seekPaper}
 use Rattle.walk.specs.declared.Part.{Part}
-use Rattle.walk.specs.declared.Sought.{Sought}
-use Rattle.walk.specs.declared.Sought.the-variants.{Found, Missing, Unread as Unsought}
+-- seek_after
+pub use Rattle.walk.proofs.Determined.{sought-determined}
 use Rattle.fields.specs.Looks.{stringPaper, naturalPaper, numberPaper, insidePaper}
 use Rattle.fields.specs.declared.Bytes.{Bytes}
 use Rattle.fields.specs.declared.Bytes.the-variants.{Are, Unread}
@@ -64,17 +63,3 @@ number-determined o r t e f = sym (number-again r) ∙ ap numberAs (e ∙ sym f)
 -- list_at, list_under, dictionary_at and dictionary_under
 pub inside-determined : (o : Outcome ℕ) (r t : Inside) → insidePaper r ≡ o → insidePaper t ≡ o → r ≡ t
 inside-determined o r t e f = sym (inside-again r) ∙ ap insideAs (e ∙ sym f) ∙ inside-again t
-
-abbrev soughtAs : Outcome Hit → Sought
-soughtAs (taken (found p q)) = Found p q
-soughtAs (taken (missing p)) = Missing p
-soughtAs (refused n p) = Unsought (record { number = n; place = p })
-
-sought-again : (r : Sought) → soughtAs (seekPaper r) ≡ r
-sought-again (Found p q) = refl
-sought-again (Missing p) = refl
-sought-again (Unsought r) = refl
-
--- seek_after
-pub sought-determined : (o : Outcome Hit) (r t : Sought) → seekPaper r ≡ o → seekPaper t ≡ o → r ≡ t
-sought-determined o r t e f = sym (sought-again r) ∙ ap soughtAs (e ∙ sym f) ∙ sought-again t

@@ -1,4 +1,5 @@
 -- What a typed look finds at a place of any text. Assumes nothing: these are definitions.
+-- They serve the contracts inside readers and need not be believed: `string-is`, `natural-is`, `list-is` and `dictionary-is` of fields/proofs/Standing.antt tie them to Values.antt.
 use mathlib.Core.Bool.{cond}
 use mathlib.Core.List.{List}
 use Prim.Native.Nat.{ℕ, suc}

@@ -11,6 +11,7 @@ use lib.Dec.{eqb, ltb, leb}
 use lib.ListN.{length, getD, set}
 use lib.Seq.{set-getD}
 use Rattle.refusal.specs.Numbers.{late, beyond, bitfield, spare, damaged}
+use Rattle.refusal.proofs.Cases.{same-or, pick-yes, pick-no}
 use Rattle.tables.specs.Counting.{bit, some, each}
 use Rattle.tables.specs.Rows.{digit, width, bitAt, hasIn, withBit, withBits}
 use Rattle.tables.specs.Seats.{spoken, holding, counted}
@@ -20,7 +21,6 @@ use Rattle.tables.specs.declared.Head.{Head}
 use Rattle.tables.specs.declared.Seat.{Seat}
 use Rattle.tables.specs.declared.Answer.the-variants.{Taken}
 use Rattle.tables.specs.declared.Stepped.{Stepped}
-use Rattle.tables.proofs.Cases.{same-or, pick-yes, pick-no}
 use Rattle.tables.proofs.Digits.{or-had, row-in}
 use Rattle.tables.proofs.Counts.{count-none, some-none}
 use Rattle.tables.proofs.Single.{each-none, count-only, some-only, each-only}

@@ -9,6 +9,7 @@ use lib.Dec.{eqb, ltb, leb}
 use Rattle.refusal.specs.Limits.{longestBlock}
 use Rattle.refusal.specs.Numbers.{beyond, outside}
 use Rattle.refusal.specs.Paper.{Outcome, taken}
+use Rattle.refusal.proofs.Cases.{pick-yes, pick-no}
 use Rattle.tables.specs.Seats.{spoken}
 use Rattle.tables.specs.Tables.{Said, serve, dropped, around, turn, paper}
 use Rattle.tables.specs.Frames.{pieceSize, blockFits, blockOf, requested}
@@ -16,7 +17,6 @@ use Rattle.tables.specs.declared.Head.{Head}
 use Rattle.tables.specs.declared.Seat.{Seat}
 use Rattle.tables.specs.declared.Answer.{Answer}
 use Rattle.tables.specs.declared.Stepped.{Stepped}
-use Rattle.tables.proofs.Cases.{pick-yes, pick-no}
 use Rattle.hearing.specs.Steps.{stepped, refusing}
 
 module _ (h : Head) (p : ℕ) where

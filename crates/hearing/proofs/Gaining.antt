@@ -5,13 +5,13 @@ use Prim.Native.Nat.{ℕ, _+_, _≤_, _<_}
 use native.Mathlib.Omega.{arith}
 use borrow.Author.Tests.{lt-ltb, le-ltb, eq-eqb, ne-eqb, leb-false}
 use lib.Dec.{eqb, ltb, leb}
+use Rattle.refusal.proofs.Cases.{less-or}
 use Rattle.tables.specs.Counting.{bit}
 use Rattle.tables.specs.Seats.{spoken, holding, counted}
 use Rattle.tables.specs.declared.Head.{Head}
 use Rattle.tables.specs.declared.Seat.{Seat}
 use Rattle.tables.specs.declared.Answer.the-variants.{Taken}
 use Rattle.tables.specs.declared.Stepped.{Stepped}
-use Rattle.tables.proofs.Cases.{less-or}
 use Rattle.hearing.specs.Steps.{stepped, full, tooMany, gained}
 use Rattle.hearing.specs.declared.row.News.{News}
 

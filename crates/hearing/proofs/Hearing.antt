@@ -12,6 +12,7 @@ use lib.Seq.{length-take-le}
 use Rattle.refusal.specs.Numbers.{seat, sizes}
 use Rattle.refusal.specs.Paper.{Outcome, taken}
 use Rattle.refusal.specs.declared.Refusal.{Refusal}
+use Rattle.refusal.proofs.Cases.{pick-yes, pick-no}
 use Rattle.wire.specs.Message.{Message}
 use Rattle.wire.specs.Frames.{least, Found, found, messageOf as messageBy, numberIn, readOf, message, meant, bytesAt, paper as read}
 use Rattle.wire.specs.Causes.{named, Cause}
@@ -29,7 +30,6 @@ use Rattle.tables.specs.declared.Head.{Head}
 use Rattle.tables.specs.declared.Seat.{Seat}
 use Rattle.tables.specs.declared.Answer.the-variants as A
 use Rattle.tables.specs.declared.Stepped.{Stepped}
-use Rattle.tables.proofs.Cases.{pick-yes, pick-no}
 use Rattle.tables.proofs.Sizing.{fitting}
 use Rattle.hearing.specs.Steps.{Sized, Inside, stepped, refusing}
 

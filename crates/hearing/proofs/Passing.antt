@@ -9,10 +9,10 @@ use lib.Dec.{leb}
 use lib.Bits.{bitOr}
 use lib.ListN.{length, getD, set}
 use borrow.Author.Tests.{leb-false, lt-leb, le-leb}
+use Rattle.refusal.proofs.Cases.{same-or}
 use Rattle.tables.specs.Counting.{bit, count, some, each}
 use Rattle.tables.specs.Rows.{digit, bitAt, withBits}
 use Rattle.tables.specs.Frames.{spareSet}
-use Rattle.tables.proofs.Cases.{same-or}
 use Rattle.tables.proofs.Counts.{bit-le, some-every}
 use Rattle.tables.proofs.Digits.{none-new}
 use Rattle.tables.proofs.Sweeps.{sweep, sweep-start, sweep-next, sweep-turn, sweep-skip, sweep-out, sweep-ext, length-sweep, sweep-each, sweep-or}

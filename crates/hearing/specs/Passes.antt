@@ -1,4 +1,5 @@
 -- What the passes over a bitfield have found and left before piece or byte n: contracts of inner functions cite these. Assumes nothing: these are definitions.
+-- They need not be believed: `added-is`, `over-is`, `raised-is`, `merged-is` and `spare-is` of hearing/proofs/Passing.antt tie them to tables/specs.
 use mathlib.Core.Bool.{Bool, true, false, not, _&&_, _||_}
 use mathlib.Core.List.{List}
 use Prim.Native.Nat.{ℕ, zero, suc, _+_, _/_, _%_, _-_, min}

@@ -1,4 +1,5 @@
 -- The steps by value, from which a frame's answer is put together: contracts of inner functions cite these. Assumes nothing: these are definitions.
+-- They need not be believed: hearing/proofs/Announcing.antt ties them to tables/specs/Frames.antt.
 use mathlib.Core.Path.{_≡_}
 use mathlib.Core.Bool.{Bool, _&&_, _||_}
 use mathlib.Core.List.{List}

@@ -9,13 +9,13 @@ use lib.Dec.{eqb}
 use lib.ListN.{length, getD, set, length-set}
 use lib.Seq.{getD-set-same, getD-set-other, set-getD}
 use Rattle.refusal.specs.Paper.{taken}
+use Rattle.refusal.proofs.Cases.{same-or}
 use Rattle.tables.specs.Counting.{bit, count}
 use Rattle.tables.specs.Rows.{width, hasIn}
 use Rattle.tables.specs.Seats.{cleared, counted, holding}
 use Rattle.tables.specs.Tables.{Yard, Around, Turn, Out, around, yardOf, sizesFit}
 use Rattle.tables.specs.declared.Head.{Head}
 use Rattle.tables.specs.declared.Seat.{Seat}
-use Rattle.tables.proofs.Cases.{same-or}
 use Rattle.tables.proofs.Counts.{count-ext, count-change}
 use Rattle.history.specs.History.{Entry, History, Event, nothing, event, seated, announced, fresh, weAreChoking, weAreInterested, theyAreChoking, theyAreInterested, pieces, Sizes, sizes, sizesWith, seatedBy, announcedBy, freshBy, chokingBy, wantingBy, chokedBy, wantedBy}
 use Rattle.history.specs.Says.{hasPiece, held, loaded, recordOf, holders, takenSeats, completeSeats, headOf}

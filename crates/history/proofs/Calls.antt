@@ -11,12 +11,12 @@ use lib.ListN.{length, getD, replicate, length-set}
 use lib.Seq.{length-sets}
 use Rattle.refusal.specs.Paper.{Outcome, taken, refused}
 use Rattle.refusal.specs.Numbers.{late, beyond, bitfield, spare, outside, full, seat, room}
+use Rattle.refusal.proofs.Cases.{by-test, cannot, and-not, or-none, or-first}
 use Rattle.wire.specs.Message.{Message, keepalive, choke, unchoke, interested, notInterested, have, request, piece, cancel, other}
 use Rattle.wire.specs.Message.{bitfield as bits}
 use Rattle.wire.specs.Frames.{Found, found, readOf, meant}
 use Rattle.wire.specs.Frames.{wait as more}
 use Rattle.wire.specs.declared.Part.{Part}
-use Rattle.wire.proofs.Steps.{by-test}
 use Rattle.tables.specs.Counting.{bit, count, some, each}
 use Rattle.tables.specs.Rows.{width, hasIn, rowOf, orBytes, withBit, withBits, withoutBits}
 use Rattle.tables.specs.Seats.{cleared, holding, spoken}
@@ -30,8 +30,8 @@ use Rattle.tables.specs.Step.{Call, sit, leave, feed, interest}
 use Rattle.tables.specs.Step.{choke as chokes}
 use Rattle.tables.specs.declared.Head.{Head}
 use Rattle.tables.specs.declared.Seat.{Seat}
-use Rattle.tables.proofs.Counts.{count-ext, count-none, count-le, count-has, count-lacks, count-or, or-split, cannot, and-not, or-none, some-none}
-use Rattle.tables.proofs.Rows.{or-false, bit-here, bit-other, bits-here, bits-other, none-here, none-other}
+use Rattle.tables.proofs.Counts.{count-ext, count-none, count-le, count-has, count-lacks, count-or, or-split, some-none}
+use Rattle.tables.proofs.Rows.{bit-here, bit-other, bits-here, bits-other, none-here, none-other}
 use Rattle.tables.proofs.Sizing.{Fitting, fitting}
 use Rattle.tables.proofs.Sweeps.{length-each, getD-each}
 use Rattle.history.specs.History.{History, entry, Event, nothing, came, gone, heard, weChoke, weWant, event, announces, seated, announced, fresh, pieces, Sizes, sizesWith, seatedBy}
@@ -213,7 +213,7 @@ module _ (n : ℕ) (h : History) (y : Yard) (agrees : Agrees n h y) where
     silent : (m : Message (List ℕ)) (s : Seat) (a : Said) → One (entry c (taken a) w) i (heard m) → ((p : ℕ) → announces m p ≡ false)
         → s ≡ holding (held h i) (recordThen (heard m) h i) → Good c w i (says a (around (headOf n h) s (y .rows) (y .holders))) (taken a)
     silent m s a one none marks = changed (heard m) (taken a) _ l one
-        (steady (heard m) i s l refl (λ p. rw (none p) (ap (λ (b : Bool). seated h i && b) (or-false (announced h i p) false refl))) marks)
+        (steady (heard m) i s l refl (λ p. rw (none p) (ap (λ (b : Bool). seated h i && b) (or-first (announced h i p) false refl))) marks)
 
     block-good : (m : Message (List ℕ)) (p b k : ℕ) (a : Said) → One (entry c (taken a) w) i (heard m) → ((p : ℕ) → announces m p ≡ false)
         → spoken (recordOf h i) ≡ holding (held h i) (recordThen (heard m) h i)

@@ -10,12 +10,12 @@ use lib.Dec.{eqb, ltb, leb}
 use lib.ListN.{length, getD}
 use Rattle.refusal.specs.Paper.{Outcome, taken, refused}
 use Rattle.refusal.specs.Numbers.{frame, payload, late, beyond, bitfield, spare, outside, full, seat, room, sizes, damaged}
+use Rattle.refusal.proofs.Cases.{by-test, cannot, both-true, false-if}
 use Rattle.wire.specs.Message.{Message, keepalive, choke, unchoke, interested, notInterested, have, request, piece, cancel, other}
 use Rattle.wire.specs.Message.{bitfield as bits}
 use Rattle.wire.specs.Frames.{Found, found, readOf, meant}
 use Rattle.wire.specs.Frames.{wait as more}
 use Rattle.wire.specs.Causes.{TooLong, All, Right}
-use Rattle.wire.proofs.Steps.{by-test}
 use Rattle.wire.proofs.Decided.{exactly}
 use Rattle.tables.specs.Rows.{width, bitAt, withBit, withBits}
 use Rattle.tables.specs.Seats.{cleared, weChoke, weWant}
@@ -26,12 +26,10 @@ use Rattle.tables.specs.Looks.{scarcestOf, seatOf, hasOf, countOf}
 use Rattle.tables.specs.Step.{Call, start, sit, leave, feed, interest, missing, scarcest, look, has, count, step}
 use Rattle.tables.specs.Step.{choke as chokes}
 use Rattle.tables.specs.declared.Seat.{Seat}
-use Rattle.tables.proofs.Counts.{cannot}
 use Rattle.history.specs.Causes.{Says}
 use Rattle.history.specs.Damage.{Fit, Unfit, seatAt, Taken, Damaged}
 use Rattle.history.specs.Damage.Damaged.{sitting-down, leaving, having, showing}
-use Rattle.history.proofs.Starting.{fitsFor, sized-fits, fits-sized, both-true}
-use Rattle.history.proofs.Fair.{false-if}
+use Rattle.history.proofs.Starting.{fitsFor, sized-fits, fits-sized}
 
 module _ (y : Yard) where
   abbrev n : ℕ

@@ -10,15 +10,15 @@ use lib.Dec.{eqb, ltb, leb}
 use lib.ListN.{length}
 use Rattle.refusal.specs.Paper.{Outcome, taken, refused}
 use Rattle.refusal.specs.Numbers.{frame, payload, beyond, outside, seat, room, damaged}
-use Rattle.refusal.specs.Limits.{longestBlock}
+use Rattle.refusal.proofs.Cases.{by-test, cannot, false-if, both-true}
 use Rattle.blocks.specs.Rules.{pieceLength}
 use Rattle.blocks.proofs.Legal.{is-piece-length, piece-length-is}
+use Rattle.blocks.proofs.Whole.{lies-is, is-lies}
 use Rattle.wire.specs.Message.{Message, keepalive, choke, unchoke, interested, notInterested, have, request, piece, cancel, other}
 use Rattle.wire.specs.Message.{bitfield as bits}
 use Rattle.wire.specs.Frames.{Found, found, readOf, meant}
 use Rattle.wire.specs.Frames.{wait as more}
 use Rattle.wire.specs.Causes.{TooLong, All, Right}
-use Rattle.wire.proofs.Steps.{by-test}
 use Rattle.wire.proofs.Decided.{exactly, wait-exactly, twenty-exactly, twenty-one-exactly}
 use Rattle.tables.specs.Rows.{width, bitAt}
 use Rattle.tables.specs.Frames.{spareSet}
@@ -26,7 +26,7 @@ use Rattle.tables.specs.Tables.{Said, wait, done, used, serve, dropped, wrote, 
 use Rattle.tables.specs.Tables.{seated as givesSeat}
 use Rattle.tables.specs.Step.{Call, start, sit, leave, feed, interest, missing, scarcest, look, has, count}
 use Rattle.tables.specs.Step.{choke as chokes}
-use Rattle.tables.proofs.Counts.{cannot, some-one, some-every}
+use Rattle.tables.proofs.Counts.{some-one, some-every}
 use Rattle.history.specs.History.{History, seated, fresh, weAreChoking, theyAreInterested, pieces}
 use Rattle.history.specs.Expected.{no, startFits, sits, lengthOf, blockFits, blockAnswer, requestAnswer, messageAnswer, frameAnswer, markAnswer, freeSeat, answer}
 use Rattle.history.specs.Causes.{Sits, Nobody, On, Marks, Says, Block, Fits, StartFits, Cause, Waits}
@@ -35,7 +35,6 @@ use Rattle.history.specs.Causes.Marks.{choking, wanting}
 use Rattle.history.specs.Causes.Block.{asked, sent, called-off}
 use Rattle.history.specs.Causes.Cause.{unfit, all-taken, nobody, past-list, past-look, past-has, no-room, too-long, wrong-payload, not-first, wrong-length, spare-bit, no-such-have, no-such-block, no-such-has, no-such-count, past-piece}
 use Rattle.history.specs.Causes.Waits.{cut-off}
-use Rattle.history.proofs.Starting.{both-true}
 use Rattle.history.proofs.Lowest.{lowest-is, lowest-unique}
 
 -- ---- tests as statements
@@ -70,17 +69,10 @@ module _ (h : History) (p l k : ℕ) where
 
 module _ (h : History) (p b k : ℕ) where
   pub fits-block : Fits h p b k → blockFits h p b k ≡ true
-  fits-block f = both-true _ _ (le-leb 1 k (f .0)) (both-true _ _ (le-leb k longestBlock (f .1)) (le-leb (b + k) (lengthOf h p) (f .2)))
+  fits-block f = is-lies (lengthOf h p) b k f
 
   pub block-fits : blockFits h p b k ≡ true → Fits h p b k
-  block-fits e =
-      let a = and-eq-true-iff (leb 1 k) _ .0 e in
-      let c = and-eq-true-iff (leb k longestBlock) (leb (b + k) (lengthOf h p)) .0 (a .1) in
-      (leb-true 1 k (a .0), leb-true k longestBlock (c .0), leb-true (b + k) (lengthOf h p) (c .1))
-
-pub false-if : (t : Bool) → (t ≡ true → ⊥) → t ≡ false
-false-if true f = absurd (f refl)
-false-if false f = refl
+  block-fits e = lies-is (lengthOf h p) b k e
 
 -- ---- a refusal and a wait have their cause
 

@@ -8,13 +8,11 @@ use native.Mathlib.Omega.{arith}
 use borrow.Author.Tests.{ltb-true, ltb-false, eqb-true, eqb-false}
 use lib.Dec.{ltb, eqb}
 use lib.ListN.{length, getD}
-use Rattle.wire.proofs.Steps.{by-test}
+use Rattle.refusal.proofs.Cases.{by-test, same-or, less-or, cannot}
 use Rattle.tables.specs.Seats.{cleared}
 use Rattle.tables.specs.Seating.{lowestFree}
 use Rattle.tables.specs.Looks.{fewest, placeOf}
 use Rattle.tables.specs.declared.Seat.{Seat}
-use Rattle.tables.proofs.Cases.{same-or, less-or}
-use Rattle.tables.proofs.Counts.{cannot}
 use Rattle.history.specs.Says.{lowestWithout, leastOf, Lowest, Least}
 
 -- ---- the lowest without f

@@ -9,25 +9,24 @@ use lib.Dec.{ltb, leb, eqb}
 use lib.ListN.{length, drop, take-append-drop}
 use Rattle.refusal.specs.BigEndian.{Bytes}
 use Rattle.refusal.specs.Paper.{Outcome, taken, refused}
+use Rattle.refusal.proofs.Cases.{by-test, cannot, false-if}
 use Rattle.wire.specs.Message.{Message, encode, keepalive, choke, unchoke, interested, notInterested, have, request, piece, cancel, other}
 use Rattle.wire.specs.Message.{bitfield as bits}
 use Rattle.wire.specs.Frames.{Found, found, readOf, meant, Keeps}
 use Rattle.wire.specs.Frames.{wait as more}
 use Rattle.wire.proofs.Exact.{taken-was-written, reads-back}
-use Rattle.wire.proofs.Steps.{by-test}
 use Rattle.tables.specs.Rows.{width}
 use Rattle.tables.specs.Frames.{spareSet}
 use Rattle.tables.specs.Tables.{Said, wait, done, used, serve, dropped, wrote, listed, shows, holds, heldBy, scarce}
 use Rattle.tables.specs.Tables.{seated as givesSeat}
 use Rattle.tables.specs.Step.{Call, start, sit, leave, feed, interest, missing, scarcest, look, has, count}
 use Rattle.tables.specs.Step.{choke as chokes}
-use Rattle.tables.proofs.Counts.{cannot}
 use Rattle.history.specs.History.{History, fresh, weAreChoking, theyAreInterested, pieces}
 use Rattle.history.specs.Expected.{startFits, sits, blockFits, blockAnswer, requestAnswer, messageAnswer, frameAnswer, markAnswer, freeSeat, answer}
 use Rattle.history.specs.Causes.{Sits, Says, Welcome, Asks, Serves, Drops}
 use Rattle.history.specs.Causes.Serves.{serves}
 use Rattle.history.specs.Causes.Drops.{drops}
-use Rattle.history.proofs.Fair.{frame-says, sits-then, fits-block, block-fits, false-if}
+use Rattle.history.proofs.Fair.{frame-says, sits-then, fits-block, block-fits}
 
 -- ---- what bytes say
 

@@ -10,6 +10,7 @@ use lib.ListN.{length, getD, replicate, length-replicate, getD-replicate}
 use Rattle.refusal.specs.Paper.{taken, refused}
 use Rattle.refusal.specs.Numbers.{sizes}
 use Rattle.refusal.specs.Limits.{mostPieces, mostSeats}
+use Rattle.refusal.proofs.Cases.{cannot, both-true, same-test}
 use Rattle.blocks.specs.Rules.{pieceLength}
 use Rattle.blocks.proofs.Legal.{is-piece-length, piece-length-is}
 use Rattle.tables.specs.Rows.{width}
@@ -17,7 +18,7 @@ use Rattle.tables.specs.Seats.{cleared, holding}
 use Rattle.tables.specs.Tables.{Yard, done, sizesFit}
 use Rattle.tables.specs.Seating.{emptied, startOf}
 use Rattle.tables.specs.Step.{start}
-use Rattle.tables.proofs.Counts.{count-none, cannot}
+use Rattle.tables.proofs.Counts.{count-none}
 use Rattle.tables.proofs.Rows.{blank}
 use Rattle.tables.proofs.Sizing.{Fitting, fitting}
 use Rattle.history.specs.History.{History, entry, event, pieces, sizesWith, seated}
@@ -56,9 +57,6 @@ empty-agrees h y p l k w ok =
 
 -- ---- a further start
 
-pub both-true : (a b : Bool) → a ≡ true → b ≡ true → (a && b) ≡ true
-both-true a b p q = rw (p, q)
-
 -- the sizes fit exactly if they are legal and the tables have them
 pub sized-fits : (p l k : ℕ) (y : Yard) → Sized p l k y → fitsFor p l k y ≡ true
 unfolding sizesFit
@@ -88,11 +86,6 @@ fits-sized p l k y e =
       rows-fit = f .row;
       holders-fit = f .counts;
     }
-
-iff : (a b : Bool) → (a ≡ true → b ≡ true) → (b ≡ true → a ≡ true) → a ≡ b
-iff true b f g = sym (f refl)
-iff false true f g = g refl
-iff false false f g = refl
 
 -- what holds of both answers of two tests that agree
 by-both : {A B : Type 0} (Q : A → B → Type 0) (t u : Bool) {x y : A} {e f : B} → t ≡ u → (t ≡ true → Q x e) → (t ≡ false → Q y f) → Q (cond t x y) (cond u e f)
@@ -133,6 +126,6 @@ module _ (n : ℕ) (h : History) (y : Yard) (agrees : Agrees n h y) (p l k : ℕ
 
   pub start-kept : (w : List ℕ) → Kept n h y agrees (start p l k) w (startOf p l k y) (cond (startFits h p l k) (taken done) (no sizes))
   unfolding startOf event sizesWith
-  start-kept w = by-both (Kept n h y agrees (start p l k) w) (fitsFor p l k y) (startFits h p l k) (iff _ _ fits-then then-fits)
+  start-kept w = by-both (Kept n h y agrees (start p l k) w) (fitsFor p l k y) (startFits h p l k) (same-test _ _ fits-then then-fits)
       (λ e. (refl, subst (λ (m : ℕ). Agrees m (entry (start p l k) (taken done) w ∷ h) (emptied p l k y)) (agrees .seats-len) (empty-agrees h y p l k w e)))
       (λ e. (refl, quiet-agrees n h y agrees (entry (start p l k) (refused sizes 0) w) (λ j. refl) (λ z. refl)))

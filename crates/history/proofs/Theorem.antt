@@ -10,7 +10,7 @@ use borrow.Author.Tests.{eqb-true}
 use lib.Dec.{eqb}
 use lib.ListN.{length, getD}
 use Rattle.refusal.specs.Paper.{Outcome, taken, refused}
-use Rattle.wire.proofs.Steps.{by-test}
+use Rattle.refusal.proofs.Cases.{by-test, by-bool}
 use Rattle.tables.specs.Counting.{count}
 use Rattle.tables.specs.Seats.{cleared}
 use Rattle.tables.specs.Tables.{Yard, Said}
@@ -19,7 +19,6 @@ use Rattle.tables.specs.Step.{Call, start, sit, leave, feed, choke, interest, m
 use Rattle.tables.specs.Step.{count as countAt, writes as writesIn, written as writtenIn}
 use Rattle.tables.specs.declared.Head.{Head}
 use Rattle.tables.specs.declared.Seat.{Seat}
-use Rattle.tables.proofs.Cases.{by-bool}
 use Rattle.tables.proofs.Counts.{count-le}
 use Rattle.history.specs.History.{History, entry, pieces, Sizes, sizes, seated, sizesWith}
 use Rattle.history.specs.Says.{hasPiece, loaded}

@@ -7,8 +7,8 @@ use Prim.Native.Nat.{ℕ, _+_, _*_, _≤_, _<_}
 use lib.ListN.{length}
 use Rattle.refusal.specs.Paper.{taken}
 use Rattle.refusal.specs.Numbers.{frame, payload, late, beyond, bitfield, spare, outside, full, seat, room, sizes}
-use Rattle.refusal.specs.Limits.{longestBlock}
 use Rattle.blocks.specs.Rules.{PieceLength}
+use Rattle.blocks.specs.Covers.{Block as InPiece}
 use Rattle.wire.specs.Message.{Message, have, request, piece, cancel}
 use Rattle.wire.specs.Message.{bitfield as bits}
 use Rattle.wire.specs.Frames.{found, readOf, meant}
@@ -54,7 +54,7 @@ pub data Block (p b k : ℕ) : Message (List ℕ) → Type 0 where
 
 -- it has 1 to 16,384 bytes and ends within its piece
 abbrev pub Fits : History → ℕ → ℕ → ℕ → Type 0
-Fits h p b k = (1 ≤ k) × (k ≤ longestBlock) × (b + k ≤ lengthOf h p)
+Fits h p b k = InPiece (lengthOf h p) b k
 
 -- a further start has as many pieces as the tables, a legal piece length, and a last piece from 1 to it
 abbrev pub StartFits : History → ℕ → ℕ → ℕ → Type 0

@@ -6,8 +6,8 @@ use lib.Dec.{eqb, ltb, leb}
 use lib.ListN.{length}
 use Rattle.refusal.specs.Paper.{Outcome, taken, refused}
 use Rattle.refusal.specs.Numbers.{late, beyond, bitfield, spare, outside, full, seat, room, sizes}
-use Rattle.refusal.specs.Limits.{longestBlock}
 use Rattle.blocks.specs.Rules.{pieceLength}
+use Rattle.blocks.specs.Answers.{lies}
 use Rattle.wire.specs.Message.{Message, keepalive, choke, unchoke, interested, notInterested, have, request, piece, cancel, other}
 use Rattle.wire.specs.Message.{bitfield as bits}
 use Rattle.wire.specs.Frames.{Found, found, readOf, meant}
@@ -38,7 +38,7 @@ lengthOf h p = cond (eqb (p + 1) (pieces h)) (sizesOf h .lastLength) (sizesOf h 
 
 -- a block has 1 to 16,384 bytes and ends within its piece
 abbrev pub blockFits : History → ℕ → ℕ → ℕ → Bool
-blockFits h p begin len = leb 1 len && (leb len longestBlock && leb (begin + len) (lengthOf h p))
+blockFits h p begin len = lies (lengthOf h p) begin len
 
 -- ---- a frame of the truck of seat i
 

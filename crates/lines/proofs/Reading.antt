@@ -11,6 +11,8 @@ use lib.IntN.{pos}
 use lib.ListN.{length, take, drop, length-append}
 use Rattle.refusal.specs.Paper.{Outcome, taken, refused, map, then}
 use Rattle.refusal.specs.Limits.{longestFile, longestPiece, mostFiles, mostPieces}
+use Rattle.refusal.proofs.Cases.{both}
+use Rattle.refusal.proofs.Outcomes.{then-taken, map-taken}
 use Rattle.scalar.specs.Written.{decimal, decimalIn}
 use Rattle.writer.proofs.Decimals.{length-most}
 use Rattle.bencode.specs.Value.{Value, Items, Entries, str, int, list, dict, none, item, encode, encodeItems, start}
@@ -26,7 +28,6 @@ use Rattle.walk.proofs.Having.{found-has}
 use Rattle.fields.specs.Values.{stringAt, naturalAt, listAt, dictionaryAt, must}
 use Rattle.fields.proofs.Standing.{part-bytes}
 use Rattle.blocks.specs.Rules.{pieceLength, fileCount, piecesOf, totalAnd, sum}
-use Rattle.blocks.proofs.Legal.{both}
 use Rattle.metainfo.specs.Keys.{announceKey, infoKey, filesKey, lengthKey, nameKey, pieceLengthKey, piecesKey}
 use Rattle.metainfo.specs.Rules.{nameAt, fileOf, lengthsOf, oneFile, manyFiles, contentOf, pieceLengthAt, placeUnder, sizedOf, infoOf, infoAt, topOf, torrentOf}
 use Rattle.metainfo.specs.Reading.{readOf}
@@ -39,7 +40,7 @@ use Rattle.lines.specs.Lines as lines
 use Rattle.lines.specs.Places.{FilesAt}
 use Rattle.lines.proofs.Running.{escaped-most}
 use Rattle.lines.proofs.Fitting.{string-length, list-length, dict-length, has-room}
-use Rattle.lines.proofs.Taken.{then-taken, map-taken, provided-taken, must-taken, number-taken, list-taken, dictionary-taken, name-taken, found-any, found-is}
+use Rattle.lines.proofs.Taken.{provided-taken, must-taken, number-taken, list-taken, dictionary-taken, name-taken, found-any, found-is}
 use Rattle.lines.proofs.Walking.{file-read}
 
 -- ---- many files
@@ -51,7 +52,7 @@ lengths-are s d p none ns t e = let f : [] ≡ ns = cc in (f, omega (arith, ap s
 lengths-are s d p (item v vs) ns t e =
     let n = items-next s d p v vs t in
     let b = then-taken (fileOf p v) (λ f. map (λ ns. f .length ∷ ns) (lengthsOf (f .next) vs)) ns e in
-    let c = map-taken (lengthsOf (b .0 .next) vs) (λ ns. b .0 .length ∷ ns) ns (b .2) in
+    let c = map-taken (λ ns. b .0 .length ∷ ns) (lengthsOf (b .0 .next) vs) ns (b .2) in
     let r = file-read s d p v (n .0) (b .0) (b .1) in
     let q : b .0 .next ≡ p + length (encode v) = file-next p v (b .0) (sym (b .1)) in
     let m = lengths-are s d (b .0 .next) vs (c .0) (subst (λ (i : ℕ). StandItems s d i vs) (sym q) (n .1)) (c .1) in
@@ -65,7 +66,7 @@ files-most s d p o none ns t e h = omega arith
 files-most s d p o (item v vs) ns t e h =
     let n = items-next s d p v vs t in
     let b = then-taken (fileOf p v) (λ f. map (λ ns. f .length ∷ ns) (lengthsOf (f .next) vs)) ns e in
-    let c = map-taken (lengthsOf (b .0 .next) vs) (λ ns. b .0 .length ∷ ns) ns (b .2) in
+    let c = map-taken (λ ns. b .0 .length ∷ ns) (lengthsOf (b .0 .next) vs) ns (b .2) in
     let r = file-read s d p v (n .0) (b .0) (b .1) in
     let f : Listed = lines.fileIn v in
     let q : b .0 .next ≡ p + length (encode v) = file-next p v (b .0) (sym (b .1)) in
@@ -122,7 +123,7 @@ module _ (s : List ℕ) (d p : ℕ) (es : Entries) (deep : d ≤ 32) (t : StandE
     where
       go : (a : Under) → lookup (p + 1) es lengthKey ≡ a → (b : Under) → lookup (p + 1) es filesKey ≡ b → contentOf p a b ≡ taken c → Content′ s (filesOf (dict es)) name c
       go (under q v) x nothing y h =
-          let m = map-taken (naturalAt longestFile q v) (oneFile q) c h in
+          let m = map-taken (oneFile q) (naturalAt longestFile q v) c h in
           let n = number-taken longestFile q v (m .0) (m .1) in
           let z : found (lookup 0 es filesKey) ≡ str [] = found-none (p + 1) es filesKey y in
           let k : found (lookup 0 es lengthKey) ≡ int (pos (m .0)) = found-is (p + 1) q es lengthKey (int (pos (m .0))) (x ∙ ap (under q) (n .0)) in
@@ -133,7 +134,7 @@ module _ (s : List ℕ) (d p : ℕ) (es : Entries) (deep : d ≤ 32) (t : StandE
       go nothing x (under q v) y h =
           let a = then-taken (listAt q v) (λ vs. map (manyFiles q) (lengthsOf (q + 1) vs)) c h in
           let l = list-taken q v (a .0) (a .1) in
-          let m = map-taken (lengthsOf (q + 1) (a .0)) (manyFiles q) c (a .2) in
+          let m = map-taken (manyFiles q) (lengthsOf (q + 1) (a .0)) c (a .2) in
           let f : lookup (p + 1) es filesKey ≡ under q (list (a .0)) = y ∙ ap (under q) l in
           let st = found-stands s d (p + 1) start es filesKey t q (list (a .0)) f in
           let u = list-stands s d q (a .0) st .1 in

@@ -9,6 +9,7 @@ use lib.Dec.{leb}
 use lib.IntN.{pos, negsuc}
 use lib.ListN.{length}
 use Rattle.refusal.specs.Paper.{Outcome, taken, refused, map, then}
+use Rattle.refusal.proofs.Outcomes.{then-taken, map-taken}
 use Rattle.scalar.specs.Written.{written}
 use Rattle.bencode.specs.Value.{Value, Items, Entries, str, int, list, dict, none, item, empty, entry, encode}
 use Rattle.walk.specs.Lookup.{Under, nothing, under, lookup, sameKey}
@@ -19,15 +20,6 @@ use Rattle.metainfo.proofs.Naming.{no-way}
 use Rattle.lines.specs.Lines.{found}
 
 -- ---- one check and then another
-
-module _ {A B : Type 0} where
-  pub then-taken : (o : Outcome A) (f : A → Outcome B) (y : B) → then o f ≡ taken y → (x : A) × (o ≡ taken x) × (f x ≡ taken y)
-  then-taken (taken x) f y e = (x, refl, e)
-  then-taken (refused n p) f y e = no-way (cc)
-
-  pub map-taken : (o : Outcome A) (f : A → B) (y : B) → map f o ≡ taken y → (x : A) × (o ≡ taken x) × (f x ≡ y)
-  map-taken (taken x) f y e = (x, refl, cc)
-  map-taken (refused n p) f y e = no-way (cc)
 
 module _ {A : Type 0} where
   pub provided-taken : (b : Bool) (n p : ℕ) (o : Outcome A) (y : A) → provided b n p o ≡ taken y → (b ≡ true) × (o ≡ taken y)
@@ -85,7 +77,7 @@ path-taken p v a e = let t = then-taken (listAt p v) (pathIn p) a e in go (t .0)
   where
     go : (vs : Items) → v ≡ list vs → pathIn p vs ≡ taken a → (x : Value) × (xs : Items) × (q : ℕ) × (v ≡ list (item x xs)) × (a ≡ p + 1) × (elementsOf (p + 1) (item x xs) ≡ taken q)
     go none f h = no-way (cc)
-    go (item x xs) f h = let m = map-taken (elementsOf (p + 1) (item x xs)) (λ q. p + 1) a h in (x, xs, m .0, f, sym (m .2), m .1)
+    go (item x xs) f h = let m = map-taken (λ q. p + 1) (elementsOf (p + 1) (item x xs)) a h in (x, xs, m .0, f, sym (m .2), m .1)
 
 -- ---- a value under a key is the same wherever its dictionary stands
 

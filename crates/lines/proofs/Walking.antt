@@ -8,6 +8,7 @@ use lib.IntN.{pos}
 use lib.ListN.{length, take, drop, length-append}
 use Rattle.refusal.specs.Paper.{Outcome, taken, refused, map, then}
 use Rattle.refusal.specs.Limits.{longestFile}
+use Rattle.refusal.proofs.Outcomes.{then-taken, map-taken}
 use Rattle.scalar.specs.Written.{decimal}
 use Rattle.bencode.specs.Value.{Value, Items, Entries, str, int, list, dict, none, item, encode, encodeItems, start}
 use Rattle.bencode.specs.Decode.{kindOf, valueOf}
@@ -35,7 +36,7 @@ use Rattle.lines.specs.Runs.{far, Ran}
 use Rattle.lines.specs.Places.{marked, PathAt, FilesAt}
 use Rattle.lines.proofs.Running.{Going, going-start, going-more, going-end}
 use Rattle.lines.proofs.Fitting.{marked-most, has-room, list-length, dict-length}
-use Rattle.lines.proofs.Taken.{then-taken, map-taken, must-taken, number-taken, dictionary-taken, element-taken, path-taken, found-is}
+use Rattle.lines.proofs.Taken.{must-taken, number-taken, dictionary-taken, element-taken, path-taken, found-is}
 
 -- ---- paths
 
@@ -205,7 +206,7 @@ module _ (s : List ℕ) (p o : ℕ) (w : List ℕ) (a : FilesAt s p o w) where
       go (item v vs) t g h =
           let n = items-next s (a .deep) p v vs t in
           let b = then-taken (fileOf p v) (λ f. map (λ ns. f .length ∷ ns) (lengthsOf (f .next) vs)) (a .lengths) g in
-          let c = map-taken (lengthsOf (b .0 .next) vs) (λ ns. b .0 .length ∷ ns) (a .lengths) (b .2) in
+          let c = map-taken (λ ns. b .0 .length ∷ ns) (lengthsOf (b .0 .next) vs) (a .lengths) (b .2) in
           let i : taken f ≡ taken (b .0) = e ∙ file-stands s p (a .deep) v (a .levels) (n .0) ∙ b .1 in
           let j : b .0 ≡ f = cc in
           let k : fileOf p v ≡ taken f = b .1 ∙ ap (λ (x : File). taken x) j in

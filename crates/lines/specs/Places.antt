@@ -1,4 +1,5 @@
 -- What stands at a place of a text, and the bytes printed for it. Assumes nothing: these are definitions.
+-- They serve inner contracts alone and need not be believed: `ready` of lines/proofs/Reading.antt ties them to Lines.antt.
 use mathlib.Core.Path.{_≡_}
 use mathlib.Core.List.{List, [], _∷_, _++_}
 use Prim.Native.Nat.{ℕ, _+_, _≤_}

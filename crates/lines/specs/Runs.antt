@@ -1,4 +1,5 @@
 -- Bytes put at a place of lent output, as far as the output goes. Assumes nothing: these are definitions.
+-- They serve inner contracts alone and need not be believed: the contract of `listing` speaks of Lines.antt and of `putOf`.
 use mathlib.Core.Path.{_≡_}
 use mathlib.Core.List.{List}
 use Prim.Native.Nat.{ℕ, _+_}

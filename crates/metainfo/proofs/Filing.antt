@@ -22,7 +22,7 @@ use Rattle.walk.specs.Stands.{Stands, StandItems, StandEntries}
 use Rattle.walk.specs.Lookup.{Under, nothing, under, lookup}
 use Rattle.walk.specs.declared.Sought.{Sought}
 use Rattle.walk.specs.declared.Sought.the-variants.{Found, Missing, Unread}
-use Rattle.walk.proofs.Standing.{list-stands, dictionary-stands, items-end, items-next, room, keeps-more}
+use Rattle.walk.proofs.Standing.{list-stands, dictionary-stands, items-end, items-next, room, keeps-more, closes-none, closes-item}
 use Rattle.walk.proofs.Finding.{beyond}
 use Rattle.fields.specs.Looks.{endingAt, numberOf, listOf, dictionaryOf}
 use Rattle.fields.specs.Values.{naturalAt, listAt, dictionaryAt, must}
@@ -33,7 +33,7 @@ use Rattle.metainfo.specs.declared.Content.{Content}
 use Rattle.metainfo.specs.Keys.{lengthKey, pathKey, Tells, soughtFrom}
 use Rattle.metainfo.specs.Rules.{pathAt, fileIn, fileOf, lengthsOf, oneFile, manyFiles, contentOf}
 use Rattle.metainfo.specs.Reading.{valueIn, valueAt, fileAt, listedTo, filesAt, running, stopped}
-use Rattle.metainfo.proofs.Naming.{no-way, closes-none, closes-item}
+use Rattle.metainfo.proofs.Naming.{no-way}
 use Rattle.metainfo.proofs.Telling.{tells-found, tells-missing, tells-read, tell-first}
 
 -- a refusal is the same whatever might have been taken

@@ -4,33 +4,26 @@ use mathlib.Core.Bool.{Bool, true, false, cond}
 use mathlib.Core.List.{List, [], _∷_, _++_}
 use Prim.Native.Nat.{ℕ, zero, suc, _+_, _<_, _≤_}
 use native.Mathlib.Omega.{arith}
-use native.Mathlib.Numerals.{add-one}
 use lib.Dec.{eqb}
 use lib.ListN.{length, getD, take, drop, length-append, drop-of-length-le}
-use lib.Seq.{drop-cons}
 use borrow.Author.Tests.{eq-eqb, ne-eqb, eqb-true}
 use Rattle.refusal.specs.Paper.{Outcome, taken, refused, then, map}
+pub use Rattle.refusal.proofs.Cases.{no-way}
 use Rattle.scalar.specs.Written.{written}
 use Rattle.scalar.specs.Reading.{onHead}
+use Rattle.scalar.proofs.Forms.{at-head}
 use Rattle.bencode.specs.Value.{Value, Items, Entries, str, int, list, dict, none, item, encode, encodeItems}
 use Rattle.bencode.specs.Decode.{closes}
-use Rattle.bencode.proofs.Complete.{first-byte}
 use Rattle.walk.specs.Walk.{Head, string, integer, long, end, lookOf, entryOf, dueOf, key}
 use Rattle.walk.specs.Walk as walk
 use Rattle.walk.specs.Stands.{Stands, StandItems}
 use Rattle.walk.specs.declared.Part.{Part}
-use Rattle.walk.proofs.Standing.{Bytes, string-stands, integer-stands, list-stands, dictionary-stands, items-end, items-next}
+use Rattle.walk.proofs.Standing.{Bytes, string-stands, integer-stands, list-stands, dictionary-stands, items-end, items-next, closes-none, closes-item}
 use Rattle.walk.proofs.Seeking.{key-further}
 use Rattle.fields.specs.Looks.{endingAt, stringIn, stringOf, listOf}
 use Rattle.fields.specs.Values.{partOf, stringAt, listAt}
 use Rattle.fields.proofs.Standing.{part-bytes, string-is, list-is}
 use Rattle.metainfo.specs.Rules.{dots, clean, goodName, nameAt, elementsOf, pathIn, pathAt}
-
-pub no-way : {A : Type 0} → _≡_ {A = ℕ} 0 1 → A
-no-way e = absurd (omega arith)
-
-drop-here : (k : List ℕ) (i : ℕ) → i < length k → drop i k ≡ getD k i 0 ∷ drop (i + 1) k
-drop-here k i h = rw (add-one, drop-cons k i 0 h)
 
 -- ---- the bytes of a name
 
@@ -38,15 +31,15 @@ drop-here k i h = rw (add-one, drop-cons k i 0 h)
 module _ (s : List ℕ) (i : ℕ) (e : clean (drop i s) ≡ clean s) where
   pub clean-more : i < length s → (getD s i 0 ≡ 47 → ⊥) → (getD s i 0 ≡ 0 → ⊥) → clean (drop (i + 1) s) ≡ clean s
   unfolding clean
-  clean-more l x y = (rw (drop-here s i l, ne-eqb _ _ x, ne-eqb _ _ y) at e)
+  clean-more l x y = (rw (at-head s i l, ne-eqb _ _ x, ne-eqb _ _ y) at e)
 
   pub clean-slash : i < length s → getD s i 0 ≡ 47 → false ≡ clean s
   unfolding clean
-  clean-slash l x = (rw (drop-here s i l, eq-eqb _ _ x) at e)
+  clean-slash l x = (rw (at-head s i l, eq-eqb _ _ x) at e)
 
   pub clean-zero : i < length s → (getD s i 0 ≡ 47 → ⊥) → getD s i 0 ≡ 0 → false ≡ clean s
   unfolding clean
-  clean-zero l x y = (rw (drop-here s i l, ne-eqb _ _ x, eq-eqb _ _ y) at e)
+  clean-zero l x y = (rw (at-head s i l, ne-eqb _ _ x, eq-eqb _ _ y) at e)
 
   pub clean-end : length s ≤ i → true ≡ clean s
   unfolding clean
@@ -201,18 +194,6 @@ module _ (s : List ℕ) (first p : ℕ) (g : Going s first p) where
 
 -- ---- a path
 
--- whether a list ends at p
-pub closes-none : (s : List ℕ) (d p : ℕ) → StandItems s d p none → closes (drop p s) ≡ true
-unfolding encodeItems
-closes-none s d p t = ap closes (t .text)
-
-pub closes-item : (s : List ℕ) (d p : ℕ) (v : Value) (vs : Items) → StandItems s d p (item v vs) → closes (drop p s) ≡ false
-unfolding encodeItems
-closes-item s d p v vs t =
-    let f = first-byte v in
-    let n = items-next s d p v vs t in
-    ap closes (n .0 .text ∙ ap (λ (l : List ℕ). l ++ n .0 .rest) (f .2)) ∙ ne-eqb (f .0) 101 (f .3)
-
 -- the place past the elements of a path is that of its e
 elements-past : (p : ℕ) (vs : Items) (q : ℕ) → elementsOf p vs ≡ taken q → q + 1 ≡ p + length (encodeItems vs)
 unfolding elementsOf encodeItems
@@ -282,7 +263,7 @@ pub ends-out : (s : List ℕ) (p : ℕ) → length s ≤ p → false ≡ closes 
 ends-out s p h = rw (drop-of-length-le s h)
 
 pub ends-in : (s : List ℕ) (p : ℕ) → p < length s → eqb (getD s p 0) 101 ≡ closes (drop p s)
-ends-in s p h = rw (drop-here s p h)
+ends-in s p h = rw (at-head s p h)
 
 abbrev isEnd : Head → Bool
 isEnd (string a m q) = false

@@ -1,6 +1,6 @@
 -- The numbers of a torrent, as the code tests them. Assumes nothing.
 use mathlib.Core.Path.{_≡_, refl, sym, ap, _∙_, subst}
-use mathlib.Core.Bool.{Bool, true, false, cond, _&&_}
+use mathlib.Core.Bool.{Bool, true, false, cond, _&&_, and-false}
 use mathlib.Core.Logic.{_⊎_, inl, inr, ⊎-elim}
 use mathlib.Core.List.{List}
 use Prim.Native.Nat.{ℕ, _+_, _*_, _<_, _≤_, min}
@@ -9,6 +9,7 @@ use lib.Dec.{leb, eqb}
 use borrow.Author.Tests.{eq-eqb, ne-eqb, lt-leb, le-leb, leb-true}
 use Rattle.refusal.specs.Paper.{Outcome, taken, refused, then}
 use Rattle.refusal.specs.Limits.{mostPieces, longestPiece}
+use Rattle.refusal.proofs.Cases.{both, lt-or-le}
 use Rattle.walk.specs.declared.Part.{Part}
 use Rattle.bencode.specs.Value.{Value}
 use Rattle.walk.specs.Walk.{seekPaper}
@@ -21,7 +22,7 @@ use Rattle.metainfo.specs.Keys.{Tells, valueOf}
 use Rattle.metainfo.proofs.Naming.{no-way}
 use Rattle.metainfo.proofs.Telling.{tells-needed, tells-place}
 use Rattle.blocks.specs.Rules.{pieceLength, fileCount, piecesOf, totalAnd, largest}
-use Rattle.blocks.proofs.Legal.{both, and-false, lt-or-le, piece-length-is, piece-bounds, is-piece}
+use Rattle.blocks.proofs.Legal.{piece-length-is, piece-bounds, is-piece}
 use Rattle.metainfo.specs.declared.Content.{Content}
 use Rattle.metainfo.specs.declared.Torrent.{Torrent}
 use Rattle.metainfo.specs.Rules.{placeUnder, pieceLengthAt, sizedOf}

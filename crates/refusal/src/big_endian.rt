@@ -13,6 +13,7 @@ pub enum Number {
     Cut,
 }
 
+// The number of two bytes at a place.
 pub fn read2(text: &[u8], at: usize) -> Number
     ensures { λ r. ⌜ r ≡ numberAt 2 (now (text .entry)) at ⌝ }
 {
@@ -23,6 +24,7 @@ pub fn read2(text: &[u8], at: usize) -> Number
     }
 }
 
+// The number of four bytes at a place.
 pub fn read4(text: &[u8], at: usize) -> Number
     ensures { λ r. ⌜ r ≡ numberAt 4 (now (text .entry)) at ⌝ }
 {
@@ -33,6 +35,7 @@ pub fn read4(text: &[u8], at: usize) -> Number
     }
 }
 
+// The number of eight bytes at a place.
 pub fn read8(text: &[u8], at: usize) -> Number
     ensures { λ r. ⌜ r ≡ numberAt 8 (now (text .entry)) at ⌝ }
 {
@@ -43,7 +46,7 @@ pub fn read8(text: &[u8], at: usize) -> Number
     }
 }
 
-// Writes a number's bytes at a place; where they do not fit, answers false and leaves everything.
+// Writes the two bytes of a number at a place; where they do not fit, answers false and leaves everything.
 pub fn write2(out: &mut [u8], at: usize, x: u16) -> bool
     ensures { λ r. ⌜ r ≡ fits 2 (now (out .entry)) at ⌝ }
     ensures { λ _. ⌜ now (out .exit) ≡ written 2 (now (out .entry)) at x ⌝ }
@@ -56,6 +59,7 @@ pub fn write2(out: &mut [u8], at: usize, x: u16) -> bool
     }
 }
 
+// The same with four bytes.
 pub fn write4(out: &mut [u8], at: usize, x: u32) -> bool
     ensures { λ r. ⌜ r ≡ fits 4 (now (out .entry)) at ⌝ }
     ensures { λ _. ⌜ now (out .exit) ≡ written 4 (now (out .entry)) at x ⌝ }
@@ -68,6 +72,7 @@ pub fn write4(out: &mut [u8], at: usize, x: u32) -> bool
     }
 }
 
+// The same with eight bytes.
 pub fn write8(out: &mut [u8], at: usize, x: u64) -> bool
     ensures { λ r. ⌜ r ≡ fits 8 (now (out .entry)) at ⌝ }
     ensures { λ _. ⌜ now (out .exit) ≡ written 8 (now (out .entry)) at x ⌝ }

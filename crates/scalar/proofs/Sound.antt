@@ -1,6 +1,6 @@
 -- A string or an integer that is read was written so. Assumes nothing.
 use mathlib.Core.Path.{_≡_, refl, sym, ap, _∙_, subst}
-use mathlib.Core.Bool.{Bool, true, false, cond}
+use mathlib.Core.Bool.{Bool, true, false, false≢true, cond}
 use mathlib.Core.List.{List, [], _∷_, _++_, append-assoc}
 use Prim.Native.Nat.{ℕ, suc, _+_, _-_, _≤_, pred}
 use native.Mathlib.Omega.{arith}
@@ -29,10 +29,6 @@ holds-then P Q (bad r p) f h k = tt
 pub holds-cond : {A : Type 0} (P : A → List ℕ → ℕ → ℕ → Type 0) (t : Bool) (x y : Got A) → (t ≡ true → Holds P x) → (t ≡ false → Holds P y) → Holds P (cond t x y)
 holds-cond P true x y h k = h refl
 holds-cond P false x y h k = k refl
-
-pub by-cond : {A : Type 0} (P : A → Type 0) (t : Bool) (x y : A) → (t ≡ true → P x) → (t ≡ false → P y) → P (cond t x y)
-by-cond P true x y h k = h refl
-by-cond P false x y h k = k refl
 
 -- l is w, and then r; and q is the place after w
 pub record At (l : List ℕ) (p : ℕ) (r : List ℕ) (q : ℕ) (w : List ℕ) : Type 0 where
@@ -108,9 +104,6 @@ closed-sound neg e o b t p n w d a one =
     end-sound neg e o (p + 1 + numLen b t) (numVal b t) (drop (numLen b t) t) n w
     (subst (At w o (drop (numLen b t) t) (p + 1 + numLen b t)) (shown neg (numVal b t) one) (at-then a (at-number b t p d)))
 
-pub never : false ≡ true → ⊥
-never y = let z : _≡_ {A = ℕ} 0 1 = cc in omega arith
-
 minus-sound : (e o : ℕ) (t : List ℕ) (n : ℕ) → Holds (IntP (105 ∷ 45 ∷ t) o n) (minusAt e t (o + 1 + 1) n)
 minus-sound e o [] n = tt
 minus-sound e o (c ∷ t) n =
@@ -125,7 +118,7 @@ int-sound e o (b ∷ t) n =
     holds-cond (IntP (105 ∷ b ∷ t) o n) (eqb b 45) _ _
     (λ x. subst (λ (c : ℕ). Holds (IntP (105 ∷ c ∷ t) o n) (minusAt e t (o + 1 + 1) n)) (sym (eqb-true b 45 x)) (minus-sound e o t n))
     (λ x. holds-cond (IntP (105 ∷ b ∷ t) o n) (isDigit b) _ _
-    (λ y. closed-sound false e o b t (o + 1) n (105 ∷ b ∷ t) y (at-byte 105 (b ∷ t) o) (λ z. absurd (never z)))
+    (λ y. closed-sound false e o b t (o + 1) n (105 ∷ b ∷ t) y (at-byte 105 (b ∷ t) o) (λ z. absurd (false≢true z)))
     (λ y. tt))
 
 -- at the head of what is left

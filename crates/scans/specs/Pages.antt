@@ -1,4 +1,5 @@
 -- One seat more on a page of the missing list. Assumes nothing: these are definitions.
+-- They serve inner contracts alone and need not be believed: `list-all` and `lines-are` of scans/proofs/Passes.antt tie them to tables/specs/Looks.antt.
 use mathlib.Core.Bool.{cond}
 use mathlib.Core.List.{List, [], _∷_}
 use Prim.Native.Nat.{ℕ, _+_, min}

@@ -11,10 +11,10 @@ use lib.ListN.{length, getD}
 use borrow.Author.Tests.{lt-ltb, le-ltb, eq-eqb, ne-eqb, not-false, not-true}
 use Rattle.refusal.specs.Numbers.{seat, sizes, beyond}
 use Rattle.refusal.specs.Paper.{Outcome, taken, refused}
+use Rattle.refusal.proofs.Cases.{pick-yes, pick-no, same-or, less-or}
 use Rattle.tables.specs.Rows.{digit, width, hasIn}
 use Rattle.tables.specs.Tables.{Said, shows, holds, heldBy, scarce, Around, Turn, around, paper, refuse, says, sizesFit, sized}
 use Rattle.tables.specs.Looks.{fewest, placeOf, scarcestOf, seatOf, hasOf, countOf}
-use Rattle.tables.proofs.Cases.{pick-yes, pick-no, same-or, less-or}
 use Rattle.tables.proofs.Sizing.{fitting}
 use Rattle.tables.specs.declared.Head.{Head}
 use Rattle.tables.specs.declared.Seat.{Seat}

@@ -10,9 +10,9 @@ use native.Mathlib.Numerals.{add-one}
 use lib.Dec.{eqb, ltb, leb}
 use lib.ListN.{length, getD, set, replicate, length-set, length-replicate}
 use lib.Seq.{sets, length-sets, set-getD, getD-set-same, getD-set-other, ext-getD}
+use Rattle.refusal.proofs.Cases.{same-or, or-first}
 use Rattle.tables.specs.Counting.{bit, some, each}
 use Rattle.tables.specs.Rows.{digit}
-use Rattle.tables.proofs.Cases.{same-or}
 use Rattle.tables.proofs.Digits.{digit-zero}
 use Rattle.tables.proofs.Sweeps.{length-each, getD-each, getD-sets-in}
 use Rattle.seating.specs.Steps.{hasAt, someZero, lowered}
@@ -52,15 +52,11 @@ all-clear l n h =
 pub some-next : (f : ℕ → Bool) (n : ℕ) → some (n + 1) f ≡ (some n f || f n)
 some-next f n = rw add-one
 
-or-none : (a b : Bool) → b ≡ false → (a || b) ≡ a
-or-none true b e = refl
-or-none false b e = e
-
 pub some-skip : (f : ℕ → Bool) (n e : ℕ) → n ≤ e → ((q : ℕ) → n ≤ q → q < e → f q ≡ false) → some e f ≡ some n f
 some-skip f n zero l h = let r : 0 ≡ n = omega arith in ap (λ (k : ℕ). some k f) r
 some-skip f n (suc e) l h = same-or n (suc e)
     (λ r. ap (λ (k : ℕ). some k f) (sym r))
-    (λ r. or-none (some e f) (f e) (h e (omega arith) (omega arith)) ∙ some-skip f n e (omega arith) (λ q m k. h q m (omega arith)))
+    (λ r. or-first (some e f) (f e) (h e (omega arith) (omega arith)) ∙ some-skip f n e (omega arith) (λ q m k. h q m (omega arith)))
 
 -- one piece, in its ways
 module _ (found has : Bool) (k : ℕ) where

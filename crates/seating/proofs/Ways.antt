@@ -1,7 +1,7 @@
 -- The ways through each step, as the code goes them. Assumes nothing.
 use mathlib.Core.Path.{_≡_, refl, sym, ap, ap₂, _∙_, subst}
 use mathlib.Core.Logic.{_≢_}
-use mathlib.Core.Bool.{Bool, true, false, not, cond, _&&_, _||_, true≢false}
+use mathlib.Core.Bool.{Bool, true, false, not, cond, _&&_, _||_, or-assoc}
 use mathlib.Core.List.{List, [], _∷_}
 use Prim.Native.Nat.{ℕ, zero, suc, _+_, _*_, _/_, _%_, _-_, _≤_, _<_}
 use native.Mathlib.Nat.{mul-le-mul-right, suc-mul}
@@ -13,6 +13,7 @@ use borrow.Author.Tests.{ltb-true, eqb-false, lt-ltb, le-ltb, eq-eqb, ne-eqb, le
 use Rattle.refusal.specs.BigEndian.{bytesOf}
 use Rattle.refusal.specs.Numbers.{seat, sizes, room, full, damaged, payload}
 use Rattle.refusal.specs.Paper.{Outcome, taken, refused}
+use Rattle.refusal.proofs.Cases.{pick-yes, pick-no, by-bool, cannot}
 use Rattle.writer.specs.Put.{Left, putOf}
 use Rattle.writer.specs.Put.{left as put}
 use Rattle.wire.specs.Frames.{least, most, allowed, writeOf}
@@ -25,7 +26,6 @@ use Rattle.tables.specs.Tables.{wrote, seated, done, Yard, yardOf, Around, Turn
 use Rattle.tables.specs.Seating.{emptied, startOf, atZero, left, leaveOf, seatedAt, sitOf, markOf}
 use Rattle.tables.proofs.Digits.{row-in, row-byte}
 use Rattle.tables.proofs.Sizing.{Fitting, fitting}
-use Rattle.tables.proofs.Cases.{pick-yes, pick-no, by-bool}
 use Rattle.tables.specs.declared.Head.{Head}
 use Rattle.tables.specs.declared.Seat.{Seat}
 use Rattle.tables.specs.declared.Stepped.{Stepped}
@@ -33,9 +33,6 @@ use Rattle.tables.specs.declared.Answer.the-variants.{Refused, Done, Seated, Wr
 use Rattle.seating.specs.declared.Begun.{Begun}
 use Rattle.seating.specs.Steps.{begun, emptyHead, faultAt, headAtZero, markedOr, refusedStep, hasAt, someZero, lowered}
 use Rattle.seating.proofs.Passes.{lowered-each, all-clear}
-
-cannot : {Q : Type 0} {b : Bool} → b ≡ true → b ≡ false → Q
-cannot t f = absurd (true≢false (sym t ∙ f))
 
 module _ (h : Head) (s : Seat) where
   pub zero-taken : h .taken ≡ 0 → true ≡ headAtZero h s
@@ -51,11 +48,11 @@ module _ (h : Head) (s : Seat) where
   zero-none n e = sym (past false n (ne-eqb (s .held) (h .pieces) e))
 
   pub some-taken : headAtZero h s ≡ false → 1 ≤ h .taken
-  some-taken e = let n : h .taken ≢ 0 = λ z. cannot (sym (zero-taken z)) e in omega arith
+  some-taken e = let n : h .taken ≢ 0 = λ z. cannot _ e (sym (zero-taken z)) in omega arith
 
   pub some-complete : headAtZero h s ≡ false → s .held ≡ h .pieces → 1 ≤ h .complete
   some-complete e q =
-      let n : h .complete ≢ 0 = eqb-false (h .complete) 0 (zero-complete (λ z. cannot (sym (zero-taken z)) e) q ∙ e) in
+      let n : h .complete ≢ 0 = eqb-false (h .complete) 0 (zero-complete (λ z. cannot _ e (sym (zero-taken z))) q ∙ e) in
       omega arith
 
   -- the head of a leaver: it was complete, or it was not
@@ -248,10 +245,6 @@ module _ (h : Head) (s : Seat) (i n : ℕ) (rows holders : List ℕ) (b : Bool) 
       (ap₂ (λ (a : Stepped) (x : List ℕ). turn a x holders) er (e′ ∙ ap (λ (q : ℕ). sets rows (i * q) (replicate q 0)) ew))))
 
 -- ---- leaving
-
-or-assoc : (a b c : Bool) → ((a || b) || c) ≡ (a || (b || c))
-or-assoc true b c = refl
-or-assoc false b c = refl
 
 module _ (h : Head) (s : Seat) (i n : ℕ) (rows holders : List ℕ) (k : ℕ) (ek : k ≡ faultAt h s i n (length rows) (length holders)) (r : Stepped) where
   abbrev Z : Around

@@ -1,4 +1,5 @@
 -- What the steps' own parts come to. Assumes nothing: these are definitions.
+-- They serve inner contracts alone and need not be believed: seating/proofs/Ways.antt ties them to tables/specs/Seating.antt.
 use mathlib.Core.Bool.{Bool, true, false, cond, _&&_, _||_}
 use mathlib.Core.List.{List}
 use Prim.Native.Nat.{ℕ, zero, suc, _+_, _/_, _%_, _-_}

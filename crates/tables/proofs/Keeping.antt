@@ -7,10 +7,10 @@ use lib.Dec.{eqb, ltb, leb}
 use lib.ListN.{length, getD, set}
 use lib.Seq.{set-getD}
 use Rattle.refusal.specs.Paper.{Outcome, taken, refused}
+use Rattle.refusal.proofs.Cases.{by-test}
 use Rattle.wire.specs.Message.{Message, keepalive, choke, unchoke, interested, notInterested, have, bitfield, request, piece, cancel, other}
 use Rattle.wire.specs.Frames.{Found, found, readOf, meant}
 use Rattle.wire.specs.Frames.{wait as more}
-use Rattle.wire.proofs.Steps.{by-test}
 use Rattle.tables.specs.Rows.{width, withBit, withBits, bitAt}
 use Rattle.tables.specs.Seats.{cleared, weChoke, weWant}
 use Rattle.tables.specs.Tables.{Yard, Said, wait, done, used, serve, dropped, seated, wrote, listed, shows, holds, heldBy, scarce, Around, Turn, Out, around, sizesFit, sized, sitting, yardOf, atSeat}

@@ -1,5 +1,4 @@
 -- What the proofs of several functions and crates use.
-pub mod Cases
 pub mod Sweeps
 pub mod Digits
 pub mod Sizing

@@ -4,6 +4,7 @@ use mathlib.Core.Logic.{_⊎_, inl, inr, ⊎-elim}
 use mathlib.Core.List.{List}
 use Prim.Native.Nat.{ℕ}
 use Rattle.refusal.specs.Paper.{Outcome, taken, refused, map, then}
+use Rattle.refusal.proofs.Outcomes.{then-taken, then-refused, map-taken, map-refused}
 use Rattle.bencode.specs.Value.{Value, Entries, start}
 use Rattle.walk.specs.Stands.{Stands, StandEntries}
 use Rattle.walk.specs.Lookup.{Under, nothing, under, lookup}
@@ -62,14 +63,6 @@ checks-shows {A} {M} {o} {Is} {Shows} {Fails} Shows′ c a = checks-as Is Shows�
 
 -- ---- one check, and then another of what it took
 
-then-taken : {A B : Type 0} (o : Outcome A) (g : A → Outcome B) (y : B) → then o g ≡ taken y → (x : A) × (o ≡ taken x) × (g x ≡ taken y)
-then-taken (taken x) g y e = (x, refl, e)
-then-taken (refused n p) g y e = no-way (cc)
-
-then-refused : {A B : Type 0} (o : Outcome A) (g : A → Outcome B) (n p : ℕ) → then o g ≡ refused n p → (o ≡ refused n p) ⊎ ((x : A) × (o ≡ taken x) × (g x ≡ refused n p))
-then-refused (taken x) g n p e = inr (x, refl, e)
-then-refused (refused m q) g n p e = inl (let a : m ≡ n = cc in let b : q ≡ p = cc in rw (a, b))
-
 module _ {A B M N : Type 0} (o : Outcome A) (g : A → Outcome B) (Is : M → Type 0) (Shows : A → M → Type 0) (Fails : ℕ → ℕ → Type 0) (Is′ : M → N → Type 0) (Shows′ : M → B → N → Type 0) (Fails′ : M → ℕ → ℕ → Type 0) (c : Checks o Is Shows Fails) (d : (x : A) (m : M) → Is m → Shows x m → Checks (g x) (Is′ m) (Shows′ m) (Fails′ m)) where
   -- the first fails, or it is passed and the second fails
   abbrev Either : ℕ → ℕ → Type 0
@@ -102,15 +95,6 @@ module _ {A B M N : Type 0} (o : Outcome A) (g : A → Outcome B) (Is : M → Ty
 
   pub checks-then : Checks {M = M × N} (then o g) (λ k. Is (k .0) × Is′ (k .0) (k .1)) (λ y k. Shows′ (k .0) y (k .1)) Either
   checks-then = record { only = then-only; every = then-every; blames = then-blames; refuses = then-refuses }
-
--- what is taken, seen otherwise
-map-taken : {A B : Type 0} (f : A → B) (o : Outcome A) (y : B) → map f o ≡ taken y → (x : A) × (o ≡ taken x) × (f x ≡ y)
-map-taken f (taken x) y e = (x, refl, cc)
-map-taken f (refused n p) y e = no-way (cc)
-
-map-refused : {A B : Type 0} (f : A → B) (o : Outcome A) (n p : ℕ) → map f o ≡ refused n p → o ≡ refused n p
-map-refused f (taken x) n p e = no-way (cc)
-map-refused f (refused m q) n p e = let a : m ≡ n = cc in let b : q ≡ p = cc in rw (a, b)
 
 pub checks-map : {A B M : Type 0} (f : A → B) (o : Outcome A) (Is : M → Type 0) (Shows : A → M → Type 0) (Shows′ : B → M → Type 0) (Fails : ℕ → ℕ → Type 0) → Checks o Is Shows Fails
     → ((x : A) (m : M) → Is m → Shows x m → Shows′ (f x) m) → Checks (map f o) Is Shows′ Fails

@@ -5,14 +5,11 @@ use mathlib.Core.Logic.{_⊎_, ⊎-elim}
 use mathlib.Core.List.{List, [], _∷_}
 use mathlib.Core.List.{List·Memᴰ as In, List·Memᴰ·head, List·Memᴰ·tail, List·Memᴰ·not-nil, List·Memᴰ·cases-cons}
 use Prim.Native.Nat.{ℕ}
-use native.Mathlib.Omega.{arith}
 use lib.Dec.{eqb}
 use borrow.Author.Tests.{eq-eqb, ne-eqb, eqb-true}
+pub use Rattle.refusal.proofs.Cases.{no-way}
 use Rattle.metainfo.specs.Rules.{dots, clean, goodName}
 use Rattle.torrents.specs.Torrent.{GoodName}
-
-pub no-way : {A : Type 0} → _≡_ {A = ℕ} 0 1 → A
-no-way e = absurd (omega arith)
 
 clean-is : (bs : List ℕ) → clean bs ≡ true → (In 47 bs → ⊥) × (In 0 bs → ⊥)
 unfolding clean

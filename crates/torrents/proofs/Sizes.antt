@@ -10,9 +10,10 @@ use lib.ListN.{length}
 use borrow.Author.Tests.{eqb-true, eq-eqb, leb-true, leb-false, le-leb}
 use Rattle.refusal.specs.Paper.{taken, refused}
 use Rattle.refusal.specs.Limits.{mostFiles, mostPieces}
+use Rattle.refusal.proofs.Cases.{lt-or-le, both}
 use Rattle.walk.specs.declared.Part.{Part}
 use Rattle.blocks.specs.Rules.{fileCount, piecesOf, totalAnd, sum, PieceLength}
-use Rattle.blocks.proofs.Legal.{lt-or-le, both, piece-bounds, starts-inside, is-piece}
+use Rattle.blocks.proofs.Legal.{piece-bounds, starts-inside, is-piece}
 use Rattle.metainfo.specs.Rules.{sizedOf}
 use Rattle.metainfo.specs.declared.Content.{Content}
 use Rattle.metainfo.specs.declared.Torrent.{Torrent}

@@ -6,7 +6,6 @@ use Prim.Native.Nat.{ℕ, zero, suc, _+_, _*_, _/_, _%_, _<_, _≤_}
 use native.Mathlib.Omega.{arith}
 use lib.Dec.{eqb}
 use lib.ListN.{length, getD, drop}
-use borrow.Author.Tests.{ne-eqb}
 use Rattle.refusal.specs.Paper.{Outcome, taken, refused, refusal, map, then}
 use Rattle.scalar.specs.Written.{keyLt}
 use Rattle.bencode.specs.Value.{Value, Items, Entries, str, int, list, dict, none, item, count, encode, encodeItems, Prev, start, last}
@@ -14,14 +13,14 @@ use Rattle.bencode.specs.Decode.{decode, closes}
 use Rattle.bencode.specs.Exact.{Fine}
 use Rattle.bencode.specs.Answers.{checkOf}
 use Rattle.refusal.specs.declared.Refusal.{Refusal}
-use Rattle.bencode.proofs.Complete.{first-byte, encode-pos}
+use Rattle.bencode.proofs.Complete.{encode-pos}
 use Rattle.bencode.proofs.Exact.{taken-fine}
 use Rattle.walk.specs.Walk.{Head, Hit, found, missing, lookOf, skipOf}
 use Rattle.walk.specs.Walk as walk
 use Rattle.walk.specs.Stands.{Stands, StandItems, StandEntries}
 use Rattle.walk.specs.Lookup.{Under, nothing, under, lookup}
 use Rattle.walk.specs.declared.Part.{Part}
-use Rattle.walk.proofs.Standing.{room, fine-stands, skip-past, string-stands, integer-stands, list-stands, items-next, dictionary-stands}
+use Rattle.walk.proofs.Standing.{room, fine-stands, skip-past, string-stands, integer-stands, list-stands, items-next, dictionary-stands, closes-none, closes-item}
 use Rattle.walk.proofs.Finding.{Says, it-is, it-is-not, found-stands, placeOf}
 use Rattle.fields.specs.Looks.{stringOf, naturalOf, dictionaryOf, needed, soughtFrom, soughtAfter}
 use Rattle.fields.specs.Values.{partOf, stringAt, naturalAt, dictionaryAt, must}
@@ -105,16 +104,6 @@ module _ (s : List ℕ) where
       ap (λ (o : Outcome ℕ). then o (peerBy s p)) (dictionary-is s d p (dict es) t)
       ∙ peer-in (k .0) p es (p + length (encode (dict es))) (omega (arith, k .1)) (k .2) (skip-past s d p (dict es) levels t)
 
-  closed : (d p : ℕ) → StandItems s d p none → closes (drop p s) ≡ true
-  unfolding encode
-  closed d p t = ap closes (t .text)
-
-  unclosed : (d p : ℕ) (v : Value) (vs : Items) → StandItems s d p (item v vs) → closes (drop p s) ≡ false
-  unclosed d p v vs t =
-      let i = items-next s d p v vs t in
-      let b = first-byte v in
-      ap closes (i .0 .text ∙ ap (λ (l : List ℕ). l ++ i .0 .rest) (b .2)) ∙ ne-eqb (b .0) 101 (b .3)
-
   none-inside : (d p : ℕ) → StandItems s d p none → p < length s
   unfolding encode
   none-inside d p t = omega (arith, room s p (101 ∷ []) (t .rest) (t .inside) (t .text))
@@ -131,11 +120,11 @@ module _ (s : List ℕ) where
   pub count-is : (d : ℕ) → d ≤ 32 → (vs : Items) (f p : ℕ) → StandItems s d p vs → length s < p + f → countFrom f s p ≡ map length (peersFrom p vs)
   unfolding countFrom peersFrom
   count-is d levels none zero p t h = absurd (omega (arith, none-inside d p t))
-  count-is d levels none (suc f) p t h = rw (closed d p t)
+  count-is d levels none (suc f) p t h = rw (closes-none s d p t)
   count-is d levels (item v vs) zero p t h = absurd (omega (arith, t .inside))
   count-is d levels (item v vs) (suc f) p t h =
       let i = items-next s d p v vs t in
-      ap (λ (b : Bool). cond b (taken 0) (then (listedAt s p) (λ x. map suc (countFrom f s (x .next))))) (unclosed d p v vs t)
+      ap (λ (b : Bool). cond b (taken 0) (then (listedAt s p) (λ x. map suc (countFrom f s (x .next))))) (closes-item s d p v vs t)
       ∙ ap (λ (o : Outcome Step). then o (λ x. map suc (countFrom f s (x .next)))) (peer-is d p levels v (i .0))
       ∙ count-by v p vs (λ q. countFrom f s q) (count-is d levels vs f (p + length (encode v)) (i .1) (omega (arith, encode-pos v))) (peerAt p v)
 

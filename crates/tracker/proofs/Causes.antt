@@ -9,6 +9,7 @@ use lib.IntN.{ℤ, pos, negsuc}
 use lib.ListN.{length}
 use borrow.Author.Tests.{eq-eqb, eqb-true, le-leb, leb-true, leb-false}
 use Rattle.refusal.specs.Paper.{Outcome, taken, refused, map, then}
+use Rattle.refusal.proofs.Cases.{no-way}
 use Rattle.bencode.specs.Value.{Value, Items, Entries, str, int, list, dict, none, item, encode}
 use Rattle.bencode.specs.Decode.{decode}
 use Rattle.walk.specs.Lookup.{Under, nothing, under, lookup}
@@ -19,9 +20,6 @@ use Rattle.tracker.specs.Entries.{Entry, listed, idLength}
 use Rattle.tracker.specs.declared.listed.Listed.{Listed}
 use Rattle.tracker.specs.Reply.{Answer, failure, compact, listing, sixes, idAt, peerIn, peerAt, peersFrom, peersAt, replyBy, replyIn, replyOf}
 use Rattle.tracker.specs.Causes.{AString, AnId, ANumber, APeer, NoString, no-key, other, NoId, no-string, other-length, NoNumber, no-number-key, no-integer, out-of-range, NoPeer, no-dictionary, bad-id, bad-ip, bad-port, SomeNoPeer, this, later, NoPeers, other-kind, not-whole, bad-peer, NoReply, no-top, bad-reason, bad-interval, no-peers-key, bad-peers, WhyRefused, no-bencode, no-reply}
-
-no-way : {A : Type 0} → _≡_ {A = ℕ} 0 1 → A
-no-way e = absurd (omega arith)
 
 -- ---- a refusal has its cause
 

@@ -3,16 +3,17 @@ use mathlib.Core.Path.{_≡_, refl, sym, ap, _∙_, subst}
 use mathlib.Core.Bool.{Bool, true, false, cond}
 use mathlib.Core.List.{List, [], _∷_}
 use Prim.Native.Nat.{ℕ, suc, _+_, _%_, _≤_}
-use native.Mathlib.Omega.{arith}
 use lib.Dec.{eqb, leb}
 use lib.IntN.{ℤ, pos, negsuc}
 use lib.ListN.{length, take, drop}
 use borrow.Author.Tests.{eq-eqb, eqb-true, leb-true, le-leb}
 use Rattle.refusal.specs.Paper.{Outcome, taken, refused, map, then}
+use Rattle.refusal.proofs.Cases.{no-way}
 use Rattle.bencode.specs.Value.{Value, Items, Entries, str, int, list, dict, none, item, encode, start}
 use Rattle.bencode.specs.Decode.{decode}
 use Rattle.bencode.specs.Exact.{Fine}
 use Rattle.bencode.proofs.Exact.{taken-fine, fine-taken}
+use Rattle.walk.specs.Has.{Has}
 use Rattle.walk.specs.Stands.{Stands, StandItems, StandEntries}
 use Rattle.walk.specs.Lookup.{Under, nothing, under, lookup}
 use Rattle.walk.specs.declared.Part.{Part}
@@ -24,12 +25,9 @@ use Rattle.fields.proofs.Standing.{part-bytes}
 use Rattle.tracker.specs.Keys.{failureReason, interval, peers, ip, peerId, port}
 use Rattle.tracker.specs.Entries.{Entry, packed, listed, idLength}
 use Rattle.tracker.specs.Reply.{Answer, failure, compact, listing, sixes, idAt, peerIn, peerAt, peersFrom, peersAt, answeredIn, replyBy, replyIn, replyOf}
-use Rattle.tracker.specs.Exact.{Has, Peer, IsPeer, ArePeers, no-more, one-more, Said, failed, packs, lists, Waits, IsReply, fails, has-string, has-list, Is, ShowsPeers, shows-none, shows-one, Shows, shows-failure, shows-packs, shows-lists, ReplyExact}
+use Rattle.tracker.specs.Exact.{Peer, IsPeer, ArePeers, no-more, one-more, Said, failed, packs, lists, Waits, IsReply, fails, has-string, has-list, Is, ShowsPeers, shows-none, shows-one, Shows, shows-failure, shows-packs, shows-lists, ReplyExact}
 use Rattle.tracker.specs.declared.listed.Listed.{Listed}
-use Rattle.tracker.proofs.Holding.{found-has, has-found, none-has, has-none}
-
-no-way : {A : Type 0} → _≡_ {A = ℕ} 0 1 → A
-no-way e = absurd (omega arith)
+use Rattle.walk.proofs.Having.{found-has, has-found, none-has, has-none}
 
 -- what a check took: P of it
 abbrev Took : {A : Type 0} → (A → Type 0) → Outcome A → Type 0

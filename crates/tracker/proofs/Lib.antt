@@ -3,7 +3,6 @@ pub mod Steps
 pub mod Agreeing
 pub mod Walking
 pub mod Determined
-pub mod Holding
 pub mod Exact
 pub mod Written
 pub mod Numbering

@@ -10,11 +10,13 @@ use lib.ListN.{length, take, drop}
 use lib.Seq.{sets}
 use borrow.Author.Tests.{ltb-true, ltb-false, leb-true, leb-false, lt-ltb, le-ltb}
 use Rattle.refusal.specs.Paper.{Outcome, taken, refused}
+use Rattle.refusal.proofs.Cases.{no-way}
 use Rattle.scalar.specs.Written.{inRange, keyLt}
 use Rattle.bencode.specs.Value.{Value, Entries, str, int, dict, empty, entry, encode, count, Keeps, start, last}
 use Rattle.bencode.specs.Decode.{decode}
 use Rattle.bencode.specs.Exact.{Fine}
 use Rattle.bencode.proofs.Exact.{fine-taken}
+use Rattle.walk.specs.Has.{Has, here, there}
 use Rattle.walk.specs.Lookup.{sameKey, Under, nothing, under, lookup}
 use Rattle.writer.specs.Put.{Left, paper, left, putOf}
 use Rattle.writer.specs.declared.Put.{Put}
@@ -24,13 +26,10 @@ use Rattle.tracker.specs.Entries.{Entry}
 use Rattle.tracker.specs.Reply.{Answer, failure, compact, listing, sixes, replyOf}
 use Rattle.tracker.specs.Writing.{compactReply, textOf, writeOf}
 use Rattle.tracker.specs.Faults.{NotWritten, too-late, not-sixes, too-long, no-room}
-use Rattle.tracker.specs.Exact.{Has, here, there, Said, failed, packs, lists, Waits, IsReply, fails, has-string, has-list, Shows, shows-failure, shows-packs, shows-lists}
-use Rattle.tracker.proofs.Holding.{found-has, has-found, has-none}
+use Rattle.tracker.specs.Exact.{Said, failed, packs, lists, Waits, IsReply, fails, has-string, has-list, Shows, shows-failure, shows-packs, shows-lists}
+use Rattle.walk.proofs.Having.{found-has, has-found, has-none}
 use Rattle.tracker.proofs.Exact.{reply-only, reply-every}
 use Rattle.tracker.proofs.Agreeing.{sixes-length}
-
-no-way : {A : Type 0} → _≡_ {A = ℕ} 0 1 → A
-no-way e = absurd (omega arith)
 
 interval-peers : keyLt interval peers ≡ true
 unfolding keyLt

@@ -10,9 +10,9 @@ use lib.Seq.{drop-cons}
 use borrow.Author.Tests.{le-leb, lt-leb, eq-eqb, ne-eqb, lt-ltb, le-ltb}
 use Rattle.refusal.specs.Paper.{Outcome, taken, refused, refusal, map, then}
 use Rattle.refusal.specs.declared.Refusal.{Refusal}
-use Rattle.bencode.specs.Value.{Value, encode}
+use Rattle.walk.proofs.Seeking.{skip-further}
+use Rattle.bencode.specs.Value.{Value}
 use Rattle.bencode.specs.Decode.{closes}
-use Rattle.bencode.proofs.Complete.{encode-pos}
 use Rattle.walk.specs.Walk.{Hit, Head, seekPaper, skipOf, pastPaper, lookOf, lookAt}
 use Rattle.scalar.specs.Reading.{onHead}
 use Rattle.walk.specs.Stands.{Stands}
@@ -20,7 +20,6 @@ use Rattle.walk.specs.declared.Part.{Part}
 use Rattle.walk.specs.declared.Sought.{Sought}
 use Rattle.walk.specs.declared.Past.{Past}
 use Rattle.walk.specs.declared.Past.the-variants.{To, Bad}
-use Rattle.walk.proofs.Standing.{skip-stands, room}
 use Rattle.fields.specs.Looks.{stringPaper, naturalPaper, stringOf, naturalOf, dictionaryOf, dictionaryIn, needed, soughtFrom, soughtAfter}
 use Rattle.fields.specs.declared.Bytes.{Bytes}
 use Rattle.fields.specs.declared.Bytes.the-variants.{Are, Unread}
@@ -92,12 +91,6 @@ listed-skips s p x e =
     let c = taken-past (needed p (soughtFrom s (a .0) ip) (stringOf s)) (afterIp s p (soughtAfter s (soughtAfter s (soughtFrom s (a .0) ip) peerId) port) (b .0)) x (b .1) in
     let d = taken-past (needed p (soughtAfter s (soughtAfter s (soughtFrom s (a .0) ip) peerId) port) (naturalOf 65535 s)) (afterPort s p (b .0) (c .0)) x (c .1) in
     mapped (skipOf s p) (record { id = b .0; ip = c .0; port = d .0 }) x (d .1)
-
-pub skip-further : (s : List ℕ) (p q : ℕ) → skipOf s p ≡ taken q → (p < q) × (q ≤ length s)
-skip-further s p q e =
-    let t = skip-stands s p q e in
-    let r = room s p (encode (t .0)) (t .1 .rest) (t .1 .inside) (t .1 .text) in
-    (omega (arith, t .2, encode-pos (t .0)), omega (arith, t .2))
 
 -- where the text is at its end there is no entry
 nothing-listed : (s : List ℕ) (p : ℕ) → length s ≤ p → listedAt s p ≡ refused 1 (length s)

@@ -1,5 +1,5 @@
 -- A compact reply, put part by part. Assumes nothing.
-use mathlib.Core.Path.{_≡_, refl, sym, ap, _∙_, subst}
+use mathlib.Core.Path.{_≡_, sym, ap, _∙_, subst}
 use mathlib.Core.Bool.{Bool, true, false, cond}
 use mathlib.Core.List.{List, [], _∷_, _++_, append-assoc}
 use Prim.Native.Nat.{ℕ, suc, _+_, _%_, _^_, _<_, _≤_}
@@ -7,10 +7,9 @@ use native.Mathlib.Omega.{arith}
 use lib.Dec.{ltb}
 use lib.IntN.{pos}
 use lib.ListN.{length, length-append}
-use lib.Seq.{sets, length-sets}
+use lib.Seq.{sets}
 use borrow.Author.Tests.{lt-ltb, le-ltb}
 use Rattle.refusal.specs.Paper.{Outcome, taken, refused}
-use Rattle.refusal.proofs.Places.{sets-append}
 use Rattle.scalar.specs.Written.{decimal, decimalIn, written, writtenInt}
 use Rattle.bencode.specs.Value.{encode}
 use Rattle.writer.specs.Put.{Left, paper, left, putOf}
@@ -18,6 +17,7 @@ use Rattle.writer.specs.declared.Put.{Put}
 use Rattle.writer.specs.declared.Put.the-variants.{To, Refused}
 use Rattle.writer.proofs.Laws.{put-whole, put-none}
 use Rattle.writer.proofs.Decimals.{length-most}
+use Rattle.writer.proofs.Runs.{ran-as, ran-put, put-ran}
 use Rattle.tracker.specs.Keys.{interval, peers}
 use Rattle.tracker.specs.Writing.{compactReply, textOf, writeOf, endOf}
 
@@ -37,34 +37,17 @@ size n bs =
     ap length (parts n bs)
     ∙ omega (arith, length-append (decimal n) (between ++ (written bs ++ (101 ∷ []))), length-append (written bs) (101 ∷ []), length-append (decimal (length bs)) (58 ∷ bs))
 
--- w is put from the start of o on
-pub record Done (o w : List ℕ) (at : ℕ) (out : List ℕ) : Type 0 where
-  pub place : at ≡ length w
-  pub holds : out ≡ sets o 0 w
-
-module _ (o : List ℕ) where
-  pub nothing-done : Done o [] 0 o
-  nothing-done = record { place = refl; holds = refl }
-
-  pub more-done : (w v : List ℕ) {at : ℕ} {out after : List ℕ} {a : Outcome ℕ} {next : ℕ} → Done o w at out → left a after ≡ putOf v at out → next ≡ endOf a → length (w ++ v) ≤ length o → Done o (w ++ v) next after
-  more-done w v {at} {out} d e f h =
-      let k : length out ≡ length o = ap length (d .holds) ∙ length-sets o 0 w in
-      let g = e ∙ put-whole v at out (omega (arith, d .place, length-append w v)) in
-      record {
-        place = f ∙ ap (λ (x : Left). endOf (x .answer)) g ∙ omega (arith, d .place, length-append w v);
-        holds = ap (λ (x : Left). x .out) g ∙ rw (d .holds, d .place) (let z : 0 + length w ≡ length w = omega arith in ap (λ (i : ℕ). sets (sets o 0 w) i v) (sym z) ∙ sym (sets-append o 0 w v));
-      }
-
-  pub all-done : (n : ℕ) (bs : List ℕ) {at : ℕ} {out : List ℕ} → Done o ((((opening ++ decimal n) ++ between) ++ written bs) ++ (101 ∷ [])) at out → (at ≡ length (textOf n bs)) × (out ≡ sets o 0 (textOf n bs))
-  all-done n bs {at} {out} d =
-      let e : (((opening ++ decimal n) ++ between) ++ written bs) ++ (101 ∷ []) ≡ textOf n bs =
-      append-assoc ((opening ++ decimal n) ++ between) (written bs) (101 ∷ []) ∙ append-assoc (opening ++ decimal n) between (written bs ++ (101 ∷ [])) ∙ append-assoc opening (decimal n) (between ++ (written bs ++ (101 ∷ []))) ∙ sym (parts n bs) in
-      (d .place ∙ ap length e, d .holds ∙ ap (sets o 0) e)
+joined : (n : ℕ) (bs : List ℕ) → (((opening ++ decimal n) ++ between) ++ written bs) ++ (101 ∷ []) ≡ textOf n bs
+joined n bs =
+    append-assoc ((opening ++ decimal n) ++ between) (written bs) (101 ∷ [])
+    ∙ append-assoc (opening ++ decimal n) between (written bs ++ (101 ∷ []))
+    ∙ append-assoc opening (decimal n) (between ++ (written bs ++ (101 ∷ [])))
+    ∙ sym (parts n bs)
 
 -- each part fits where the whole does
 module _ (o : List ℕ) (n : ℕ) (bs : List ℕ) (h : length (textOf n bs) ≤ length o) where
   whole-size : length ((((opening ++ decimal n) ++ between) ++ written bs) ++ (101 ∷ [])) ≤ length o
-  whole-size = omega (arith, size n bs, length-append (((opening ++ decimal n) ++ between) ++ written bs) (101 ∷ []), length-append ((opening ++ decimal n) ++ between) (written bs), length-append (opening ++ decimal n) between, length-append opening (decimal n), length-append (decimal (length bs)) (58 ∷ bs))
+  whole-size = omega (arith, ap length (joined n bs))
 
   pub put-parts : {a b c d e : ℕ} {o₁ o₂ o₃ o₄ o₅ : List ℕ} {r₁ r₂ r₃ r₄ r₅ : Outcome ℕ}
       → left r₁ o₁ ≡ putOf opening 0 o → a ≡ endOf r₁ → left r₂ o₂ ≡ putOf (decimal n) a o₁ → b ≡ endOf r₂ → left r₃ o₃ ≡ putOf between b o₂ → c ≡ endOf r₃
@@ -75,12 +58,12 @@ module _ (o : List ℕ) (n : ℕ) (bs : List ℕ) (h : length (textOf n bs) ≤ 
       let l₃ = length-append ((opening ++ decimal n) ++ between) (written bs) in
       let l₂ = length-append (opening ++ decimal n) between in
       let l₁ = length-append opening (decimal n) in
-      let d₁ = more-done o [] opening (nothing-done o) e₁ f₁ (omega arith) in
-      let d₂ = more-done o opening (decimal n) d₁ e₂ f₂ (omega arith) in
-      let d₃ = more-done o (opening ++ decimal n) between d₂ e₃ f₃ (omega arith) in
-      let d₄ = more-done o ((opening ++ decimal n) ++ between) (written bs) d₃ e₄ f₄ (omega arith) in
-      let d₅ = more-done o (((opening ++ decimal n) ++ between) ++ written bs) (101 ∷ []) d₄ e₅ f₅ l in
-      all-done o n bs d₅
+      let r₁ = put-ran opening 0 o (omega arith) e₁ f₁ in
+      let r₂ = ran-put r₁ (decimal n) (omega arith) e₂ f₂ in
+      let r₃ = ran-put r₂ between (omega arith) e₃ f₃ in
+      let r₄ = ran-put r₃ (written bs) (omega arith) e₄ f₄ in
+      let r₅ = ran-as (ran-put r₄ (101 ∷ []) (omega arith) e₅ f₅) (joined n bs) in
+      (omega (arith, r₅ .place), r₅ .out)
 
 -- the digits of a number, from the room that they take
 pub counted-digits : (n : ℕ) (room : List ℕ) {r : Outcome ℕ} {out : List ℕ} {at : ℕ} → n < 2 ^ 64 → length room ≡ 20 → left r out ≡ putOf (decimal n) 0 room → at ≡ endOf r → (at ≡ length (decimal n)) × (at ≤ 20)

@@ -1,4 +1,5 @@
 -- An entry at a place of any text, and the place past it. Assumes nothing: these are definitions.
+-- From `sixAt` on they serve contracts on any text and need not be believed: `peer-is` and `count-is` of tracker/proofs/Agreeing.antt tie them to Reply.antt, and `walked` of Walking.antt to Walks.antt.
 use mathlib.Core.Bool.{cond}
 use mathlib.Core.List.{List, [], _∷_}
 use Prim.Native.Nat.{ℕ, zero, suc, _+_, _*_}

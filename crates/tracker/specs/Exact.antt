@@ -6,17 +6,13 @@ use lib.IntN.{pos}
 use lib.ListN.{length, take, drop}
 use Rattle.refusal.specs.Limits.{longestInterval, largestPort}
 use Rattle.refusal.specs.Paper.{Outcome, taken}
-use Rattle.bencode.specs.Value.{Value, Items, Entries, str, int, list, dict, none, item, empty, entry}
+use Rattle.bencode.specs.Value.{Value, Items, Entries, str, int, list, dict, none, item, empty}
 use Rattle.bencode.specs.Exact.{Fine}
+use Rattle.walk.specs.Has.{Has}
 use Rattle.walk.specs.declared.Part.{Part}
 use Rattle.tracker.specs.Keys.{failureReason, interval, peers, ip, peerId, port}
 use Rattle.tracker.specs.Entries.{Entry, packed, listed}
 use Rattle.tracker.specs.Reply.{Answer, failure, compact, listing, sixes, replyOf}
-
--- a dictionary has the value v under the key k
-pub data Has : Entries → List ℕ → Value → Type 0 where
-  here : (k : List ℕ) (v : Value) (es : Entries) → Has (entry k v es) k v
-  there : (j : List ℕ) (w : Value) (es : Entries) (k : List ℕ) (v : Value) → Has es k v → Has (entry j w es) k v
 
 -- a peer of a list
 pub record Peer : Type 0 where

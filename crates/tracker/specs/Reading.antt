@@ -1,4 +1,5 @@
 -- The code's answers in document 01's words, and what its parts answer on any text. Assumes nothing: these are definitions.
+-- From `compactOf` on they serve inner contracts alone and need not be believed: `read-whole` of tracker/proofs/Agreeing.antt ties them to Reply.antt.
 use mathlib.Core.Bool.{cond}
 use mathlib.Core.List.{List}
 use Prim.Native.Nat.{ℕ, suc, _+_, _*_, _/_, _%_}

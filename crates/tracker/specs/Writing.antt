@@ -5,11 +5,12 @@ use Prim.Native.Nat.{ℕ, _%_}
 use lib.Dec.{ltb}
 use lib.IntN.{pos}
 use lib.ListN.{length}
-use Rattle.refusal.specs.Paper.{Outcome, taken, refused}
+use Rattle.refusal.specs.Paper.{refused}
 use Rattle.refusal.specs.Numbers.{long, range, peer}
 use Rattle.refusal.specs.Limits.{mostText, longestInterval}
 use Rattle.bencode.specs.Value.{Value, Entries, str, int, dict, empty, entry, encode}
 use Rattle.writer.specs.Put.{Left, left, putOf}
+pub use Rattle.writer.specs.Put.{endOf}
 use Rattle.tracker.specs.Keys.{interval, peers}
 
 -- the reply with n seconds to wait and the entries bs: interval and peers, and no other key
@@ -26,8 +27,3 @@ writeOf n bs o =
     (cond (ltb 0 (length bs % 6)) (left (refused peer 0) o)
     (cond (ltb mostText (length (textOf n bs))) (left (refused long 0) o)
     (putOf (textOf n bs) 0 o)))
-
--- the place past what was put
-abbrev pub endOf : Outcome ℕ → ℕ
-endOf (taken q) = q
-endOf (refused n p) = 0

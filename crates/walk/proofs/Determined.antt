@@ -76,5 +76,8 @@ sought-again (Found p q) = refl
 sought-again (Missing p) = refl
 sought-again (Unread r) = refl
 
+pub sought-determined : (o : Outcome Hit) (r t : Sought) → seekPaper r ≡ o → seekPaper t ≡ o → r ≡ t
+sought-determined o r t e g = sym (sought-again r) ∙ ap soughtAs (e ∙ sym g) ∙ sought-again t
+
 pub seek-determined : (f : ℕ) (s : List ℕ) (p : ℕ) (k : List ℕ) (r t : Sought) → seekPaper r ≡ seekOf f s p k → seekPaper t ≡ seekOf f s p k → r ≡ t
-seek-determined f s p k r t e g = sym (sought-again r) ∙ ap soughtAs (e ∙ sym g) ∙ sought-again t
+seek-determined f s p k r t e g = sought-determined (seekOf f s p k) r t e g

@@ -8,6 +8,7 @@ use lib.Dec.{eqb}
 use lib.ListN.{length, take, drop, length-append}
 use borrow.Author.Tests.{eq-eqb, eqb-true}
 use Rattle.refusal.specs.Paper.{Outcome, taken, refused, then}
+use Rattle.refusal.proofs.Cases.{no-way}
 use Rattle.scalar.specs.Written.{written, keyLt}
 use Rattle.scalar.proofs.Ordering.{key-same, key-irreflexive, key-less, key-not}
 use Rattle.bencode.specs.Value.{Value, Entries, empty, entry, encode, encodeEntries, KeepsEntries, Prev, start, last, follows}
@@ -16,9 +17,6 @@ use Rattle.walk.specs.Stands.{Stands, StandEntries}
 use Rattle.walk.specs.Lookup.{sameKey, Under, nothing, under, lookup}
 use Rattle.walk.proofs.Standing.{room, skip-past, entries-end, entries-next, Entered}
 use Rattle.walk.proofs.Seeking.{key-further}
-
-no-way : {A : Type 0} → _≡_ {A = ℕ} 0 1 → A
-no-way e = absurd (omega arith)
 
 -- the search among entries that stand at p
 unfoldable pub soughtOf : ℕ → Entries → List ℕ → Hit

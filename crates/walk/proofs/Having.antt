@@ -5,15 +5,13 @@ use mathlib.Core.List.{List}
 use Prim.Native.Nat.{ℕ, _+_}
 use native.Mathlib.Omega.{arith}
 use lib.ListN.{length}
+use Rattle.refusal.proofs.Cases.{no-way}
 use Rattle.scalar.specs.Written.{written, keyLt}
 use Rattle.scalar.proofs.Ordering.{key-less}
 use Rattle.bencode.specs.Value.{Value, Entries, empty, entry, encode, KeepsEntries, Prev, last}
 use Rattle.walk.specs.Has.{Has, here, there}
 use Rattle.walk.specs.Lookup.{sameKey, Under, nothing, under, lookup}
 use Rattle.walk.proofs.Finding.{same-refl, same-true, same-not}
-
-no-way : {A : Type 0} → _≡_ {A = ℕ} 0 1 → A
-no-way e = absurd (omega arith)
 
 -- what is found is there
 pub found-has : (p : ℕ) (es : Entries) (k : List ℕ) (q : ℕ) (v : Value) → lookup p es k ≡ under q v → Has es k v

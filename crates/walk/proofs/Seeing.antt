@@ -15,6 +15,7 @@ use borrow.Author.Tests.{ne-eqb, ltb-true, ltb-false}
 use Rattle.refusal.specs.Paper.{Outcome, taken, refused, refusal, then}
 use Rattle.refusal.specs.Numbers.{cut}
 use Rattle.refusal.specs.declared.Refusal.{Refusal}
+use Rattle.refusal.proofs.Cases.{no-way}
 use Rattle.scalar.specs.Written.{signed, writtenInt, inRange}
 use Rattle.scalar.specs.Reading.{Got, got, bad, onHead, stringAt, integerAt}
 use Rattle.scalar.specs.Answers.{textOf, integerIs}
@@ -30,9 +31,6 @@ use Rattle.bencode.specs.declared.Step.{Step}
 use Rattle.bencode.specs.declared.Step.the-variants.{Past as Passed, Bad as Failed}
 use Rattle.scalar.proofs.Determined.{whole-inside}
 use Rattle.walk.specs.Walk.{Head, string, integer, long, list, dictionary, end, stringHead, integerHead, stringSeen, integerSeen, lookAt, lookOf, pastOf}
-
-no-way : {A : Type 0} → _≡_ {A = ℕ} 0 1 → A
-no-way e = absurd (omega arith)
 
 -- a string
 module _ (s : List ℕ) (p : ℕ) where

@@ -11,9 +11,10 @@ use borrow.Author.Tests.{lt-ltb, le-ltb, ltb-true, ltb-false}
 use Rattle.refusal.specs.Paper.{Outcome, taken, refused, refusal, then}
 use Rattle.refusal.specs.Numbers.{cut}
 use Rattle.refusal.specs.declared.Refusal.{Refusal}
+use Rattle.refusal.proofs.Cases.{by-test}
 use Rattle.scalar.specs.Written.{decimal, written, inRange, keyLt}
 use Rattle.scalar.specs.Reading.{Got, got, bad, onHead, stringAt, integerAt}
-use Rattle.scalar.proofs.Sound.{Holds, by-cond, at-left, TextP, string-at-sound}
+use Rattle.scalar.proofs.Sound.{Holds, at-left, TextP, string-at-sound}
 use Rattle.bencode.proofs.Complete.{encode-pos}
 use Rattle.bencode.specs.Value.{encode}
 use Rattle.scalar.proofs.Keys.{Comparing, comparing-less, comparing-greater, comparing-long, comparing-short}
@@ -45,15 +46,15 @@ string-by s p h (got k r q n) t =
 string-by s p h (bad r q) t = tt
 
 integer-by : (s : List ℕ) (p : ℕ) (g : Got ℤ) → Further s p (integerHead p g)
-integer-by s p (got z l q n) = by-cond (λ (h : Head). Further s p (taken h)) (inRange z) (integer z q) (long (p + 1) (q - (p + 2)) q) (λ e. tt) (λ e. tt)
+integer-by s p (got z l q n) = by-test (λ (h : Head). Further s p (taken h)) (inRange z) (λ e. tt) (λ e. tt)
 integer-by s p (bad r q) = tt
 
 look-further : (s : List ℕ) (p b : ℕ) → p ≤ length s → Further s p (lookAt s p b)
 look-further s p b h =
-    by-cond (Further s p) (eqb b 105) (integerSeen s p) _ (λ e. integer-by s p (integerAt (length s) (drop p s) p 0)) (λ e.
-    by-cond (Further s p) (eqb b 108) (taken (list (p + 1))) _ (λ e. tt) (λ e.
-    by-cond (Further s p) (eqb b 100) (taken (dictionary (p + 1))) _ (λ e. tt) (λ e.
-    by-cond (Further s p) (eqb b 101) (taken (end (p + 1))) (stringSeen s p) (λ e. tt) (λ e.
+    by-test (Further s p) (eqb b 105) (λ e. integer-by s p (integerAt (length s) (drop p s) p 0)) (λ e.
+    by-test (Further s p) (eqb b 108) (λ e. tt) (λ e.
+    by-test (Further s p) (eqb b 100) (λ e. tt) (λ e.
+    by-test (Further s p) (eqb b 101) (λ e. tt) (λ e.
     string-by s p h (stringAt (length s) (drop p s) p 0) (string-at-sound (length s) (drop p s) p 0 (omega (arith, length-drop p s)))))))
 
 head-further : (s : List ℕ) (p : ℕ) → p ≤ length s → (l : List ℕ) → Further s p (onHead l (refused cut (length s)) (λ b t. lookAt s p b))

@@ -16,10 +16,10 @@ use Rattle.scalar.proofs.Decimal.{digit-range}
 use Rattle.scalar.proofs.Sound.{Holds, At}
 use Rattle.scalar.proofs.Complete.{string-complete, int-complete}
 use Rattle.bencode.specs.Value.{Value, Items, Entries, str, int, list, dict, none, item, empty, entry, encode, encodeItems, encodeEntries, count, countItems, countEntries, Keeps, KeepsItems, KeepsEntries, Prev, start, last, follows}
-use Rattle.bencode.specs.Decode.{valueOf}
+use Rattle.bencode.specs.Decode.{closes, valueOf}
 use Rattle.bencode.specs.Exact.{Fine}
 use Rattle.bencode.proofs.Sound.{Took, value-sound}
-use Rattle.bencode.proofs.Complete.{complete}
+use Rattle.bencode.proofs.Complete.{complete, first-byte}
 use Rattle.walk.specs.Walk.{Head, string, integer, long, dictionary, end, stringHead, integerHead, lookAt, lookOf, dueOf, key, close, entryOf, pastOf, skipOf}
 use Rattle.walk.specs.Walk as walk
 use Rattle.walk.specs.Stands.{Stands, StandItems, StandEntries}
@@ -191,3 +191,14 @@ module _ (s : List ℕ) (d p : ℕ) where
           few = omega (arith, t .few);
         };
       }
+
+-- whether a list ends there
+pub closes-none : (s : List ℕ) (d p : ℕ) → StandItems s d p none → closes (drop p s) ≡ true
+unfolding encodeItems
+closes-none s d p t = ap closes (t .text)
+
+pub closes-item : (s : List ℕ) (d p : ℕ) (v : Value) (vs : Items) → StandItems s d p (item v vs) → closes (drop p s) ≡ false
+closes-item s d p v vs t =
+    let f = first-byte v in
+    let n = items-next s d p v vs t in
+    ap closes (n .0 .text ∙ ap (λ (l : List ℕ). l ++ n .0 .rest) (f .2)) ∙ ne-eqb (f .0) 101 (f .3)

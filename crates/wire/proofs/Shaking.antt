@@ -11,11 +11,11 @@ use lib.ListN.{length, getD, take, drop, length-drop, length-append, List·getD-
 use lib.Seq.{length-take-le, take-at, drop-at, take-add, drop-drop, getD-take, ext-getD}
 use Rattle.refusal.specs.Numbers.{protocol, hash}
 use Rattle.refusal.specs.Paper.{Outcome, taken, refused}
+use Rattle.refusal.proofs.Cases.{by-test, cannot}
 use Rattle.wire.specs.Frames.{bytesAt}
 use Rattle.wire.specs.Handshake.{Shaken, wait, hello, name, handshake, agree, shakeOf}
 use Rattle.wire.specs.Causes.{Named, Misnamed, infoIn, ShakeCause}
 use Rattle.wire.specs.declared.Part.{Part}
-use Rattle.wire.proofs.Steps.{by-test}
 use Rattle.wire.proofs.Agreeing.{agree-true, agree-false, agree-if, agree-not, agree-equal, equal-agree}
 
 -- where the free bytes and the peer id lie
@@ -62,11 +62,8 @@ module _ (info s : List ℕ) (twenty : length info ≡ 20) where
       by-test (ShakeCause info s) (ltb (length s) 68) (λ f. (n, ltb-true (length s) 68 f))
       (λ f. let h = ltb-false (length s) 68 f in
       by-test (ShakeCause info s) (agree (infoIn s) info) (λ g. ((n, h, agree-equal (infoIn s) info (info-length h) g), refl, refl, refl))
-      (λ g. (inr (refl, n, h, λ q. apart (equal-agree (infoIn s) info q) g), refl))))
+      (λ g. (inr (refl, n, h, λ q. cannot _ g (equal-agree (infoIn s) info q)), refl))))
       (λ e. (inl (refl, agree-false name s e), refl))
-    where
-      apart : {t : Bool} → t ≡ true → t ≡ false → ⊥
-      apart p q = let z : _≡_ {A = ℕ} 0 1 = cc in omega arith
 
   pub shake-decides : (o : Outcome Shaken) → ShakeCause info s o → shakeOf info s ≡ o
   shake-decides (taken wait) (n, h) = shake-wait info s (agree-if name s n) h

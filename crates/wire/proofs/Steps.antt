@@ -17,11 +17,6 @@ use Rattle.wire.specs.Message.{Message, keepalive, choke, unchoke, inter
 use Rattle.wire.specs.declared.Part.{Part}
 use Rattle.wire.specs.Frames.{leasts, mosts, messages, least, most, allowed, Allowed, Found, wait, found, messageOf, messageIn, numberIn, sizedOf, readOf, map}
 
--- what holds on both ways of a test
-pub by-test : {A : Type 0} (Q : A → Type 0) (t : Bool) {x y : A} → (t ≡ true → Q x) → (t ≡ false → Q y) → Q (cond t x y)
-by-test Q true f g = f refl
-by-test Q false f g = g refl
-
 -- ids 0 to 8 one by one, and all others at once
 pub by-id : (P : ℕ → Type 0) → P 0 → P 1 → P 2 → P 3 → P 4 → P 5 → P 6 → P 7 → P 8 → ((k : ℕ) → 8 < k → P k) → (id : ℕ) → P id
 by-id P a b c d e f g h i o zero = a

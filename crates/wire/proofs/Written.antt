@@ -13,6 +13,7 @@ use Rattle.refusal.specs.Limits.{longestFrame}
 use Rattle.refusal.specs.Numbers.{frame, payload, room}
 use Rattle.refusal.specs.Paper.{Outcome, taken, refused}
 use Rattle.refusal.proofs.Bytes.{length-bytesOf}
+use Rattle.refusal.proofs.Cases.{by-test}
 use Rattle.writer.specs.Put.{Left, left, paper, putOf}
 use Rattle.writer.specs.declared.Put.{Put}
 use Rattle.writer.proofs.Laws.{paper-apart, reads-back}
@@ -21,7 +22,7 @@ use Rattle.wire.specs.Frames.{allowed, Allowed, Lengths, Found, found, r
 use Rattle.wire.specs.Handshake.{handshake, zeros, hello, shakeOf}
 use Rattle.wire.specs.Causes.{WriteCause}
 use Rattle.wire.specs.declared.Part.{Part}
-use Rattle.wire.proofs.Steps.{by-test, most-most, allowed-true, allowed-false, allowed-if, allowed-not}
+use Rattle.wire.proofs.Steps.{most-most, allowed-true, allowed-false, allowed-if, allowed-not}
 use Rattle.wire.proofs.Exact.{Reads}
 use Rattle.wire.proofs.Exact.{reads-back as message-reads-back}
 use Rattle.wire.proofs.Shaking.{freePart, peerPart, handshake-reads-back}

@@ -1,11 +1,13 @@
 -- What putting bytes into lent output comes to. Assumes nothing: these are definitions.
+use mathlib.Core.Path.{_≡_}
 use mathlib.Core.Bool.{cond}
 use mathlib.Core.List.{List}
 use Prim.Native.Nat.{ℕ, _+_}
 use lib.Dec.{leb}
 use lib.ListN.{length}
 use lib.Seq.{sets}
-use Rattle.refusal.specs.Paper.{Outcome, taken, refused, refusal}
+use Rattle.refusal.specs.Paper.{Outcome, taken, refused, refusal, Left as Leaves}
+pub use Rattle.refusal.specs.Paper.{left}
 use Rattle.refusal.specs.Numbers.{room}
 use Rattle.writer.specs.declared.Put.{Put}
 use Rattle.writer.specs.declared.Put.the-variants.{To, Refused}
@@ -15,14 +17,20 @@ abbrev pub paper : Put → Outcome ℕ
 paper (To q) = taken q
 paper (Refused r) = refusal r
 
--- what a call leaves: its answer, and what the lent output holds then
-pub record Left : Type 0 where
-  pub answer : Outcome ℕ
-  pub out : List ℕ
-
-abbrev pub left : Outcome ℕ → List ℕ → Left
-left a o = record { answer = a; out = o }
+-- what a writer leaves: that answer, and the output
+abbrev pub Left : Type 0
+Left = Leaves ℕ
 
 -- the bytes w at a place of the output o; where they do not fit, 37 and o as it was
 unfoldable pub putOf : List ℕ → ℕ → List ℕ → Left
 putOf w at o = cond (leb (at + length w) (length o)) (left (taken (at + length w)) (sets o at w)) (left (refused room 0) o)
+
+-- the place past what was put, and 0 of a refusal
+abbrev pub endOf : Outcome ℕ → ℕ
+endOf (taken q) = q
+endOf (refused n p) = 0
+
+-- the bytes w are put at a place of o, which leaves p, and r is the place past them
+pub record Ran (w : List ℕ) (at : ℕ) (o : List ℕ) (r : ℕ) (p : List ℕ) : Type 0 where
+  pub place : r ≡ at + length w
+  pub out : p ≡ sets o at w

@@ -6,10 +6,9 @@ ghost use mathlib.Core.List.{_∷_, _++_};
 ghost use Prim.Native.Nat.{_+_, _<_, _≤_};
 ghost use lib.IntN.{natAbs};
 ghost use lib.ListN.{length};
-ghost use lib.Seq.{sets};
 ghost use Rattle.refusal.specs.Numbers.{room};
 ghost use Rattle.scalar.specs.Written.{decimal, written, writtenInt};
-ghost use Rattle.writer.specs.Put.{paper, left, putOf};
+ghost use Rattle.writer.specs.Put.{paper, left, putOf, endOf, Ran};
 use refusal::Refusal;
 use refusal::number;
 
@@ -58,6 +57,29 @@ pub fn integer(out: &mut [u8], at: usize, z: i64) -> Put
     }
 }
 
+// How many digits a number has in decimal.
+pub fn digits(n: u64) -> usize
+    ensures { λ r. ⌜ (r ≡ length (decimal n)) × (r ≤ 20) ⌝ }
+{
+    let mut left = n;
+    let mut count: usize = 1;
+    while 10 <= left {
+        left /= 10;
+        count += 1;
+    }
+    count
+}
+
+// The place past what was put, and 0 of a refusal: for those who saw that it fits.
+pub fn end(put: Put) -> usize
+    ensures { λ r. ⌜ r ≡ endOf (paper put) ⌝ }
+{
+    match put {
+        Put::To(at) => at,
+        Put::Refused(_) => 0,
+    }
+}
+
 // Some bytes, a number in decimal, a mark, and more bytes.
 fn joined(out: &mut [u8], at: usize, before: &[u8], n: u64, mark: u8, after: &[u8]) -> Put
     requires { ⌜ length (now before) ≤ 2 ⌝ }
@@ -97,7 +119,7 @@ fn has_room(len: usize, at: usize, n: usize) -> bool
 // Stores bytes that fit, and gives the place past them.
 fn store(out: &mut [u8], at: usize, bytes: &[u8]) -> usize
     requires { ⌜ at + length (now bytes) ≤ length (now out) ⌝ }
-    ensures { λ r. ⌜ (r ≡ at + length (now (bytes .entry))) × (now (out .exit) ≡ sets (now (out .entry)) at (now (bytes .entry))) ⌝ }
+    ensures { λ r. ⌜ Ran (now (bytes .entry)) at (now (out .entry)) r (now (out .exit)) ⌝ }
 {
     let mut i = 0;
     while i < bytes.len() {
@@ -107,23 +129,10 @@ fn store(out: &mut [u8], at: usize, bytes: &[u8]) -> usize
     at + i
 }
 
-// How many digits n has.
-fn digits(n: u64) -> usize
-    ensures { λ r. ⌜ (r ≡ length (decimal n)) × (r ≤ 20) ⌝ }
-{
-    let mut left = n;
-    let mut count: usize = 1;
-    while 10 <= left {
-        left /= 10;
-        count += 1;
-    }
-    count
-}
-
 // Stores the digits of n, `count` of them, from the last to the first, and gives the place past them.
 fn store_decimal(out: &mut [u8], at: usize, count: usize, n: u64) -> usize
     requires { ⌜ (count ≡ length (decimal n)) × (at + count ≤ length (now out)) ⌝ }
-    ensures { λ r. ⌜ (r ≡ at + length (decimal n)) × (now (out .exit) ≡ sets (now (out .entry)) at (decimal n)) ⌝ }
+    ensures { λ r. ⌜ Ran (decimal n) at (now (out .entry)) r (now (out .exit)) ⌝ }
 {
     let mut left = n;
     let mut place = at + count;

@@ -5,7 +5,7 @@ use Prim.Native.Nat.{ℕ, _<_, _≤_}
 use borrow.Author.Tests.{le-leb, lt-leb}
 use lib.Dec.{leb}
 use Rattle.refusal.specs.Numbers.{seat, sizes}
-use Rattle.tables.proofs.Cases.{pick-yes, pick-no}
+use Rattle.refusal.proofs.Cases.{pick-yes, pick-no}
 use Rattle.tables.specs.Tables.{sizesFit}
 use Rattle.tables.specs.declared.Head.{Head}
 use Rattle.yard.specs.Pages.{pageFault}

@@ -5,7 +5,7 @@ use Prim.Native.Nat.{ℕ}
 use lib.Dec.{ltb, leb}
 use lib.ListN.{length, getD, set}
 use lib.Seq.{set-getD}
-use Rattle.wire.proofs.Steps.{by-test}
+use Rattle.refusal.proofs.Cases.{by-test}
 use Rattle.tables.specs.Seats.{cleared}
 use Rattle.tables.specs.Tables.{Yard, Around, Turn, around, sizesFit, sized, yardOf, atSeat}
 use Rattle.tables.specs.Looks.{missingOf, scarcestOf, seatOf, hasOf, countOf}

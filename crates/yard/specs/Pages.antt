@@ -1,4 +1,5 @@
 -- What the parts of the missing list's call come to. Assumes nothing: these are definitions.
+-- They serve inner contracts alone and need not be believed: `missing-is` of yard/proofs/Calls.antt ties them to tables/specs/Step.antt.
 use mathlib.Core.Bool.{cond}
 use Prim.Native.Nat.{ℕ}
 use lib.Dec.{eqb, leb}

@@ -1,8 +1,6 @@
 -- `authoring::put_number` meets its contract. Assumes nothing.
 use borrow.Author.Needs.{needs}
-use Rattle.authoring.proofs.Putting.{put-three}
-use Rattle.scalar.specs.Written.{decimal}
-use mathlib.Core.List.{[], _∷_}
+use Rattle.writer.proofs.Runs.{put-three}
 use Rattle.authoring.proofs.put_number.Statement.{statement}
 use Rattle.authoring.proofs.put_number.Tie as tie
 
@@ -31,7 +29,7 @@ same-length : tie.Need-same-length
 same-length c = search needs
 
 returns : tie.Need-returns
-returns c = put-three (c .before .before .before .before .before .before .before .before .before .before .before .before .before .before .before .before .before .before .args .out .now) (c .before .before .before .before .before .before .before .before .before .before .before .before .before .before .before .before .before .before .args .at) (c .before .before .before .before .before .before .before .before .before .before .before .before .before .before .before .before .before .before .args .lead .now) (decimal (c .before .before .before .before .before .before .before .before .before .before .before .before .before .before .before .before .before .before .args .n)) (101 ∷ []) (c .before .before .before .before .before .before .before .before .before .before .before .before .before .before .before .before .before .before .pre) (c .before .before .before .before .before .before .before .before .before .before .before .before .before .before .literal .ensures) (c .before .before .before .before .before .before .before .before .before .before .before .end .ensures) (c .before .before .before .before .before .before .before .before .before .decimal .ensures) (c .before .before .before .before .before .before .end2 .ensures) (c .before .before .before .literal2 .ensures) (c .end3 .ensures)
+returns c = put-three _ _ _ _ _ (c .before .before .before .before .before .before .before .before .before .before .before .before .before .before .before .before .before .before .pre) (c .before .before .before .before .before .before .before .before .before .before .before .before .before .before .literal .ensures) (c .before .before .before .before .before .before .before .before .before .before .before .end .ensures) (c .before .before .before .before .before .before .before .before .before .decimal .ensures) (c .before .before .before .before .before .before .end2 .ensures) (c .before .before .before .literal2 .ensures) (c .end3 .ensures)
 
 pub put-number-spec : {M : Type 1} → statement M
 put-number-spec =

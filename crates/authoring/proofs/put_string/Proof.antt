@@ -1,7 +1,6 @@
 -- `authoring::put_string` meets its contract. Assumes nothing.
 use borrow.Author.Needs.{needs}
-use Rattle.authoring.proofs.Putting.{put-pair}
-use Rattle.scalar.specs.Written.{written}
+use Rattle.writer.proofs.Runs.{put-two}
 use Rattle.authoring.proofs.put_string.Statement.{statement}
 use Rattle.authoring.proofs.put_string.Tie as tie
 
@@ -21,7 +20,7 @@ same-length : tie.Need-same-length
 same-length c = search needs
 
 returns : tie.Need-returns
-returns c = put-pair (c .before .before .before .before .before .before .before .before .before .before .before .before .before .args .out .now) (c .before .before .before .before .before .before .before .before .before .before .before .before .before .args .at) (c .before .before .before .before .before .before .before .before .before .before .before .before .before .args .lead .now) (written (c .before .before .before .before .before .before .before .before .before .before .before .before .before .args .bytes .now)) (c .before .before .before .before .before .before .before .before .before .before .before .before .before .pre) (c .before .before .before .before .before .before .before .before .literal .ensures) (c .before .before .before .before .before .end .ensures) (c .before .before .before .string .ensures) (c .end2 .ensures)
+returns c = put-two _ _ _ _ (c .before .before .before .before .before .before .before .before .before .before .before .before .before .pre) (c .before .before .before .before .before .before .before .before .literal .ensures) (c .before .before .before .before .before .end .ensures) (c .before .before .before .string .ensures) (c .end2 .ensures)
 
 pub put-string-spec : {M : Type 1} → statement M
 put-string-spec =

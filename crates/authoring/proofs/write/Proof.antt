@@ -29,7 +29,7 @@ same-length : tie.Need-same-length
 same-length c = search needs
 
 returns-2 : tie.Need-returns-2
-returns-2 c = let a = c .before .before .before .before .before .before .before .before .before .before .before .before .before .args in let f = fields (a .announce .now) (a .name .now) (a .piece-length) (a .pieces .now) (a .length) in write-whole f (a .out .now) _ (ap paper (sym (c .before .before .before .before .before .before .n .given .1)) ∙ c .before .before .before .before .before .before .before .before .size .ensures) (omega arith) (c .before .before .put-all .ensures .0) (c .before .before .put-all .ensures .1)
+returns-2 c = let a = c .before .before .before .before .before .before .before .before .before .before .before .before .before .args in let f = fields (a .announce .now) (a .name .now) (a .piece-length) (a .pieces .now) (a .length) in write-whole f (a .out .now) _ (ap paper (sym (c .before .before .before .before .before .before .n .given .1)) ∙ c .before .before .before .before .before .before .before .before .size .ensures) (omega arith) (c .before .before .put-all .ensures)
 
 returns-3 : tie.Need-returns-3
 returns-3 c = let a = c .before .before .before .before .before .before .before .before .args in let f = fields (a .announce .now) (a .name .now) (a .piece-length) (a .pieces .now) (a .length) in write-not f (a .out .now) _ _ (ap paper (sym (c .before .r .given .1)) ∙ c .before .before .before .size .ensures)

@@ -1,13 +1,14 @@
 -- Demand 1 of `writer`: bytes, numbers, strings and integers put into lent output. Assumes nothing.
 use mathlib.Core.List.{List}
-use mathlib.Core.Path.{_≡_}
-use Prim.Native.Nat.{ℕ}
+use mathlib.Core.Path.{_≡_, sym, _∙_}
+use Prim.Native.Nat.{ℕ, _≤_}
 use lib.IntN.{ℤ}
+use lib.ListN.{length}
 use Rattle.scalar.specs.Written.{decimal, written, writtenInt}
-use Rattle.writer.specs.Put.{paper, left, putOf}
+use Rattle.writer.specs.Put.{paper, left, putOf, endOf}
 use Rattle.writer.specs.declared.Put.{Put}
 use Rattle.writer.proofs.Laws as laws
-use Rattle.demands.specs.One.{Lent, now, Determined1, Keeps1, Refused}
+use Rattle.demands.specs.One.{Lent, now, Determined, Determined1, Keeps1, Refused}
 
 -- writer::literal
 abbrev literal-ensures : (at : ℕ) (bytes : Lent (List ℕ)) → Put → Lent (List ℕ) → Type 0
@@ -48,3 +49,17 @@ integer-determined at z out r r′ out₁ out₂ e f = laws.determined _ _ _ r e
 
 pub integer-keeps : (at : ℕ) (z : ℤ) → Keeps1 (integer-ensures at z) (λ r. Refused (paper r))
 integer-keeps at z r out e k = laws.refusal-keeps _ _ _ r e (k .2) .1
+
+-- writer::digits
+abbrev digits-ensures : (n : ℕ) → ℕ → Type 0
+digits-ensures n r = (r ≡ length (decimal n)) × (r ≤ 20)
+
+pub digits-determined : (n : ℕ) → Determined (digits-ensures n)
+digits-determined n r r′ e f = e .0 ∙ sym (f .0)
+
+-- writer::end
+abbrev end-ensures : (put : Put) → ℕ → Type 0
+end-ensures put r = r ≡ endOf (paper put)
+
+pub end-determined : (put : Put) → Determined (end-ensures put)
+end-determined put r r′ e f = e ∙ sym f

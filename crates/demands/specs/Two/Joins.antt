@@ -11,6 +11,7 @@ use lib.IntN.{pos}
 use lib.ListN.{length, getD, take, drop, length-drop, take-append-drop}
 use lib.Seq.{take-append-le, drop-append-le, drop-drop}
 use Rattle.refusal.specs.Paper.{Outcome, taken, refused, then}
+use Rattle.refusal.proofs.Outcomes.{then-taken}
 use Rattle.scalar.specs.Written.{keyLt}
 use Rattle.bencode.specs.Value.{Value, str, int, dict, empty, entry, count, Keeps}
 use Rattle.bencode.specs.Exact.{Fine}
@@ -36,7 +37,6 @@ use Rattle.torrents.specs.Torrent.{Said, IsTorrent, is-torrent, lengthsIn}
 use Rattle.torrents.specs.Exact.{Shows}
 use Rattle.torrents.proofs.Laws.{torrent-exact}
 use Rattle.contents.specs.Pieces.{hashPart, pieceBytes, checkIn, checkOf}
-use Rattle.contents.proofs.Facts.{then-taken}
 use Rattle.contents.proofs.Hashing.{piece-check}
 use Rattle.contents.specs.Pieces.{hashIn, hashOf}
 use Rattle.tracker.specs.Keys.{interval, peers}

@@ -7,6 +7,7 @@ use native.Mathlib.Omega.{arith}
 use lib.ListN.{length, getD, take, drop, take-append-drop}
 use lib.Seq.{take-append-seam}
 use Rattle.refusal.specs.Paper.{Outcome, taken, refused, then}
+use Rattle.refusal.proofs.Outcomes.{then-taken}
 use Rattle.bencode.specs.Value.{Value, Items}
 use Rattle.bencode.specs.Decode.{decode}
 use Rattle.blocks.specs.Rules.{sum}
@@ -23,7 +24,6 @@ use Rattle.contents.specs.Files.{single as oneEntry}
 use Rattle.contents.specs.Walks.{last, next, Walked}
 use Rattle.contents.specs.Walks.{Files as Walk}
 use Rattle.contents.specs.declared.Entry.{Entry}
-use Rattle.contents.proofs.Facts.{then-taken}
 use Rattle.contents.proofs.Walking.{files-walked}
 
 no-way : {A : Type 0} → _≡_ {A = ℕ} 0 1 → A

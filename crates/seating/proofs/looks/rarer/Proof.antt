@@ -3,7 +3,6 @@ use lib.Dec.{ltb}
 use borrow.Author.Tests.{lt-ltb, le-ltb}
 use lib.Dec.{eqb}
 use mathlib.Core.Bool.{Bool, true, false, _&&_, _||_}
-use Rattle.tables.proofs.Cases.{pick-yes, pick-no}
 use lib.Seq.{sets}
 use lib.ListN.{length, getD, set, replicate, length-set}
 use native.Mathlib.Omega.{arith}
@@ -11,6 +10,7 @@ use Prim.Native.Nat.{ℕ, _+_, _*_, _-_, _/_, _%_, _≤_, _<_}
 use mathlib.Core.List.{List}
 use mathlib.Core.Bool.{Bool, true, false}
 use mathlib.Core.Path.{_≡_, refl, sym, ap, _∙_}
+use Rattle.refusal.proofs.Cases.{pick-yes, pick-no}
 use Rattle.seating.proofs.looks.rarer.Statement.{statement}
 use Rattle.seating.proofs.looks.rarer.Tie as tie
 use Rattle.seating.proofs.looks.rarer.Reads as reads
