@@ -70,9 +70,11 @@ def sha1(said):
 
 
 def yard(said):
+    """The least of several runs, each of which prints medians."""
     rows = []
     for what in ("have", "full bitfield", "leave of a full truck", "page of 2,000 seats"):
-        ours, theirs = (float(found(rf"^{what} +{before}([\d.]+)", said)) / 1e3 for before in ("", r"[\d.]+ +"))
+        found(rf"^{what} +([\d.]+)", said)
+        ours, theirs = (min(map(float, column)) / 1e3 for column in zip(*re.findall(rf"^{what} +([\d.]+) +([\d.]+)", said, re.M)))
         rows.append([what, 2000, "seats", ours, "plain C", theirs, YARD_GOAL])
     return rows
 
