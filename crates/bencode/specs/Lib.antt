@@ -2,4 +2,3 @@ pub mod Value
 pub mod Decode
 pub mod Answers
 pub mod Exact
-pub mod Stars

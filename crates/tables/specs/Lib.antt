@@ -6,4 +6,3 @@ pub mod Frames
 pub mod Seating
 pub mod Looks
 pub mod Step
-pub mod Stars
