@@ -47,18 +47,21 @@ pub fn byte3(x: u32) -> u8
     (x / 16777216 % 256) as u8
 }
 
+// The byte after it.
 pub fn byte2(x: u32) -> u8
     ensures { λ r. ⌜ r ≡ x / 65536 % 256 ⌝ }
 {
     (x / 65536 % 256) as u8
 }
 
+// The byte before the last.
 pub fn byte1(x: u32) -> u8
     ensures { λ r. ⌜ r ≡ x / 256 % 256 ⌝ }
 {
     (x / 256 % 256) as u8
 }
 
+// The least significant byte.
 pub fn byte0(x: u32) -> u8
     ensures { λ r. ⌜ r ≡ x % 256 ⌝ }
 {

@@ -34,6 +34,7 @@ pub enum Inside {
     None(Refusal),
 }
 
+// The string at a place; another kind of value is refused by 10 there.
 pub fn string_at(text: &[u8], at: usize) -> Bytes
     ensures { λ r. ⌜ stringPaper r ≡ stringOf (now (text .entry)) at ⌝ }
 {
@@ -73,6 +74,7 @@ pub fn number_at(text: &[u8], at: usize, most: u64) -> Number
     }
 }
 
+// The list at a place: where its first item stands. Another kind is refused by 10.
 pub fn list_at(text: &[u8], at: usize) -> Inside
     ensures { λ r. ⌜ insidePaper r ≡ listOf (now (text .entry)) at ⌝ }
 {
@@ -87,6 +89,7 @@ pub fn list_at(text: &[u8], at: usize) -> Inside
     }
 }
 
+// The dictionary at a place: where its first key stands. Another kind is refused by 10.
 pub fn dictionary_at(text: &[u8], at: usize) -> Inside
     ensures { λ r. ⌜ insidePaper r ≡ dictionaryOf (now (text .entry)) at ⌝ }
 {
@@ -112,6 +115,7 @@ pub fn string_under(text: &[u8], dictionary: usize, sought: Sought) -> Bytes
     }
 }
 
+// The number under a key, from 0 to the most that is allowed, or 11 at its place; the key missing is 10 at the dictionary.
 pub fn natural_under(text: &[u8], dictionary: usize, sought: Sought, most: u64) -> Natural
     ensures { λ r. ⌜ naturalPaper r ≡ needed dictionary (seekPaper sought) (naturalOf most (now (text .entry))) ⌝ }
 {
@@ -122,6 +126,7 @@ pub fn natural_under(text: &[u8], dictionary: usize, sought: Sought, most: u64) 
     }
 }
 
+// The list under a key; the key missing is 10 at the dictionary.
 pub fn list_under(text: &[u8], dictionary: usize, sought: Sought) -> Inside
     ensures { λ r. ⌜ insidePaper r ≡ needed dictionary (seekPaper sought) (listOf (now (text .entry))) ⌝ }
 {
@@ -132,6 +137,7 @@ pub fn list_under(text: &[u8], dictionary: usize, sought: Sought) -> Inside
     }
 }
 
+// The dictionary under a key; the key missing is 10 at the dictionary.
 pub fn dictionary_under(text: &[u8], dictionary: usize, sought: Sought) -> Inside
     ensures { λ r. ⌜ insidePaper r ≡ needed dictionary (seekPaper sought) (dictionaryOf (now (text .entry))) ⌝ }
 {

@@ -19,6 +19,7 @@ pub fn refused(h: Head, s: Seat, number: u8) -> Stepped
     }
 }
 
+// More bytes are needed: nothing changes, and nothing is used.
 pub fn waiting(h: Head, s: Seat) -> Stepped
     ensures { λ r. ⌜ r ≡ stepped h s Answer.Wait ⌝ }
 {

@@ -8,6 +8,7 @@ ghost use Rattle.scalar.specs.Written.{decimal};
 ghost use Rattle.lines.specs.Lines.{plain, hexDigit, escapedByte, escaped};
 ghost use Rattle.lines.specs.Runs.{far, Ran};
 
+// One byte at a place: the place past it.
 pub fn byte(out: &mut [u8], at: usize, b: u8) -> usize
     requires { ⌜ at ≤ far ⌝ }
     ensures { λ r. ⌜ Ran (b ∷ []) at (now (out .entry)) r (now (out .exit)) ⌝ }

@@ -15,6 +15,7 @@ use refusal::limit;
 use refusal::number;
 use writer::Put;
 
+// Four zeros. Like every writer here it answers how many bytes it put, or 37.
 pub fn keepalive(out: &mut [u8]) -> Put
     ensures { λ r. ⌜ left (paper r) (now (out .exit)) ≡ putOf (encode keepalive) 0 (now (out .entry)) ⌝ }
 {
@@ -35,18 +36,21 @@ pub fn plain(out: &mut [u8], id: u8) -> Put
     framed(out, id, b"", b"")
 }
 
+// Piece `index` is had.
 pub fn have(out: &mut [u8], index: u32) -> Put
     ensures { λ r. ⌜ left (paper r) (now (out .exit)) ≡ writeOf (body (have index)) (now (out .entry)) ⌝ }
 {
     framed(out, 4, &one(index), b"")
 }
 
+// The pieces that are had, high bit first; no bytes, or over 2,048, are 21.
 pub fn bitfield(out: &mut [u8], bits: &[u8]) -> Put
     ensures { λ r. ⌜ left (paper r) (now (out .exit)) ≡ writeOf (body (bitfield (now (bits .entry)))) (now (out .entry)) ⌝ }
 {
     framed(out, 5, b"", bits)
 }
 
+// A block is asked for.
 pub fn request(out: &mut [u8], index: u32, begin: u32, len: u32) -> Put
     ensures { λ r. ⌜ left (paper r) (now (out .exit)) ≡ writeOf (body (request index begin len)) (now (out .entry)) ⌝ }
 {
@@ -60,6 +64,7 @@ pub fn piece(out: &mut [u8], index: u32, begin: u32, block: &[u8]) -> Put
     framed(out, 7, &two(index, begin), block)
 }
 
+// A block is no longer asked for.
 pub fn cancel(out: &mut [u8], index: u32, begin: u32, len: u32) -> Put
     ensures { λ r. ⌜ left (paper r) (now (out .exit)) ≡ writeOf (body (cancel index begin len)) (now (out .entry)) ⌝ }
 {

@@ -43,6 +43,7 @@ pub fn asked(h: Head, first: usize, lines: usize, fault: u8) -> Asked
     }
 }
 
+// The page, or the fault's refusal where there is one.
 pub fn answer(fault: u8, page: Page) -> Answer
     ensures { λ r. ⌜ r ≡ answerOf fault page ⌝ }
 {
