@@ -13,8 +13,8 @@ use Rattle.refusal.specs.Numbers.{seat, sizes}
 use Rattle.refusal.specs.Paper.{Outcome, taken}
 use Rattle.refusal.specs.declared.Refusal.{Refusal}
 use Rattle.refusal.proofs.Cases.{pick-yes, pick-no}
-use Rattle.wire.specs.Message.{Message}
-use Rattle.wire.specs.Frames.{least, Found, found, messageOf as messageBy, numberIn, readOf, message, meant, bytesAt, paper as read}
+use Rattle.wire.specs.Message.{Message, have}
+use Rattle.wire.specs.Frames.{least, most, allowed, sizedOf, Found, found, messageOf as messageBy, numberIn, readOf, message, meant, bytesAt, paper as read}
 use Rattle.wire.specs.Causes.{named, Cause}
 use Rattle.wire.specs.declared.Part.{Part}
 use Rattle.wire.specs.declared.Frame.{Frame}
@@ -22,7 +22,7 @@ use Rattle.wire.specs.declared.Frame.the-variants.{Choke, Unchoke, Interested, 
 use Rattle.wire.specs.declared.Read.{Read}
 use Rattle.wire.specs.declared.Read.the-variants.{Wait, Keepalive, Whole, Refused}
 use Rattle.wire.proofs.Decided.{exactly}
-use Rattle.wire.proofs.Steps.{by-id, message-other}
+use Rattle.wire.proofs.Steps.{by-id, message-other, read-sized, sized-whole}
 use Rattle.tables.specs.Seats.{spoken, theyChoke, theyWant}
 use Rattle.tables.specs.Tables.{used, Turn, around, turn, sizesFit}
 use Rattle.tables.specs.Frames.{haveOf, bitfieldOf, blockOf, requested, messageOf, frameOf, feedOf}
@@ -51,6 +51,14 @@ inside s m u e = go (exactly s (taken (found m u)) .0 e)
     go : Cause s (taken (found m u)) → Inside s m
     go (inl h) = subst (Inside s) (sym (h .1)) tt
     go (inr (a, r, f, v)) = subst (Inside s) (sym f) (lies s (named s) (a .2) (getD s 4 0) (r .0))
+
+-- a whole have, by its length and its id
+pub whole-have : (s : List ℕ) (k b : ℕ) → k ≡ numberIn s 0 → 9 ≤ length s → k ≡ 5 → b ≡ getD s 4 0 → b ≡ 4 → readOf s ≡ taken (found (have (numberIn s 5)) 9)
+unfolding messageBy least most
+whole-have s k b ek l e eb f =
+    let id : getD s 4 0 ≡ 4 = sym eb ∙ f in
+    read-sized s (omega arith) ∙ ap (sizedOf s) (sym ek ∙ e) ∙ sized-whole s 5 (omega arith) (omega arith) (omega arith) (ap (λ (x : ℕ). allowed x 5) id)
+    ∙ ap {B = Outcome Found} (λ (x : ℕ). taken (found (messageBy (λ j. numberIn s (5 + j)) (λ j. record { from = 5 + j; len = 5 - (1 + j) }) x) 9)) id
 
 -- ---- by what the frame says
 
@@ -146,6 +154,11 @@ module _ (h : Head) (s : Seat) (rows holders : List ℕ) (n i : ℕ) (text : Lis
     feed-free r g er = pick-yes _ (sizesFit h n (length rows) (length holders)) (sym et ∙ f)
         (pick-no _ (ltb i n && s .taken) (and-no (ltb i n) (s .taken) g) (as-turn er))
 
+    pub have-sized : i < n → Sized h n i rows holders
+    have-sized l =
+        let z = fitting h n (length rows) (length holders) (sym et ∙ f) in
+        record { few = z .few; seats = z .seats; seat = l; row = z .row; counts = z .counts }
+
     module _ (l : i < n) (g : s .taken ≡ true) (q : Read) (eq : read q ≡ readOf text) where
       both : (a b : Bool) → a ≡ true → b ≡ true → (a && b) ≡ true
       both a b e k = rw (e, k)
@@ -173,6 +186,10 @@ module _ (h : Head) (s : Seat) (rows holders : List ℕ) (n i : ℕ) (text : Lis
       whole-inside x u e = inside text (message x) u (sym eq ∙ ap read e)
 
       pub whole-sized : Sized h n i rows holders
-      whole-sized =
-          let z = fitting h n (length rows) (length holders) (sym et ∙ f) in
-          record { few = z .few; seats = z .seats; seat = l; row = z .row; counts = z .counts }
+      whole-sized = have-sized l
+
+    -- a have that is all there, before any reader
+    pub feed-have : (o : Turn) (p w : ℕ) → i < n → s .taken ≡ true → p ≡ numberIn text 5 → readOf text ≡ taken (found (have (numberIn text 5)) 9) → w ≡ p
+        → o ≡ haveOf n i 9 w (around h s rows holders) → o ≡ feedOf i text n (around h s rows holders)
+    feed-have o p w l g ep er ew eo =
+        feed-whole l g (Whole (Have p) 9) (ap {B = Outcome Found} (λ (x : ℕ). taken (found (have x) 9)) ep ∙ sym er) o (Have p) 9 refl (said-have h s rows holders n i 9 text (Have p) o p w refl ew eo)

@@ -18,6 +18,7 @@ use wire::Read;
 
 mod answer;
 mod block;
+mod have;
 mod news;
 mod row;
 
@@ -44,11 +45,20 @@ pub fn feed_step(
     if !s.taken {
         return answer::refused(h, s, number::SEAT);
     }
+    // Most frames are haves. One that is all there goes past the reader of all frames, whose answer is large.
+    if have::is_whole(bytes) {
+        return news::have_step(h, s, rows, holders, i, n, 9, wide(have::number(bytes, 5)));
+    }
     match wire::read_frame(bytes) {
         Read::Wait => answer::waiting(h, s),
         Read::Refused(r) => answer::refused(h, s, r.number),
         Read::Keepalive(used) => answer::passed(h, s, used),
-        Read::Whole(f, used) => frame_step(h, s, rows, holders, i, n, bytes, f, used),
+        Read::Whole(f, used) => {
+            // Copies are lent to the call, so that LLVM may keep h and s out of memory.
+            let g = h;
+            let t = s;
+            frame_step(g, t, rows, holders, i, n, bytes, f, used)
+        }
     }
 }
 
