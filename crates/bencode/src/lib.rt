@@ -78,9 +78,9 @@ pub fn value(text: &[u8], c: Cursor, levels: usize) -> Step
             count: count + 1,
         };
         if b == b'l' {
-            return list(text, inside, levels - 1);
+            return same(list(text, inside, levels - 1));
         }
-        return dictionary(text, inside, levels - 1);
+        return same(dictionary(text, inside, levels - 1));
     }
     bad(number::BYTE, at)
 }
@@ -217,6 +217,16 @@ fn string(text: &[u8], at: usize, count: usize) -> Step
     match scalar::string(text, at) {
         Text::Whole(from, size) => passed(from + size, count),
         Text::Broken(r) => Step::Bad(r),
+    }
+}
+
+// A step taken apart and put together: `value` then keeps its own answer in registers, where a copy of the whole would wait for its parts.
+fn same(s: Step) -> Step
+    ensures { λ r. ⌜ r ≡ s ⌝ }
+{
+    match s {
+        Step::Past(c) => passed(c.at, c.count),
+        Step::Bad(r) => bad(r.number, r.place),
     }
 }
 

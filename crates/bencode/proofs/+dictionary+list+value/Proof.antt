@@ -21,6 +21,7 @@ use Rattle.bencode.proofs.begins.Reads as begins-reads
 use Rattle.bencode.proofs.integer.Reads as integer-reads
 use Rattle.bencode.proofs.next_key.Reads as next-key-reads
 use Rattle.bencode.proofs.passed.Reads as passed-reads
+use Rattle.bencode.proofs.same.Reads as same-reads
 use Rattle.bencode.proofs.string.Reads as string-reads
 use Rattle.scalar.proofs.digit.Reads as digit-reads
 use Rattle.bencode.proofs.+dictionary+list+value.{statement}
@@ -62,7 +63,7 @@ abbrev list-calls : ℕ → list-lts.Claims
 list-calls t = (passed-reads.Asked, passed-reads.Learnt, value-below t, value.Post, bad-reads.Asked, bad-reads.Learnt)
 
 abbrev value-calls : ℕ → value-lts.Claims
-value-calls t = (bad-reads.Asked, bad-reads.Learnt, begins-reads.Asked, begins-reads.Learnt, integer-reads.Asked, integer-reads.Learnt, digit-reads.Asked, digit-reads.Learnt, string-reads.Asked, string-reads.Learnt, list-below t, list.Post, dictionary-below t, dictionary.Post)
+value-calls t = (bad-reads.Asked, bad-reads.Learnt, begins-reads.Asked, begins-reads.Learnt, integer-reads.Asked, integer-reads.Learnt, digit-reads.Asked, digit-reads.Learnt, string-reads.Asked, string-reads.Learnt, list-below t, list.Post, same-reads.Asked, same-reads.Learnt, dictionary-below t, dictionary.Post)
 
 abbrev dictionary-Inv-loop : dictionary-lts.InvT-loop
 dictionary-Inv-loop text levels at₀ count₀ before₀ at count before = DictTurn text levels at₀ count₀ at count before
@@ -280,9 +281,12 @@ value-sub-list t c = search needs
 value-list-requires : (t : ℕ) → value-lts.Need-list-requires (value-calls t) (value-at t) value.Post
 value-list-requires t c κs = (omega arith, tt)
 
+value-same-requires : (t : ℕ) → value-lts.Need-same-requires (value-calls t) (value-at t) value.Post
+value-same-requires t c κs = search needs
+
 -- src/lib.rt:82:13
 value-returns-6 : (t : ℕ) → value-lts.Need-returns-6 (value-calls t) (value-at t) value.Post
-value-returns-6 t c = c .list .ensures ∙ value-list (c .before .before .before .before .before .before .before .before .before .before .before .before .args .text .now) (c .before .before .before .before .before .before .before .before .before .before .before .before .args .c .at) (c .before .before .before .before .before .before .before .before .before .before .before .before .args .c .count) (omega arith) (c .before .before .before .before .before .before .before .before .before .before .before .before .args .levels) (c .before .before .if6 .left) (kind-L _ (c .before .if7 .taken)) (omega arith)
+value-returns-6 t c = c .same .ensures ∙ c .before .list .ensures ∙ value-list (c .before .before .before .before .before .before .before .before .before .before .before .before .before .args .text .now) (c .before .before .before .before .before .before .before .before .before .before .before .before .before .args .c .at) (c .before .before .before .before .before .before .before .before .before .before .before .before .before .args .c .count) (omega arith) (c .before .before .before .before .before .before .before .before .before .before .before .before .before .args .levels) (c .before .before .before .if6 .left) (kind-L _ (c .before .before .if7 .taken)) (omega arith)
 
 -- src/lib.rt:84:41
 value-sub-dictionary : (t : ℕ) → value-lts.Need-sub-dictionary (value-calls t) (value-at t) value.Post
@@ -292,9 +296,12 @@ value-sub-dictionary t c = search needs
 value-dictionary-requires : (t : ℕ) → value-lts.Need-dictionary-requires (value-calls t) (value-at t) value.Post
 value-dictionary-requires t c κs = (omega arith, tt)
 
+value-same-requires-2 : (t : ℕ) → value-lts.Need-same-requires-2 (value-calls t) (value-at t) value.Post
+value-same-requires-2 t c κs = search needs
+
 -- src/lib.rt:84:9
 value-returns-7 : (t : ℕ) → value-lts.Need-returns-7 (value-calls t) (value-at t) value.Post
-value-returns-7 t c = c .dictionary .ensures ∙ value-dict (c .before .before .before .before .before .before .before .before .before .before .before .before .args .text .now) (c .before .before .before .before .before .before .before .before .before .before .before .before .args .c .at) (c .before .before .before .before .before .before .before .before .before .before .before .before .args .c .count) (omega arith) (c .before .before .before .before .before .before .before .before .before .before .before .before .args .levels) (c .before .before .if6 .left) (kind-open _ (cc) (c .before .before .before .before .before .if4 .left) (cc) (c .before .if7 .left)) (omega arith)
+value-returns-7 t c = c .same2 .ensures ∙ c .before .dictionary .ensures ∙ value-dict (c .before .before .before .before .before .before .before .before .before .before .before .before .before .args .text .now) (c .before .before .before .before .before .before .before .before .before .before .before .before .before .args .c .at) (c .before .before .before .before .before .before .before .before .before .before .before .before .before .args .c .count) (omega arith) (c .before .before .before .before .before .before .before .before .before .before .before .before .before .args .levels) (c .before .before .before .if6 .left) (kind-open _ (cc) (c .before .before .before .before .before .before .if4 .left) (cc) (c .before .before .if7 .left)) (omega arith)
 
 -- src/lib.rt:86:5
 value-bad-requires-4 : (t : ℕ) → value-lts.Need-bad-requires-4 (value-calls t) (value-at t) value.Post
@@ -367,6 +374,8 @@ pub +dictionary+list+value-spec : {M : Type 1} → statement M
       string-reads.Learnt,
       list-below t,
       list.Post,
+      same-reads.Asked,
+      same-reads.Learnt,
       dictionary-below t,
       dictionary.Post,
     )
@@ -391,9 +400,11 @@ pub +dictionary+list+value-spec : {M : Type 1} → statement M
     (value-add-dictionary t)
     (value-sub-list t)
     (value-list-requires t)
+    (value-same-requires t)
     (value-returns-6 t)
     (value-sub-dictionary t)
     (value-dictionary-requires t)
+    (value-same-requires-2 t)
     (value-returns-7 t)
     (value-bad-requires-4 t)
     (value-returns-8 t)
