@@ -33,6 +33,7 @@ use Rattle.seating.specs.declared.Begun.{Begun}
 use Rattle.rows.specs.Said.{numberOf}
 use Rattle.telling.specs.Telling.{codeOf, toldOf, shownOf}
 use Rattle.telling.specs.declared.Told.{Told}
+use Rattle.telling.proofs.Laws.{unused, told-kept as untold, shown-kept as unshown}
 use Rattle.demands.specs.One.{Ref, now, Refused, Unused}
 pub mod Numbers
 pub mod Reasons
@@ -95,52 +96,6 @@ same-tables e f =
     let g = e ∙ sym f in
     (ap (λ (z : Yard). z .head) g, ap (λ (z : Yard). z .seats) g, ap (λ (z : Yard). z .rows) g, ap (λ (z : Yard). z .holders) g)
 
--- a number other than 0 stands for a refusal or for a wait: 255
-code-unspoken : (o : Outcome Said) → (codeOf o ≡ 0 → ⊥) → Unspoken o
-code-unspoken (refused n p) k = tt
-code-unspoken (taken wait) k = tt
-code-unspoken (taken done) k = k refl
-code-unspoken (taken (used n)) k = k refl
-code-unspoken (taken (serve n)) k = k refl
-code-unspoken (taken (dropped n)) k = k refl
-code-unspoken (taken (seated i)) k = k refl
-code-unspoken (taken (wrote n)) k = k refl
-code-unspoken (taken (listed x)) k = k refl
-code-unspoken (taken (shows s)) k = k refl
-code-unspoken (taken (holds b)) k = k refl
-code-unspoken (taken (heldBy n)) k = k refl
-code-unspoken (taken (scarce p)) k = k refl
-
-untold : (o : Outcome Said) (was : Told) → Unspoken o → toldOf o was ≡ was
-untold (refused n p) was u = refl
-untold (taken wait) was u = refl
-untold (taken done) was u = absurd u
-untold (taken (used n)) was u = absurd u
-untold (taken (serve n)) was u = absurd u
-untold (taken (dropped n)) was u = absurd u
-untold (taken (seated i)) was u = absurd u
-untold (taken (wrote n)) was u = absurd u
-untold (taken (listed x)) was u = absurd u
-untold (taken (shows s)) was u = absurd u
-untold (taken (holds b)) was u = absurd u
-untold (taken (heldBy n)) was u = absurd u
-untold (taken (scarce p)) was u = absurd u
-
-unshown : (o : Outcome Said) (was : Seat) → Unspoken o → shownOf o was ≡ was
-unshown (refused n p) was u = refl
-unshown (taken wait) was u = refl
-unshown (taken done) was u = refl
-unshown (taken (used n)) was u = refl
-unshown (taken (serve n)) was u = refl
-unshown (taken (dropped n)) was u = refl
-unshown (taken (seated i)) was u = refl
-unshown (taken (wrote n)) was u = refl
-unshown (taken (listed x)) was u = refl
-unshown (taken (shows s)) was u = absurd u
-unshown (taken (holds b)) was u = refl
-unshown (taken (heldBy n)) was u = refl
-unshown (taken (scarce p)) was u = refl
-
 -- a call that does not wait and is not taken writes nothing
 nothing-put : (o : Outcome Said) (l : List ℕ) → (o ≡ taken wait → ⊥) → Unspoken o → ifTaken o l ≡ []
 nothing-put (refused n p) l w u = refl
@@ -191,7 +146,7 @@ page-speaks y first space = missing-speaks first space (y .seats) (length (y .se
 -- a call on any tables that answers a number other than 0 leaves the tables, and what is lent for its answer
 module _ (c : Call) (h : Head) (s : List Seat) (w q : List ℕ) {r : ℕ} (e : r ≡ codeOf (step c (yardOf h s w q) .answer)) (k : r ≡ 0 → ⊥) where
   silent : Unspoken (step c (yardOf h s w q) .answer)
-  silent = code-unspoken (step c (yardOf h s w q) .answer) (λ z. k (e ∙ z))
+  silent = unused (step c (yardOf h s w q) .answer) (λ z. k (e ∙ z))
 
   pub tables-kept : {h′ : Head} {s′ : List Seat} {w′ q′ : List ℕ} → yardOf h′ s′ w′ q′ ≡ step c (yardOf h s w q) .yard → (h′ ≡ h) × (s′ ≡ s) × (w′ ≡ w) × (q′ ≡ q)
   tables-kept f = same-tables (f ∙ step-keeps (yardOf h s w q) c silent) refl

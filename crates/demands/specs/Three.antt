@@ -31,9 +31,11 @@ use Rattle.history.specs.Run.{State, Sized, after}
 use Rattle.history.proofs.Theorem as theorem
 use Rattle.history.proofs.Demand as demand
 use Rattle.demands.specs.Three.Program.{Made, made-run}
-use Rattle.demands.specs.Three.Paging.{page-listed}
+use Rattle.demands.specs.Three.Paging.{page-total, page-listed}
+use Rattle.demands.specs.Three.Loaded.{nobody-lacks}
 pub mod Program
 mod Paging
+mod Loaded
 
 -- a start is accepted exactly when the sizes are legal and the lent tables have them, whatever stands in the tables
 pub start-exact : (p l k : ℕ) (lent : Yard) (r : Answer) → paper r ≡ step (start p l k) lent .answer → paper r ≡ taken done ↔ Sized p l k lent
@@ -149,6 +151,14 @@ module _ (lent : Yard) (h : History) (y : Yard) (made : Made lent h y) where
       × (x .next ≡ firstOr seats (drop (length page) l)))
   missing-total first page out r e w x q =
       page-listed seats h first page out x (sym (answer-right (missing first (length page)) r e) ∙ q) (w ∙ ap (sets page 0) (written-right (missing first (length page))))
+
+  -- "All loaded": the total is 0 exactly when every truck now seated has announced every piece since it sat down
+  pub all-loaded : (first space : ℕ) (r : Answer) → paper r ≡ step (missing first space) y .answer → (x : Page) → paper r ≡ taken (listed x)
+      → x .total ≡ 0 ↔ ((i p : ℕ) → i < seats → seated h i ≡ true → p < pieces h → announced h i p ≡ true)
+  all-loaded first space r e x q =
+      let t = page-total seats h first space x (sym (answer-right (missing first space) r e) ∙ q) in
+      let k = nobody-lacks seats (pieces h) (seated h) (announced h) in
+      (λ z. k .0 (sym t ∙ z), λ f. t ∙ k .1 f)
 
   -- ---- 14. "The scarcest piece is the smallest number among those with fewest holders."
 

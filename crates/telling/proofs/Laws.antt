@@ -42,7 +42,7 @@ unused (taken (holds b)) h = h refl
 unused (taken (heldBy n)) h = h refl
 unused (taken (scarce p)) h = h refl
 
-told-kept : (a : Outcome Said) (was : Told) → Unused a → toldOf a was ≡ was
+pub told-kept : (a : Outcome Said) (was : Told) → Unused a → toldOf a was ≡ was
 told-kept (refused n p) was u = refl
 told-kept (taken wait) was u = refl
 told-kept (taken done) was u = absurd u
@@ -57,7 +57,7 @@ told-kept (taken (holds b)) was u = absurd u
 told-kept (taken (heldBy n)) was u = absurd u
 told-kept (taken (scarce p)) was u = absurd u
 
-shown-kept : (a : Outcome Said) (was : Seat) → Unused a → shownOf a was ≡ was
+pub shown-kept : (a : Outcome Said) (was : Seat) → Unused a → shownOf a was ≡ was
 shown-kept (refused n p) was u = refl
 shown-kept (taken wait) was u = refl
 shown-kept (taken done) was u = absurd u

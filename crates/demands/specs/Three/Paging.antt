@@ -21,6 +21,14 @@ use Rattle.history.specs.Says.{Ascending, lacking, missingFrom, pageLines, page
 use Rattle.history.specs.Expected.{answer, written}
 use Rattle.history.proofs.Pages.{listed-lacks, lacking-listed, list-ascends, lines-fit}
 
+-- the total is of all seats, whatever the page
+pub page-total : (n : ℕ) (h : History) (first space : ℕ) (x : Page) → answer n h (missing first space) ≡ taken (listed x) → x .total ≡ count n (lacking h)
+page-total n h first space x e = go (leb first n) e
+  where
+    go : (b : Bool) → cond b (taken (listed (pageOf n h first space))) (refused 36 0) ≡ taken (listed x) → x .total ≡ count n (lacking h)
+    go true q = let d : pageOf n h first space ≡ x = cc in ap (λ (y : Page). y .total) (sym d)
+    go false q = absurd (let z : _≡_ {A = ℕ} 0 1 = cc in omega arith)
+
 module _ (n : ℕ) (h : History) (first : ℕ) (page out : List ℕ) (x : Page) where
   abbrev Listed : Type 0
   Listed =
@@ -45,7 +53,7 @@ module _ (n : ℕ) (h : History) (first : ℕ) (page out : List ℕ) (x : Page) 
           let l = leb-true first n t in
           let d : pageOf n h first (length page) ≡ x = cc in
           let k : x .written ≡ length (take (length page) list) = ap (λ (y : Page). y .written) (sym d) in (
-            ap (λ (y : Page). y .total) (sym d),
+            page-total n h first (length page) x e,
             (
               list,
               list-ascends n h first l,
