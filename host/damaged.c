@@ -156,7 +156,28 @@ static void sizes(void) {
     REFUSES("start, other pieces than counts", y, 38, wardrail_yard_start(TABLES(&y), PIECES + 1, 16384, 1));
 }
 
+/* A start asks nothing of what stands in the tables: they are as if they had been zeros. */
+static void started(void) {
+    struct yard y, zeroed;
+    const struct wardrail_seat full = {true, true, true, true, true, true, 7};
+    memset(&y, 0xff, sizeof y);
+    memset(&zeroed, 0, sizeof zeroed);
+    for (size_t i = 0; i < SEATS; i++) memcpy(&y.seats[i], &full, sizeof full);
+    y.seats_count = zeroed.seats_count = SEATS;
+    y.rows_count = zeroed.rows_count = ROWS;
+    y.holders_count = zeroed.holders_count = PIECES;
+    says("a start on anything", wardrail_yard_start(TABLES(&y), PIECES, 16384, 100) == 0 && wardrail_yard_start(TABLES(&zeroed), PIECES, 16384, 100) == 0);
+    says("its head", !memcmp(&y.head, &zeroed.head, sizeof y.head) && y.head.pieces == PIECES && !y.head.taken && !y.head.complete);
+    says("its rows and holder counts", !memcmp(y.rows, zeroed.rows, ROWS) && !memcmp(y.holders, zeroed.holders, sizeof(uint16_t) * PIECES) && !y.rows[0] && !y.holders[0]);
+    says("and nothing past them", y.rows[ROWS] == 0xff && y.holders[PIECES] == 0xffff);
+    for (size_t i = 0; i < SEATS; i++) {
+        const struct wardrail_seat s = y.seats[i];
+        says("its seats", !s.taken && !s.fresh && !s.am_choking && !s.am_interested && !s.peer_choking && !s.peer_interested && !s.held);
+    }
+}
+
 int main(void) {
+    started();
     tops();
     zeros();
     spares();

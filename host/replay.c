@@ -85,6 +85,11 @@ static void say(uint64_t n) { printf("%llu", (unsigned long long)n); }
 
 static void say_after(const char *word, uint64_t n) { printf("%s %llu", word, (unsigned long long)n); }
 
+/* Two ways to the same answer. */
+static void agree(bool same, const char *what) {
+    if (!same) stop("two calls differ", what);
+}
+
 /* ---- texts */
 
 static void bencode_call(struct bytes text) {
@@ -109,6 +114,18 @@ static void torrent_call(struct bytes text) {
     hex(hash, 20);
 }
 
+/* File i of many by walking there, from the first on. */
+static void agree_walked(struct bytes text, uint64_t i, const uint64_t *d) {
+    uint64_t t[14], e[3], offset = 0;
+    wardrail_torrent(text.data, text.count, t);
+    e[2] = t[11] + 1;
+    for (uint64_t k = 0; k <= i; k++) {
+        if (k) offset += e[0];
+        agree(wardrail_file_at(text.data, text.count, e[2], e) == 0, "file_at");
+    }
+    agree(offset == d[0] && e[0] == d[1] && e[1] == d[2], "file_at");
+}
+
 static void file_call(struct bytes text, uint64_t i) {
     uint64_t d[4], e[4], r = wardrail_file(text.data, text.count, i, d);
     if (r) {
@@ -123,6 +140,7 @@ static void file_call(struct bytes text, uint64_t i) {
         part(text.data, t + 4);
         return;
     }
+    agree_walked(text, i, d);
     const char *between = "";
     for (uint64_t at = d[2]; wardrail_element_at(text.data, text.count, at, e) == 0 && e[0]; at = e[3]) {
         printf("%s", between);
@@ -132,9 +150,18 @@ static void file_call(struct bytes text, uint64_t i) {
 }
 
 static void piece_call(struct bytes text, uint64_t i, struct bytes data) {
-    uint64_t detail, r = wardrail_piece_check(text.data, text.count, (uint32_t)least(i, UINT32_MAX), data.data, data.count, &detail);
-    if (r) refused(r, detail);
-    else printf(detail ? "yes" : "no");
+    uint32_t piece = (uint32_t)least(i, UINT32_MAX);
+    uint64_t detail, hash[2], r = wardrail_piece_check(text.data, text.count, piece, data.data, data.count, &detail);
+    uint64_t h = wardrail_piece_hash(text.data, text.count, piece, hash);
+    if (r) {
+        agree(r == WARDRAIL_LONG || r == WARDRAIL_OUTSIDE || (h == r && hash[0] == detail), "piece_hash");
+        refused(r, detail);
+        return;
+    }
+    uint8_t digest[20];
+    wardrail_sha1(data.data, data.count, digest);
+    agree(!h && hash[1] == 20 && !memcmp(text.data + hash[0], digest, 20) == (detail == 1), "piece_hash");
+    printf(detail ? "yes" : "no");
 }
 
 static void reply_call(struct bytes text) {
@@ -146,12 +173,25 @@ static void reply_call(struct bytes text) {
     } else printf("taken %llu %llu", (unsigned long long)d[1], (unsigned long long)d[2]);
 }
 
+/* Entry i by walking there, from the first on. */
+static void agree_listed(struct bytes text, uint64_t i, const uint64_t *d) {
+    uint64_t t[4], e[6];
+    wardrail_reply(text.data, text.count, t);
+    e[5] = t[3];
+    for (uint64_t k = 0; k <= i; k++) {
+        uint64_t at = e[5];
+        agree((t[0] == 2 ? wardrail_packed_at : wardrail_listed_at)(text.data, text.count, at, e) == 0, "an entry's place");
+    }
+    agree(t[0] == d[0] && !memcmp(d + 1, e, 5 * sizeof *e), "an entry's place");
+}
+
 static void peer_call(struct bytes text, uint64_t i) {
     uint64_t d[6], r = wardrail_peer(text.data, text.count, i, d);
     if (r) {
         refused(r, d[0]);
         return;
     }
+    agree_listed(text, i, d);
     if (d[0] == 2) {
         uint8_t address[4] = {(uint8_t)d[1], (uint8_t)d[2], (uint8_t)d[3], (uint8_t)d[4]};
         printf("none ");
@@ -166,8 +206,15 @@ static void peer_call(struct bytes text, uint64_t i) {
 }
 
 static void sha1_call(struct bytes data) {
-    uint8_t digest[20];
+    uint8_t digest[20], again[20];
     uint64_t r = wardrail_sha1(data.data, data.count, digest);
+    /* the same in two parts, cut at a third */
+    struct wardrail_sha1_state s;
+    size_t cut = data.count / 3;
+    wardrail_sha1_start(s.words, s.tail);
+    wardrail_sha1_add(s.words, s.tail, data.data, cut);
+    wardrail_sha1_add(s.words, s.tail, data.data + cut, data.count - cut);
+    agree(wardrail_sha1_finish(s.words, s.tail, again) == r && (r || !memcmp(digest, again, 20)), "sha1 in parts");
     if (r) refused(r, 0);
     else hex(digest, 20);
 }
@@ -180,6 +227,11 @@ static void block_call(char **w) {
     uint32_t at[3];
     for (int k = 0; k < 3; k++) at[k] = (uint32_t)least(number(w[3 + k]), UINT32_MAX);
     uint64_t r = wardrail_block(lengths, count, number(w[1]), at[0], at[1], at[2], out, room * 3, &detail);
+    uint64_t size, p = wardrail_piece_size(lengths, count, number(w[1]), at[0], &size);
+    /* the piece is asked for before the block */
+    if (p) agree(r == p && detail == size, "piece_size");
+    else if (!r) agree((uint64_t)at[1] + at[2] <= size, "piece_size");
+    else agree(r == WARDRAIL_OUTSIDE || r == WARDRAIL_ROOM, "piece_size");
     if (r) refused(r, detail);
     else
         for (size_t k = 0; k < detail; k++) printf("%s%llu:%llu:%llu", k ? " " : "", (unsigned long long)out[3 * k], (unsigned long long)out[3 * k + 1], (unsigned long long)out[3 * k + 2]);
@@ -228,9 +280,11 @@ static void write_call(char **w, struct bytes *b, const char *room_word) {
     size_t room = least(number(room_word), LONGEST_TEXT + 1);
     uint8_t *out = lent(room, 1);
     uint64_t detail = 0, r;
-    if (!strcmp(w[0], "write-torrent"))
+    if (!strcmp(w[0], "write-torrent")) {
         r = wardrail_write_torrent(b[1].data, b[1].count, b[2].data, b[2].count, number(w[3]), b[5].data, b[5].count, number(w[4]), out, room, &detail);
-    else if (!strcmp(w[0], "write-reply"))
+        uint64_t size, s = wardrail_torrent_size(b[1].data, b[1].count, b[2].data, b[2].count, number(w[3]), b[5].data, b[5].count, number(w[4]), &size);
+        agree(r == WARDRAIL_ROOM ? s == 0 && size > room : s == r && size == detail, "torrent_size");
+    } else if (!strcmp(w[0], "write-reply"))
         r = wardrail_write_reply(number(w[1]), b[2].data, b[2].count, out, room, &detail);
     else if (!strcmp(w[0], "write-handshake")) {
         if (b[1].count != 20 || b[2].count != 20) stop("a hash and a peer id have 20 bytes", "");
@@ -322,6 +376,15 @@ static void seat_call(struct yard *y, uint64_t i) {
     struct wardrail_seat s;
     memset(&s, 0, sizeof s);
     uint64_t r = wardrail_yard_look(TABLES, i, &s);
+    /* the pieces that the row has, one by one, and the one past the last */
+    struct wardrail_told told;
+    uint32_t held = 0;
+    for (uint64_t p = 0; !r && p < y->head.pieces; p++) {
+        agree(wardrail_yard_has(TABLES, i, p, &told) == 0 && told.value <= 1, "has");
+        held += (uint32_t)told.value;
+    }
+    uint64_t past = wardrail_yard_has(TABLES, i, y->head.pieces, &told);
+    agree(r ? past == r : past == WARDRAIL_BEYOND && held == s.held, "has");
     if (r) refused(r, 0);
     else if (!s.taken) printf("free");
     else printf("%s %u %d %d %d %d", s.fresh ? "fresh" : "used", (unsigned)s.held, s.am_choking, s.am_interested, s.peer_choking, s.peer_interested);

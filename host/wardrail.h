@@ -48,9 +48,9 @@ enum wardrail_refusal {
     WARDRAIL_PAYLOAD = 21,  /* a payload length wrong for its id */
     WARDRAIL_PROTOCOL = 22, /* a handshake's first 20 bytes are wrong */
     WARDRAIL_HASH = 23,     /* a handshake for another info hash */
-    WARDRAIL_NOT_FIRST = 30, /* a bitfield that is not first */
+    WARDRAIL_LATE = 30,     /* a bitfield that is not first */
     WARDRAIL_BEYOND = 31,   /* a piece, file or entry number too large */
-    WARDRAIL_BITS = 32,     /* bitfield length wrong */
+    WARDRAIL_BITFIELD = 32, /* bitfield length wrong */
     WARDRAIL_SPARE = 33,    /* a spare bit set */
     WARDRAIL_OUTSIDE = 34,  /* a block or file offset outside its bounds, a piece of the wrong length */
     WARDRAIL_FULL = 35,     /* every seat taken */

@@ -1,4 +1,4 @@
-"""Replies of a stock tracker, Debian's opentracker, asked on loopback and read by tests/tracker_cases.py's reader.
+"""Replies of a stock tracker, Debian's opentracker, asked on loopback and read by the second program.
 
     python3 tests/opentracker.py           asks, and compares what is read with the peers that were announced
     python3 tests/opentracker.py --keep    also keeps the replies as samples/opentracker-*.reply
@@ -15,7 +15,8 @@ import tempfile
 import time
 import urllib.parse
 
-import tracker_cases
+sys.path.insert(0, os.path.join(os.path.dirname(__file__), "..", "second"))
+from tracker import read
 
 HASH = bytes(range(100, 120))
 PORTS = [6881, 51413, 1, 65535]
@@ -95,14 +96,14 @@ def against(known, asking):
 def main():
     found = against(HASH.hex() + "\n", replies) + against("", refusals)
     for n, (text, sure, perhaps) in enumerate(found):
-        form, fields, entries, _, _ = tracker_cases.reply(text)
-        print("%d %s: %s" % (n, text, tracker_cases.answer(text)))
+        reply = read(text)
+        print("%d %s: %s" % (n, text, reply))
         if sure is None:
-            assert form == "failure", text
+            assert reply.failure is not None, text
         else:
-            shown = {e[4] for e in entries}
-            assert form == "compact" and sure <= shown <= sure | perhaps, (text, shown)
-            assert all(e[:4] == [127, 0, 0, 1] for e in entries), text
+            shown = {peer.port for peer in reply.peers}
+            assert reply.failure is None and sure <= shown <= sure | perhaps, (text, shown)
+            assert all(peer.id is None and peer.address == bytes([127, 0, 0, 1]) for peer in reply.peers), text
         if "--keep" in sys.argv:
             name = os.path.join(os.path.dirname(__file__), "..", "samples", "opentracker-%d.reply" % n)
             with open(name, "wb") as f:
