@@ -9,13 +9,13 @@ use lib.IntN.{pos, negsuc}
 use lib.ListN.{length}
 use Rattle.refusal.specs.Paper.{Outcome, taken, refused, then}
 use Rattle.refusal.specs.Limits.{longestFile, longestPiece}
+use Rattle.refusal.specs.declared.Part.{Part}
 use Rattle.refusal.proofs.Cases.{no-way}
 use Rattle.refusal.proofs.Outcomes.{then-then, map-then}
 use Rattle.bencode.specs.Value.{Value, str, int, list, dict}
 use Rattle.bencode.specs.Exact.{Fine}
 use Rattle.bencode.proofs.Exact.{fine-taken}
 use Rattle.walk.specs.Lookup.{nothing, under}
-use Rattle.walk.specs.declared.Part.{Part}
 use Rattle.fields.specs.Values.{partOf, stringAt, naturalAt}
 use Rattle.writer.specs.Put.{putOf}
 use Rattle.blocks.specs.Rules.{pieceLength}

@@ -8,10 +8,10 @@ use lib.IntN.{pos}
 use lib.ListN.{length}
 use Rattle.refusal.specs.Paper.{Outcome, taken, refused, then}
 use Rattle.refusal.specs.Limits.{longestPiece, mostText}
+use Rattle.refusal.specs.declared.Part.{Part}
 use Rattle.scalar.specs.Written.{written}
 use Rattle.bencode.specs.Value.{Value, str, int, encode}
 use Rattle.walk.specs.Lookup.{nothing, under, lookup, sameKey}
-use Rattle.walk.specs.declared.Part.{Part}
 use Rattle.fields.specs.Values.{partOf, stringAt}
 use Rattle.blocks.proofs.Legal.{piece-length-is, piece-bounds}
 use borrow.Author.Tests.{le-leb}

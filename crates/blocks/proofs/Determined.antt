@@ -9,7 +9,7 @@ use lib.ListN.{length, drop}
 use Rattle.refusal.specs.Paper.{Outcome, taken, refused}
 use Rattle.refusal.specs.Numbers.{room}
 use Rattle.blocks.specs.Rules.{largest}
-use Rattle.blocks.specs.Spans.{Span, Part}
+use Rattle.blocks.specs.Spans.{Span, FilePart}
 use Rattle.blocks.specs.Answers.{Spot, partsPaper, placePaper, sizePaper, sizeOf, blockOf, byteOf, flat, Left, left, written}
 use Rattle.blocks.specs.declared.Parts.{Parts}
 use Rattle.blocks.specs.declared.Parts.the-variants.{Written, Refused}
@@ -59,7 +59,7 @@ module _ (ss : List Span) (pl p o n : ℕ) (out : List ℕ) (r : Parts) (l : Lis
       by true c m g = let z : _≡_ {A = ℕ} 0 1 = cc in absurd (omega arith)
       by false c m g = refl
 
-      kept : (x : Outcome (List Part)) → written x out .answer ≡ refused k q → written x out .out ≡ out
+      kept : (x : Outcome (List FilePart)) → written x out .answer ≡ refused k q → written x out .out ≡ out
       kept (taken ps) g = by (leb (3 * length ps) (length out)) (length ps) (flat ps ++ drop (3 * length ps) out) g
       kept (refused i j) g = refl
 

@@ -11,7 +11,7 @@ use borrow.Author.Tests.{le-leb, lt-leb, lt-ltb, le-ltb}
 use Rattle.refusal.specs.Paper.{taken}
 use Rattle.refusal.specs.Numbers.{range, beyond, outside, room}
 use Rattle.blocks.specs.Rules.{pieceLength, fileCount, piecesOf, totalAnd, largest, sum, lawful}
-use Rattle.blocks.specs.Spans.{Part, joined, endOf, partsFrom, heldIn, nowhere}
+use Rattle.blocks.specs.Spans.{FilePart, joined, endOf, partsFrom, heldIn, nowhere}
 use Rattle.blocks.specs.Answers.{spot, partsPaper, placePaper, sizePaper, pieces, keeps, lies, sizeOf, blockOf, byteOf, flat, left, written}
 use Rattle.blocks.specs.declared.Parts.{Parts}
 use Rattle.blocks.specs.declared.Parts.the-variants.{Refused}
@@ -70,7 +70,7 @@ piece-starts ns pl total k p h = omega (arith, starts-inside total pl (omega (ar
 
 -- ---- a block
 
-length-flat : (ps : List Part) → length (flat ps) ≡ 3 * length ps
+length-flat : (ps : List FilePart) → length (flat ps) ≡ 3 * length ps
 unfolding flat
 length-flat [] = refl
 length-flat (p ∷ ps) = let e = length-flat ps in omega arith
@@ -94,7 +94,7 @@ module _ (ns : List ℕ) (pl p o n : ℕ) (out : List ℕ) where
         unfolding blockOf written
         block-34 x f = rw (x, k .law, lt-ltb p (pieces (joined ns) pl) (rw (k .count) h), held-is, f)
 
-        module _ (f : lies held o n ≡ true) (from to m : ℕ) (ps : List Part) (q : from ≡ p * pl + o) (s : to ≡ from + n) (g : ps ≡ partsFrom 0 (joined ns) from to) (c : m ≡ length ps) where
+        module _ (f : lies held o n ≡ true) (from to m : ℕ) (ps : List FilePart) (q : from ≡ p * pl + o) (s : to ≡ from + n) (g : ps ≡ partsFrom 0 (joined ns) from to) (c : m ≡ length ps) where
           block-taken : blockOf (joined ns) pl p o n ≡ taken ps
           unfolding blockOf
           block-taken = rw (k .law, lt-ltb p (pieces (joined ns) pl) (rw (k .count) h), held-is, f, ← q, ← s, ← g)

@@ -8,7 +8,7 @@ use native.Mathlib.Nat.{add-assoc, min-eq-left, min-eq-right, max-eq-left, max-e
 use lib.ListN.{length, getD, take}
 use Rattle.refusal.proofs.Cases.{lt-or-le}
 use Rattle.blocks.specs.Rules.{sum, piecesOf, lawful}
-use Rattle.blocks.specs.Spans.{Span, Part, span, low, high, cut, partsFrom, joinedFrom, joined, lengths, endFrom, endOf, nowhere, sizes, heldIn}
+use Rattle.blocks.specs.Spans.{Span, FilePart, span, low, high, cut, partsFrom, joinedFrom, joined, lengths, endFrom, endOf, nowhere, sizes, heldIn}
 use Rattle.blocks.specs.Covers.{Ordered, InSome, Laid}
 use Rattle.blocks.proofs.Covering.{cut-some, cut-none}
 
@@ -72,7 +72,7 @@ joined-full a (n ∷ ns) x h l = ⊎-elim (λ i. inl (omega arith, omega arith))
 
 -- ---- a piece
 
-sizes-cut : (k : ℕ) (s : Span) (from to : ℕ) (rest : List Part) → sizes (cut k s from to rest) ≡ (high s to - low s from) + sizes rest
+sizes-cut : (k : ℕ) (s : Span) (from to : ℕ) (rest : List FilePart) → sizes (cut k s from to rest) ≡ (high s to - low s from) + sizes rest
 unfolding sizes
 sizes-cut k s from to rest =
     ⊎-elim (λ l. rw (cut-some k s from to rest l)) (λ g. rw (cut-none k s from to rest g) (omega arith)) (lt-or-le (low s from) (high s to))

@@ -9,7 +9,7 @@ pub use Rattle.refusal.specs.Paper.{left}
 use Rattle.refusal.specs.Numbers.{range, beyond, outside, room}
 use Rattle.refusal.specs.Limits.{longestBlock}
 use Rattle.blocks.specs.Rules.{piecesOf, lawful}
-use Rattle.blocks.specs.Spans.{Span, nowhere, lengths, endOf, Part, partsOf, heldIn}
+use Rattle.blocks.specs.Spans.{Span, nowhere, lengths, endOf, FilePart, partsOf, heldIn}
 use Rattle.blocks.specs.declared.Parts.{Parts}
 use Rattle.blocks.specs.declared.Parts.the-variants.{Written, Refused}
 use Rattle.blocks.specs.declared.Place.{Place}
@@ -66,7 +66,7 @@ abbrev pub lies : ℕ → ℕ → ℕ → Bool
 lies held o n = leb 1 n && (leb n longestBlock && leb (o + n) held)
 
 -- the parts of a block of n bytes at offset o of piece p, before any output is looked at
-unfoldable pub blockOf : List Span → ℕ → ℕ → ℕ → ℕ → Outcome (List Part)
+unfoldable pub blockOf : List Span → ℕ → ℕ → ℕ → ℕ → Outcome (List FilePart)
 blockOf ss pl p o n = ofPiece ss pl p (cond (lies (heldIn ss pl p) o n) (taken (partsOf ss (p * pl + o) n)) (refused outside 0))
 
 -- the piece of a place in the content, and the offset there
@@ -85,7 +85,7 @@ byteOf ss pl f o =
 -- ---- the lent output
 
 -- parts as numbers: file, offset and length of each
-unfoldable pub flat : List Part → List ℕ
+unfoldable pub flat : List FilePart → List ℕ
 flat [] = []
 flat (p ∷ ps) = p .file ∷ p .offset ∷ p .size ∷ flat ps
 
@@ -94,7 +94,7 @@ abbrev pub Left : Type 0
 Left = Leaves ℕ
 
 -- the parts from the output's start on and the rest as it was, where they fit; else 37 and all of it as it was
-unfoldable pub written : Outcome (List Part) → List ℕ → Left
+unfoldable pub written : Outcome (List FilePart) → List ℕ → Left
 written (taken ps) out =
     cond (leb (3 * length ps) (length out)) (left (taken (length ps)) (flat ps ++ drop (3 * length ps) out)) (left (refused room 0) out)
 written (refused r q) out = left (refused r q) out

@@ -41,13 +41,13 @@ abbrev pub endOf : List Span → ℕ
 endOf ss = endFrom 0 ss
 
 -- a part of a file: so many bytes from an offset in it
-pub record Part : Type 0 where
+pub record FilePart : Type 0 where
   pub file : ℕ
   pub offset : ℕ
   pub size : ℕ
 
 -- the n bytes of file k from offset o on
-abbrev pub part : ℕ → ℕ → ℕ → Part
+abbrev pub part : ℕ → ℕ → ℕ → FilePart
 part k o n = record { file = k; offset = o; size = n }
 
 -- where a file and the bytes from..to begin to overlap
@@ -59,20 +59,20 @@ abbrev pub high : Span → ℕ → ℕ
 high s to = min to (s .start + s .size)
 
 -- the overlap of file k with from..to, if there is one, before the other parts
-abbrev pub cut : ℕ → Span → ℕ → ℕ → List Part → List Part
+abbrev pub cut : ℕ → Span → ℕ → ℕ → List FilePart → List FilePart
 cut k s from to rest = cond (ltb (low s from) (high s to)) (part k (low s from - s .start) (high s to - low s from) ∷ rest) rest
 
 -- the parts of from..to in files of which the first is number k
-unfoldable pub partsFrom : ℕ → List Span → ℕ → ℕ → List Part
+unfoldable pub partsFrom : ℕ → List Span → ℕ → ℕ → List FilePart
 partsFrom k [] from to = []
-partsFrom k (s ∷ ss) from to = let rest : List Part = partsFrom (suc k) ss from to in cut k s from to rest
+partsFrom k (s ∷ ss) from to = let rest : List FilePart = partsFrom (suc k) ss from to in cut k s from to rest
 
 -- the parts of n bytes of the content
-abbrev pub partsOf : List Span → ℕ → ℕ → List Part
+abbrev pub partsOf : List Span → ℕ → ℕ → List FilePart
 partsOf ss from n = partsFrom 0 ss from (from + n)
 
 -- how many bytes the parts have
-unfoldable pub sizes : List Part → ℕ
+unfoldable pub sizes : List FilePart → ℕ
 sizes [] = 0
 sizes (p ∷ ps) = p .size + sizes ps
 

@@ -4,7 +4,7 @@ use mathlib.Core.Bool.{Bool, true, false}
 use mathlib.Core.List.{List}
 use Prim.Native.Nat.{ℕ}
 use Rattle.refusal.specs.Paper.{Outcome, taken, refused}
-use Rattle.walk.specs.declared.Part.{Part}
+use Rattle.refusal.specs.declared.Part.{Part}
 use Rattle.contents.specs.declared.Entry.{Entry}
 use Rattle.contents.specs.declared.Found.{Found}
 use Rattle.contents.specs.declared.Found.the-variants.{Is, Not}

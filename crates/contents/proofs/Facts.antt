@@ -9,12 +9,12 @@ use lib.ListN.{length}
 use borrow.Author.Tests.{eqb-true}
 use Rattle.refusal.specs.Paper.{Outcome, taken, refused, then, map}
 use Rattle.refusal.specs.Limits.{mostText, mostPieces, longestPiece, longestFile}
+use Rattle.refusal.specs.declared.Part.{Part}
 use Rattle.refusal.proofs.Outcomes.{then-taken}
 use Rattle.bencode.specs.Value.{Value, Items, Entries, str, int, list, dict, encode, start}
 use Rattle.bencode.specs.Exact.{Fine}
 use Rattle.walk.specs.Stands.{Stands}
 use Rattle.walk.specs.Lookup.{Under, nothing, under, lookup}
-use Rattle.walk.specs.declared.Part.{Part}
 use Rattle.walk.proofs.Standing.{fine-stands, dictionary-stands}
 use Rattle.walk.proofs.Finding.{found-stands}
 use Rattle.fields.specs.Values.{partOf, stringAt, naturalAt, must}

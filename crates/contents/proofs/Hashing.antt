@@ -10,11 +10,11 @@ use lib.Seq.{drop-drop, take-append-le, drop-append-le}
 use borrow.Author.Tests.{lt-ltb, le-ltb, ltb-true, le-leb, lt-leb, eq-eqb, ne-eqb, eqb-true}
 use Rattle.refusal.specs.Paper.{Outcome, taken, refused, then}
 use Rattle.refusal.specs.Limits.{mostText, longestPiece}
+use Rattle.refusal.specs.declared.Part.{Part}
 use Rattle.refusal.proofs.Outcomes.{then-taken}
 use Rattle.scalar.specs.Written.{decimal}
 use Rattle.bencode.specs.Value.{Value, str, encode}
 use Rattle.walk.specs.Lookup.{under}
-use Rattle.walk.specs.declared.Part.{Part}
 use Rattle.walk.proofs.Standing.{past, room}
 use Rattle.blocks.specs.Rules.{sum}
 use Rattle.blocks.specs.Spans.{joined, heldIn}

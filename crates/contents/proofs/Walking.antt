@@ -7,6 +7,7 @@ use native.Mathlib.Omega.{arith}
 use lib.ListN.{length, take, drop}
 use Rattle.refusal.specs.Paper.{Outcome, taken, refused, then, map}
 use Rattle.refusal.specs.Limits.{longestFile}
+use Rattle.refusal.specs.declared.Part.{Part}
 use Rattle.refusal.proofs.Outcomes.{then-taken}
 use Rattle.scalar.specs.Written.{written}
 use Rattle.bencode.specs.Value.{Value, Items, str, int, list, dict, none, item, encode, encodeItems, start}
@@ -14,7 +15,6 @@ use Rattle.bencode.specs.Decode.{valueOf, kindOf}
 use Rattle.walk.specs.Walk.{Head, string, lookOf}
 use Rattle.walk.specs.Stands.{Stands, StandItems}
 use Rattle.walk.specs.Lookup.{Under, nothing, under, lookup}
-use Rattle.walk.specs.declared.Part.{Part}
 use Rattle.walk.proofs.Standing.{string-stands, list-stands, dictionary-stands, items-end, items-next}
 use Rattle.walk.proofs.Finding.{found-stands}
 use Rattle.fields.specs.Values.{partOf, naturalAt, must}

@@ -5,8 +5,8 @@ use Prim.Native.Nat.{ℕ}
 use lib.ListN.{take, drop}
 use Rattle.refusal.specs.Paper.{Outcome, taken, refused, refusal, then}
 use Rattle.refusal.specs.Numbers.{kind, name}
+use Rattle.refusal.specs.declared.Part.{Part}
 use Rattle.walk.specs.Walk.{Head, string, integer, long, list, dictionary, end, lookOf}
-use Rattle.walk.specs.declared.Part.{Part}
 use Rattle.metainfo.specs.Rules.{goodName}
 use Rattle.contents.specs.declared.Element.{Element}
 use Rattle.contents.specs.declared.Element.the-variants.{Is, End, Not}

@@ -8,9 +8,9 @@ use lib.ListN.{length}
 use Rattle.refusal.specs.Paper.{Outcome, taken, refused, refusal, then}
 use Rattle.refusal.specs.Numbers.{long, beyond, outside}
 use Rattle.refusal.specs.Limits.{longestPiece}
+use Rattle.refusal.specs.declared.Part.{Part}
 use Rattle.sha1.specs.Sha1.{sha1}
 use Rattle.sha1.specs.Digest.{same}
-use Rattle.walk.specs.declared.Part.{Part}
 use Rattle.metainfo.specs.Reading.{readOf, bytesOf}
 use Rattle.metainfo.specs.declared.Torrent.{Torrent}
 use Rattle.contents.specs.declared.Hash.{Hash}

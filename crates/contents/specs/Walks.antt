@@ -5,9 +5,9 @@ use Prim.Native.Nat.{ℕ, _+_}
 use lib.ListN.{length}
 use Rattle.refusal.specs.Paper.{taken, refused}
 use Rattle.refusal.specs.Numbers.{byte}
+use Rattle.refusal.specs.declared.Part.{Part}
 use Rattle.bencode.specs.Value.{Value, Items, str, int, list, dict, none, item}
 use Rattle.walk.specs.Lookup.{Under, nothing, under}
-use Rattle.walk.specs.declared.Part.{Part}
 use Rattle.bencode.specs.Decode.{decode}
 use Rattle.metainfo.specs.Keys.{pathKey, filesKey}
 use Rattle.metainfo.specs.Reading.{fileAt, bytesOf}

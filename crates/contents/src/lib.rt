@@ -10,9 +10,9 @@ ghost use Rattle.contents.specs.Pieces.{hashPaper, hashOf, checkPaper, c
 use blocks::ContentOffset;
 use blocks::PieceNumber;
 use metainfo::Reading;
+use refusal::Part;
 use refusal::Refusal;
 use refusal::number;
-use walk::Part;
 use walk::Seen;
 
 // A file: where it starts in the joined content, its length, and the place of its path's first element.

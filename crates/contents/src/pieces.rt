@@ -9,11 +9,11 @@ use crate::Checked;
 use crate::Hash;
 use blocks::PieceNumber;
 use metainfo::Torrent;
+use refusal::Part;
 use refusal::Refusal;
 use refusal::limit;
 use refusal::number;
 use sha1::Agreement;
-use walk::Part;
 
 // Where the hash of a piece of the torrent `t` stands.
 pub fn hash(t: Torrent, piece: PieceNumber) -> Hash

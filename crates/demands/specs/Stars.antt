@@ -18,7 +18,7 @@ use Rattle.bencode.specs.Decode.{decode, kindOf, keyOf, itemsOf, entriesOf, val
 use Rattle.bencode.specs.Answers.{checkOf}
 use Rattle.walk.specs.Lookup.{lookup, sameKey}
 use Rattle.blocks.specs.Rules.{powerFrom, sum, fileLengths, lawful}
-use Rattle.blocks.specs.Spans.{Span, Part, part, joined, joinedFrom, lengths, endFrom, partsFrom}
+use Rattle.blocks.specs.Spans.{Span, FilePart, part, joined, joinedFrom, lengths, endFrom, partsFrom}
 use Rattle.blocks.specs.Spans.{sizes as sizesIn}
 use Rattle.blocks.specs.Answers.{Spot, spot, blockOf, byteOf}
 use Rattle.wire.specs.Message.{Message, have, bitfield}
@@ -55,7 +55,7 @@ n at p = refused n p
 -- what is asked, and what it is to give
 pub data Star : Type 0 where
   -- a block by piece, offset and length: its parts
-  block : ℕ → ℕ → ℕ → Outcome (List Part) → Star
+  block : ℕ → ℕ → ℕ → Outcome (List FilePart) → Star
   -- a byte by file and offset: its piece and offset
   byte : ℕ → ℕ → Outcome Spot → Star
   -- a yard of so many pieces starts: the answer
@@ -120,7 +120,7 @@ stars =
 
 -- an answer of any row
 pub data Given : Type 0 where
-  parts : Outcome (List Part) → Given
+  parts : Outcome (List FilePart) → Given
   spots : Outcome Spot → Given
   said : Outcome Said → ℕ → ℕ → Given
   counted : Outcome ℕ → Given

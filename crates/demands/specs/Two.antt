@@ -12,6 +12,8 @@ use lib.ListN.{length, getD, take, drop, take-append-drop}
 use lib.Seq.{length-take-le}
 use Rattle.refusal.specs.BigEndian.{Bytes}
 use Rattle.refusal.specs.Paper.{Outcome, taken, refused, map, then}
+use Rattle.refusal.specs.Parts.{bytesAt}
+use Rattle.refusal.specs.declared.Part.{Part}
 use Rattle.bencode.specs.Value.{Value, str, int, dict, empty, entry, encode, count, Keeps}
 use Rattle.bencode.specs.Decode.{decode}
 use Rattle.bencode.specs.Exact.{Fine}
@@ -19,7 +21,6 @@ use Rattle.bencode.specs.Answers.{paper as countPaper, checkOf}
 use Rattle.bencode.specs.declared.Checked.{Checked}
 use Rattle.bencode.proofs.Exact.{exactly, fine-taken}
 use Rattle.walk.specs.Has.{Has}
-use Rattle.walk.specs.declared.Part as text
 use Rattle.writer.specs.Put.{Left, left, putOf}
 use Rattle.writer.specs.Put.{paper as putPaper}
 use Rattle.writer.specs.declared.Put.{Put}
@@ -27,7 +28,7 @@ use Rattle.sha1.specs.Sha1.{sha1}
 use Rattle.sha1.specs.Digest.{paper as hashPaper, left as hashing, Left as Hashing}
 use Rattle.sha1.specs.declared.Hashed.{Hashed}
 use Rattle.blocks.specs.Rules.{sum, Lawful, piecesOf}
-use Rattle.blocks.specs.Spans.{Part, part, joined, partsOf}
+use Rattle.blocks.specs.Spans.{FilePart, part, joined, partsOf}
 use Rattle.blocks.specs.Answers.{Spot, partsPaper, placePaper, blockOf, byteOf, flat}
 use Rattle.blocks.specs.Answers.{written as partsIn, left as parting, Left as Parting}
 use Rattle.blocks.specs.Covers.{run, placesOf, Neat}
@@ -37,9 +38,8 @@ use Rattle.blocks.proofs.Whole as whole
 use Rattle.blocks.proofs.Joined.{joined-laid}
 use Rattle.wire.specs.Message.{Message, Fields, body, keepalive}
 use Rattle.wire.specs.Message.{encode as frameOf}
-use Rattle.wire.specs.Frames.{Found, found, readOf, meant, Lengths, Stream, streamOf, encodeAll, KeepAll, writeOf, bytesAt}
+use Rattle.wire.specs.Frames.{Found, found, readOf, meant, Lengths, Stream, streamOf, encodeAll, KeepAll, writeOf}
 use Rattle.wire.specs.Handshake.{Shaken, hello, name, handshake, zeros, shakeOf}
-use Rattle.wire.specs.declared.Part as span
 use Rattle.wire.specs.Causes.{Cause}
 use Rattle.wire.proofs.Decided as decided
 use Rattle.wire.proofs.Exact as frames
@@ -215,21 +215,21 @@ module _ (s : List ℕ) (r : Reply) (c : replyPaper r ≡ map counted (replyOf s
 
 -- every frame writer of wire::write; m is the message, o the output as it was lent. Past the frame it stays
 pub frame-reads-back : (m : Message (List ℕ)) → Fields m → (o out : List ℕ) (r : Put) → left (putPaper r) out ≡ writeOf (body m) o → (q : ℕ) → putPaper r ≡ taken q
-    → (out ≡ frameOf m ++ drop q o) × ((at : Message span.Part) × (readOf out ≡ taken (found at q)) × (meant out at ≡ m))
+    → (out ≡ frameOf m ++ drop q o) × ((at : Message Part) × (readOf out ≡ taken (found at q)) × (meant out at ≡ m))
 frame-reads-back m f o out r c q t = let b = framing.frame-reads-back m f o r c t in (b .0, (b .1 .at, b .1 .answer, b .1 .means))
 
 -- of wire::write::keepalive
 pub keepalive-reads-back : (o out : List ℕ) (r : Put) → left (putPaper r) out ≡ putOf (frameOf keepalive) 0 o → (q : ℕ) → putPaper r ≡ taken q
-    → (out ≡ frameOf keepalive ++ drop q o) × ((at : Message span.Part) × (readOf out ≡ taken (found at q)) × (meant out at ≡ keepalive))
+    → (out ≡ frameOf keepalive ++ drop q o) × ((at : Message Part) × (readOf out ≡ taken (found at q)) × (meant out at ≡ keepalive))
 keepalive-reads-back o out r c q t = let b = framing.keepalive-reads-back o r c t in (b .0, (b .1 .at, b .1 .answer, b .1 .means))
 
 -- of wire::read_frame, on numbers that are bytes: s begins with a frame of q bytes that says m exactly when it begins with m as it is written, m being one that may be sent
 module _ (s : List ℕ) (bytes : Bytes s) (m : Message (List ℕ)) (q : ℕ) where
-  within : (at : Message span.Part) → Cause s (taken (found at q)) → q ≤ length s
+  within : (at : Message Part) → Cause s (taken (found at q)) → q ≤ length s
   within at (inl (z, k, u)) = omega (arith, z .0, u)
   within at (inr (a, r, k, u)) = omega (arith, a .2, u)
 
-  pub frame-exact : ((at : Message span.Part) × (readOf s ≡ taken (found at q)) × (meant s at ≡ m))
+  pub frame-exact : ((at : Message Part) × (readOf s ≡ taken (found at q)) × (meant s at ≡ m))
       ↔ ((s ≡ frameOf m ++ drop q s) × (q ≡ length (frameOf m)) × Fields m × Lengths (body m))
   frame-exact = (
     λ (at, e, d).
@@ -258,7 +258,7 @@ handshake-reads-back info peerId i p o out r c q t =
     (framing.put-at-start (handshake zeros info peerId) o r c t .1, b .0, b .1, b .2)
 
 -- of wire::read_handshake: greeted exactly when the first 20 bytes are 19 and the name, 68 bytes are there and the hash is the one asked for
-pub handshake-exact : (info s : List ℕ) → length info ≡ 20 → (free peerId : span.Part) (used : ℕ)
+pub handshake-exact : (info s : List ℕ) → length info ≡ 20 → (free peerId : Part) (used : ℕ)
     → shakeOf info s ≡ taken (hello free peerId used)
     ↔ (((i : ℕ) → i < 20 → i < length s → getD name i 0 ≡ getD s i 0) × (68 ≤ length s) × (take 20 (drop 28 s) ≡ info)
     × (free ≡ record { from = 20; len = 8 }) × (peerId ≡ record { from = 48; len = 20 }) × (used ≡ 68))
@@ -316,7 +316,7 @@ info-hash s o out r c v t e i =
 
 -- of contents::piece_hash: the hash of piece n is the n-th 20 bytes of pieces; beyond the last it is 31
 pub piece-hash : (s : List ℕ) (n : ℕ) (r : hash.Hash) → pieceHashPaper r ≡ pieceHashOf s n → (v : Value) (t : Said) → Encodes s v → IsTorrent v t
-    → (n < t .count → (x : text.Part) × (pieceHashPaper r ≡ taken x) × (bytesOf s x ≡ take 20 (drop (20 * n) (t .pieces)))) × (t .count ≤ n → pieceHashPaper r ≡ refused 31 0)
+    → (n < t .count → (x : Part) × (pieceHashPaper r ≡ taken x) × (bytesOf s x ≡ take 20 (drop (20 * n) (t .pieces)))) × (t .count ≤ n → pieceHashPaper r ≡ refused 31 0)
 piece-hash s n r c v t e i = let h = piece-hashed s n v t (fine e) i in (λ l. let x = h .0 l in (x .0, c ∙ x .1, x .2), λ l. c ∙ h .1 l)
 
 -- of contents::check_piece: yes exactly when the text is a torrent that has piece n, m is as long as that piece, and its digest is the n-th 20 bytes of pieces;
@@ -345,7 +345,7 @@ module _ (s : List ℕ) (n : ℕ) (m : List ℕ) (r : piece.Checked) (c : checkP
 -- of blocks::block: n bytes from offset q of piece p, of files of the lengths ns one after the other. The parts of a taken block are its bytes, once each and in
 -- order; none is empty, each lies within its file, and files ascend. They stand at the output's start as file, offset and length each, and past them it stays
 pub block-covers : (ns : List ℕ) (pl p q n : ℕ) (o out : List ℕ) (r : Parts) → parting (partsPaper r) out ≡ partsIn (blockOf (joined ns) pl p q n) o → (k : ℕ) → partsPaper r ≡ taken k
-    → (ps : List Part) × (k ≡ length ps) × (out ≡ flat ps ++ drop (3 * k) o) × (placesOf (joined ns) ps ≡ run (p * pl + q) n) × Neat (joined ns) 0 ps
+    → (ps : List FilePart) × (k ≡ length ps) × (out ≡ flat ps ++ drop (3 * k) o) × (placesOf (joined ns) ps ≡ run (p * pl + q) n) × Neat (joined ns) 0 ps
 block-covers ns pl p q n o out r c k t =
     let b = block-parts ns pl p q n o (partsPaper r) out c k t in
     let w = whole.block-covers (joined ns) pl (joined-laid ns pl) p q n (b .0) (b .1) in

@@ -2,7 +2,7 @@
 use mathlib.Core.Path.{_≡_, refl, sym, ap, _∙_}
 use Prim.Native.Nat.{ℕ}
 use Rattle.refusal.specs.Paper.{Outcome, taken, refused}
-use Rattle.walk.specs.declared.Part.{Part}
+use Rattle.refusal.specs.declared.Part.{Part}
 -- seek_after
 pub use Rattle.walk.proofs.Determined.{sought-determined}
 use Rattle.fields.specs.Looks.{stringPaper, naturalPaper, numberPaper, insidePaper}

@@ -6,11 +6,11 @@ use native.Mathlib.Omega.{arith}
 use lib.IntN.{ℤ}
 use lib.ListN.{length, take, drop, length-append}
 use Rattle.refusal.specs.Paper.{Outcome, taken, refused, then, map}
+use Rattle.refusal.specs.declared.Part.{Part}
 use Rattle.scalar.specs.Written.{decimal, written}
 use Rattle.bencode.specs.Value.{Value, Items, Entries, str, int, list, dict, encode}
 use Rattle.walk.specs.Walk.{Head, lookOf}
 use Rattle.walk.specs.Stands.{Stands, StandItems, StandEntries}
-use Rattle.walk.specs.declared.Part.{Part}
 use Rattle.walk.proofs.Standing.{Bytes, string-stands, integer-stands, list-stands, dictionary-stands}
 use Rattle.fields.specs.Looks.{endingAt, stringIn, naturalIn, numberIn, listIn, dictionaryIn, stringOf, naturalOf, numberOf, listOf, dictionaryOf}
 use Rattle.fields.specs.Values.{partOf, stringAt, naturalAt, listAt, dictionaryAt}

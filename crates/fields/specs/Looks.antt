@@ -8,8 +8,8 @@ use lib.ListN.{length}
 use lib.IntN.{ℤ, pos, negsuc}
 use Rattle.refusal.specs.Paper.{Outcome, taken, refused, refusal, map, then}
 use Rattle.refusal.specs.Numbers.{kind, range}
+use Rattle.refusal.specs.declared.Part.{Part}
 use Rattle.walk.specs.Walk.{Head, string, integer, long, list, dictionary, end, lookOf, Hit, found, missing, seekOf}
-use Rattle.walk.specs.declared.Part.{Part}
 use Rattle.fields.specs.declared.Bytes.{Bytes}
 use Rattle.fields.specs.declared.Bytes.the-variants.{Are, Unread}
 use Rattle.fields.specs.declared.Natural.{Natural}

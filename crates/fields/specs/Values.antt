@@ -5,10 +5,10 @@ use lib.ListN.{length}
 use lib.IntN.{ℤ}
 use Rattle.refusal.specs.Paper.{Outcome, taken, refused}
 use Rattle.refusal.specs.Numbers.{kind}
+use Rattle.refusal.specs.declared.Part.{Part}
 use Rattle.scalar.specs.Written.{decimal}
 use Rattle.bencode.specs.Value.{Value, Items, Entries, str, int, list, dict}
 use Rattle.walk.specs.Lookup.{Under, nothing, under}
-use Rattle.walk.specs.declared.Part.{Part}
 use Rattle.fields.specs.Looks.{ranged}
 
 -- the bytes of a string that stands at p: past its length and colon

@@ -5,9 +5,9 @@ ghost use Rattle.refusal.specs.Numbers.{kind};
 ghost use Rattle.refusal.specs.Paper.{map};
 ghost use Rattle.walk.specs.Walk.{seekPaper};
 ghost use Rattle.fields.specs.Looks.{endingAt, stringPaper, naturalPaper, numberPaper, insidePaper, stringOf, naturalOf, numberOf, listOf, dictionaryOf, ranged, needed, soughtAfter};
+use refusal::Part;
 use refusal::Refusal;
 use refusal::number;
-use walk::Part;
 use walk::Seen;
 use walk::Sought;
 

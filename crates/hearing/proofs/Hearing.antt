@@ -12,11 +12,12 @@ use lib.Seq.{length-take-le}
 use Rattle.refusal.specs.Numbers.{seat, sizes}
 use Rattle.refusal.specs.Paper.{Outcome, taken}
 use Rattle.refusal.specs.declared.Refusal.{Refusal}
+use Rattle.refusal.specs.Parts.{bytesAt}
+use Rattle.refusal.specs.declared.Part.{Part}
 use Rattle.refusal.proofs.Cases.{pick-yes, pick-no}
 use Rattle.wire.specs.Message.{Message, have}
-use Rattle.wire.specs.Frames.{least, most, allowed, sizedOf, Found, found, messageOf as messageBy, numberIn, readOf, message, meant, bytesAt, paper as read}
+use Rattle.wire.specs.Frames.{least, most, allowed, sizedOf, Found, found, messageOf as messageBy, numberIn, readOf, message, meant, paper as read}
 use Rattle.wire.specs.Causes.{named, Cause}
-use Rattle.wire.specs.declared.Part.{Part}
 use Rattle.wire.specs.declared.Frame.{Frame}
 use Rattle.wire.specs.declared.Frame.the-variants.{Choke, Unchoke, Interested, NotInterested, Have, Bitfield, Request, Piece, Cancel, Other}
 use Rattle.wire.specs.declared.Read.{Read}

@@ -7,8 +7,8 @@ use Prim.Native.Nat.{ℕ, _+_, _*_, _≤_, _<_}
 use lib.Dec.{eqb, ltb, leb}
 use lib.ListN.{length}
 use Rattle.refusal.specs.Limits.{mostPieces, mostSeats}
+use Rattle.refusal.specs.declared.Part.{Part}
 use Rattle.wire.specs.Message.{Message, keepalive, choke, unchoke, interested, notInterested, have, bitfield, request, piece, cancel, other}
-use Rattle.wire.specs.declared.Part.{Part}
 use Rattle.tables.specs.Counting.{bit}
 use Rattle.tables.specs.Rows.{width}
 use Rattle.tables.specs.Seats.{spoken, holding, counted}

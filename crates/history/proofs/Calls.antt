@@ -11,12 +11,12 @@ use lib.ListN.{length, getD, replicate, length-set}
 use lib.Seq.{length-sets}
 use Rattle.refusal.specs.Paper.{Outcome, taken, refused}
 use Rattle.refusal.specs.Numbers.{late, beyond, bitfield, spare, outside, full, seat, room}
+use Rattle.refusal.specs.declared.Part.{Part}
 use Rattle.refusal.proofs.Cases.{by-test, cannot, and-not, or-none, or-first}
 use Rattle.wire.specs.Message.{Message, keepalive, choke, unchoke, interested, notInterested, have, request, piece, cancel, other}
 use Rattle.wire.specs.Message.{bitfield as bits}
 use Rattle.wire.specs.Frames.{Found, found, readOf, meant}
 use Rattle.wire.specs.Frames.{wait as more}
-use Rattle.wire.specs.declared.Part.{Part}
 use Rattle.tables.specs.Counting.{bit, count, some, each}
 use Rattle.tables.specs.Rows.{width, hasIn, rowOf, orBytes, withBit, withBits, withoutBits}
 use Rattle.tables.specs.Seats.{cleared, holding, spoken}

@@ -7,13 +7,13 @@ use Prim.Native.Nat.{ℕ, _+_, _*_, _≤_, _<_}
 use lib.ListN.{length}
 use Rattle.refusal.specs.Paper.{taken}
 use Rattle.refusal.specs.Numbers.{frame, payload, late, beyond, bitfield, spare, outside, full, seat, room, sizes}
+use Rattle.refusal.specs.declared.Part.{Part}
 use Rattle.blocks.specs.Rules.{PieceLength}
 use Rattle.blocks.specs.Covers.{Block as InPiece}
 use Rattle.wire.specs.Message.{Message, have, request, piece, cancel}
 use Rattle.wire.specs.Message.{bitfield as bits}
 use Rattle.wire.specs.Frames.{found, readOf, meant}
 use Rattle.wire.specs.Causes.{Few, Cut, TooLong, All, Right}
-use Rattle.wire.specs.declared.Part.{Part}
 use Rattle.tables.specs.Rows.{width, bitAt}
 use Rattle.tables.specs.Step.{Call, start, sit, leave, feed, choke, interest, missing, look, has, count}
 use Rattle.history.specs.History.{History, seated, fresh, weAreChoking, theyAreInterested, pieces}

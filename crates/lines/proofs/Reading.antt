@@ -11,6 +11,7 @@ use lib.IntN.{pos}
 use lib.ListN.{length, take, drop, length-append}
 use Rattle.refusal.specs.Paper.{Outcome, taken, refused, map, then}
 use Rattle.refusal.specs.Limits.{longestFile, longestPiece, mostFiles, mostPieces}
+use Rattle.refusal.specs.declared.Part.{Part}
 use Rattle.refusal.proofs.Cases.{both}
 use Rattle.refusal.proofs.Outcomes.{then-taken, map-taken}
 use Rattle.scalar.specs.Written.{decimal, decimalIn}
@@ -21,7 +22,6 @@ use Rattle.bencode.specs.Exact.{Fine}
 use Rattle.bencode.proofs.Exact.{taken-fine}
 use Rattle.walk.specs.Stands.{Stands, StandItems, StandEntries}
 use Rattle.walk.specs.Lookup.{Under, nothing, under, lookup}
-use Rattle.walk.specs.declared.Part.{Part}
 use Rattle.walk.proofs.Standing.{fine-stands, list-stands, items-next, dictionary-stands, room}
 use Rattle.walk.proofs.Finding.{found-stands}
 use Rattle.walk.proofs.Having.{found-has}

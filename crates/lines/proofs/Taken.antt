@@ -9,11 +9,11 @@ use lib.Dec.{leb}
 use lib.IntN.{pos, negsuc}
 use lib.ListN.{length}
 use Rattle.refusal.specs.Paper.{Outcome, taken, refused, map, then}
+use Rattle.refusal.specs.declared.Part.{Part}
 use Rattle.refusal.proofs.Outcomes.{then-taken, map-taken}
 use Rattle.scalar.specs.Written.{written}
 use Rattle.bencode.specs.Value.{Value, Items, Entries, str, int, list, dict, none, item, empty, entry, encode}
 use Rattle.walk.specs.Lookup.{Under, nothing, under, lookup, sameKey}
-use Rattle.walk.specs.declared.Part.{Part}
 use Rattle.fields.specs.Values.{partOf, naturalAt, listAt, dictionaryAt, must}
 use Rattle.metainfo.specs.Rules.{provided, goodName, nameAt, elementsOf, pathIn, pathAt}
 use Rattle.metainfo.proofs.Naming.{no-way}

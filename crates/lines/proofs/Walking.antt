@@ -8,6 +8,7 @@ use lib.IntN.{pos}
 use lib.ListN.{length, take, drop, length-append}
 use Rattle.refusal.specs.Paper.{Outcome, taken, refused, map, then}
 use Rattle.refusal.specs.Limits.{longestFile}
+use Rattle.refusal.specs.declared.Part.{Part}
 use Rattle.refusal.proofs.Outcomes.{then-taken, map-taken}
 use Rattle.scalar.specs.Written.{decimal}
 use Rattle.bencode.specs.Value.{Value, Items, Entries, str, int, list, dict, none, item, encode, encodeItems, start}
@@ -16,7 +17,6 @@ use Rattle.bencode.proofs.Complete.{encode-pos}
 use Rattle.walk.specs.Walk.{Head, end}
 use Rattle.walk.specs.Stands.{Stands, StandItems}
 use Rattle.walk.specs.Lookup.{under, lookup}
-use Rattle.walk.specs.declared.Part.{Part}
 use Rattle.walk.proofs.Standing.{list-stands, items-end, items-next, dictionary-stands, room}
 use Rattle.walk.proofs.Finding.{found-stands}
 use Rattle.walk.proofs.Having.{found-has}

@@ -10,7 +10,7 @@ use crate::ink;
 use fields::Bytes;
 use metainfo::File;
 use metainfo::Filed;
-use walk::Part;
+use refusal::Part;
 
 // The lines of the files of which the first stands at `first`: each begins where those before it end.
 pub fn many(text: &[u8], first: usize, out: &mut [u8], at: usize) -> usize

@@ -6,12 +6,12 @@ use Prim.Native.Nat.{ℕ, suc, _+_, _-_, _<_, _≤_}
 use native.Mathlib.Omega.{arith}
 use lib.ListN.{length}
 use Rattle.refusal.specs.Paper.{Outcome, taken, refused, map, then}
+use Rattle.refusal.specs.declared.Part.{Part}
 use Rattle.scalar.specs.Written.{written, keyLt}
 use Rattle.bencode.specs.Value.{Value, Items, Entries, dict, empty, entry, encode, encodeEntries, Prev, start, last}
 use Rattle.walk.specs.Walk.{Hit, found, missing, seekPaper, key, close, entryOf, skipOf}
 use Rattle.walk.specs.Stands.{StandEntries}
 use Rattle.walk.specs.Lookup.{Under, nothing, under, lookup}
-use Rattle.walk.specs.declared.Part.{Part}
 use Rattle.walk.specs.declared.Sought.{Sought}
 use Rattle.walk.specs.declared.Sought.the-variants.{Found, Missing, Unread}
 use Rattle.walk.proofs.Standing.{entries-end, entries-next, skip-past}

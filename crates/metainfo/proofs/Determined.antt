@@ -4,13 +4,13 @@ use mathlib.Core.List.{List}
 use Prim.Native.Nat.{ℕ, _+_, min}
 use lib.ListN.{length}
 use Rattle.refusal.specs.Paper.{Outcome, taken, refused}
+use Rattle.refusal.specs.declared.Part.{Part}
 use Rattle.metainfo.specs.declared.Torrent.{Torrent}
 use Rattle.metainfo.specs.declared.File.{File}
 use Rattle.metainfo.specs.declared.Reading.{Reading}
 use Rattle.metainfo.specs.declared.Reading.the-variants.{Read, Refused}
 use Rattle.metainfo.specs.declared.Filed.{Filed}
 use Rattle.metainfo.specs.declared.Filed.the-variants.{Is, Not}
-use Rattle.walk.specs.declared.Part.{Part}
 use Rattle.walk.proofs.Determined.{bytes-determined}
 use Rattle.metainfo.specs.Reading.{paper, readOf, filePaper, fileAt, bytesOf, announceIn, nameIn}
 

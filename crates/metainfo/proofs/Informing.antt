@@ -5,6 +5,7 @@ use Prim.Native.Nat.{ℕ, _+_, _≤_}
 use native.Mathlib.Omega.{arith}
 use lib.ListN.{length}
 use Rattle.refusal.specs.Paper.{Outcome, taken, refused, then, map}
+use Rattle.refusal.specs.declared.Part.{Part}
 use Rattle.scalar.specs.Written.{keyLt}
 use Rattle.bencode.specs.Value.{Value, Entries, str, int, list, dict, encode, count, Prev, start}
 use Rattle.bencode.specs.Decode.{decode}
@@ -13,7 +14,6 @@ use Rattle.bencode.proofs.Exact.{taken-fine}
 use Rattle.walk.specs.Walk.{seekPaper}
 use Rattle.walk.specs.Stands.{Stands, StandEntries}
 use Rattle.walk.specs.Lookup.{Under, nothing, under, lookup}
-use Rattle.walk.specs.declared.Part.{Part}
 use Rattle.walk.specs.declared.Sought.{Sought}
 use Rattle.walk.proofs.Standing.{dictionary-stands, fine-stands}
 use Rattle.fields.specs.Looks.{stringOf, dictionaryOf, needed}

@@ -8,6 +8,7 @@ use lib.Dec.{eqb}
 use lib.ListN.{length, getD, take, drop, length-append, drop-of-length-le}
 use borrow.Author.Tests.{eq-eqb, ne-eqb, eqb-true}
 use Rattle.refusal.specs.Paper.{Outcome, taken, refused, then, map}
+use Rattle.refusal.specs.declared.Part.{Part}
 pub use Rattle.refusal.proofs.Cases.{no-way}
 use Rattle.scalar.specs.Written.{written}
 use Rattle.scalar.specs.Reading.{onHead}
@@ -17,7 +18,6 @@ use Rattle.bencode.specs.Decode.{closes}
 use Rattle.walk.specs.Walk.{Head, string, integer, long, end, lookOf, entryOf, dueOf, key}
 use Rattle.walk.specs.Walk as walk
 use Rattle.walk.specs.Stands.{Stands, StandItems}
-use Rattle.walk.specs.declared.Part.{Part}
 use Rattle.walk.proofs.Standing.{Bytes, string-stands, integer-stands, list-stands, dictionary-stands, items-end, items-next, closes-none, closes-item}
 use Rattle.walk.proofs.Seeking.{key-further}
 use Rattle.fields.specs.Looks.{endingAt, stringIn, stringOf, listOf}

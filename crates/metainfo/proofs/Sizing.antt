@@ -9,8 +9,8 @@ use lib.Dec.{leb, eqb}
 use borrow.Author.Tests.{eq-eqb, ne-eqb, lt-leb, le-leb, leb-true}
 use Rattle.refusal.specs.Paper.{Outcome, taken, refused, then}
 use Rattle.refusal.specs.Limits.{mostPieces, longestPiece}
+use Rattle.refusal.specs.declared.Part.{Part}
 use Rattle.refusal.proofs.Cases.{both, lt-or-le}
-use Rattle.walk.specs.declared.Part.{Part}
 use Rattle.bencode.specs.Value.{Value}
 use Rattle.walk.specs.Walk.{seekPaper}
 use Rattle.walk.specs.Lookup.{Under, nothing, under}

@@ -4,9 +4,9 @@ use Prim.Native.Nat.{ℕ, _+_, min}
 use mathlib.Core.Bool.{false}
 use Rattle.blocks.specs.Rules.{sum, largest}
 use lib.ListN.{length, take, drop}
-use Rattle.walk.specs.declared.Part.{Part}
 use Rattle.refusal.specs.Paper.{Outcome, taken, refused, refusal, map, then}
 use Rattle.refusal.specs.Limits.{mostLevels}
+use Rattle.refusal.specs.declared.Part.{Part}
 use Rattle.scalar.specs.Reading.{Got, got, bad}
 use Rattle.bencode.specs.Value.{Value, encode}
 use Rattle.bencode.specs.Decode.{valueOf, decode}

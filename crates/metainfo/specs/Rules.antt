@@ -8,9 +8,9 @@ use lib.ListN.{length}
 use Rattle.refusal.specs.Paper.{Outcome, taken, refused, map, then}
 use Rattle.refusal.specs.Numbers.{kind, range, name, pieces}
 use Rattle.refusal.specs.Limits.{longestFile, longestPiece}
+use Rattle.refusal.specs.declared.Part.{Part}
 use Rattle.bencode.specs.Value.{Value, Items, Entries, str, int, list, dict, none, item, encode}
 use Rattle.walk.specs.Lookup.{Under, nothing, under, lookup}
-use Rattle.walk.specs.declared.Part.{Part}
 use Rattle.fields.specs.Values.{partOf, stringAt, naturalAt, listAt, dictionaryAt, must}
 use Rattle.blocks.specs.Rules.{pieceLength, fileCount, piecesOf, totalAnd, sum}
 use Rattle.metainfo.specs.Keys.{announceKey, infoKey, filesKey, lengthKey, nameKey, pathKey, pieceLengthKey, piecesKey}

@@ -21,10 +21,10 @@ use blocks::rules;
 use blocks::rules::Total;
 use fields::Bytes;
 use fields::Natural;
+use refusal::Part;
 use refusal::Refusal;
 use refusal::limit;
 use refusal::number;
-use walk::Part;
 use walk::Past;
 use walk::Sought;
 

@@ -18,9 +18,9 @@ ghost use Rattle.metainfo.specs.Hashes.{infoHashOf};
 use bencode::Checked;
 use fields::Bytes;
 use fields::Inside;
+use refusal::Part;
 use refusal::Refusal;
 use sha1::Hashed;
-use walk::Part;
 use walk::Past;
 use walk::Sought;
 

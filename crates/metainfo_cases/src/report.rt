@@ -12,8 +12,8 @@ use metainfo::Content;
 use metainfo::Filed;
 use metainfo::Reading;
 use metainfo::Torrent;
+use refusal::Part;
 use sha1::Hashed;
-use walk::Part;
 
 // Each word of a line, by spaces, between what stands before and after it.
 pub fn each(before: &[u8], line: &[u8], after: &[u8]) {

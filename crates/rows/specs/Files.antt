@@ -3,7 +3,7 @@ use mathlib.Core.Bool.{Bool, cond}
 use mathlib.Core.List.{List, [], _∷_}
 use Prim.Native.Nat.{ℕ}
 use Rattle.refusal.specs.Paper.{Outcome, taken, refused}
-use Rattle.walk.specs.declared.Part.{Part}
+use Rattle.refusal.specs.declared.Part.{Part}
 use Rattle.metainfo.specs.declared.File.{File}
 use Rattle.contents.specs.declared.Entry.{Entry}
 use Rattle.contents.specs.Paths.{Step, element, done}

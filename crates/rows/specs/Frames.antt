@@ -2,11 +2,11 @@
 use mathlib.Core.List.{List, [], _∷_}
 use Prim.Native.Nat.{ℕ}
 use Rattle.refusal.specs.Paper.{Outcome, taken, refused}
+use Rattle.refusal.specs.declared.Part.{Part}
 use Rattle.wire.specs.Message.{Message, keepalive, choke, unchoke, interested, notInterested, have, bitfield, request, piece, cancel, other}
 use Rattle.wire.specs.Frames.{Found, wait, found}
 use Rattle.wire.specs.Handshake.{Shaken, hello}
 use Rattle.wire.specs.Handshake.{wait as awaited}
-use Rattle.wire.specs.declared.Part.{Part}
 
 abbrev pub row : ℕ → ℕ → ℕ → ℕ → ℕ → ℕ → ℕ → ℕ → List ℕ
 row kind used id p b l from len = kind ∷ used ∷ id ∷ p ∷ b ∷ l ∷ from ∷ len ∷ []

@@ -6,9 +6,9 @@ ghost use Rattle.rows.specs.Said.{numberOf};
 ghost use Rattle.rows.specs.Frames.{row, messageWords, frameDetail, shakeDetail};
 use crate::row::eight;
 use crate::row::six;
+use refusal::Part;
 use wire::Frame;
 use wire::Greeting;
-use wire::Part;
 use wire::Read;
 
 // The number of a frame that was read: 0 for a wait too.

@@ -7,11 +7,11 @@ use native.Mathlib.Omega.{arith}
 use lib.IntN.{pos}
 use lib.ListN.{length}
 use Rattle.refusal.specs.Paper.{Outcome, refused, then}
+use Rattle.refusal.specs.declared.Part.{Part}
 use Rattle.bencode.specs.Value.{Value, Entries, str, int, list, dict, encode, start}
 use Rattle.walk.specs.Stands.{Stands, StandEntries}
 use Rattle.walk.specs.Lookup.{lookup}
 use Rattle.walk.specs.Has.{Has}
-use Rattle.walk.specs.declared.Part.{Part}
 use Rattle.walk.proofs.Standing.{dictionary-stands}
 use Rattle.fields.specs.Values.{stringAt, must}
 use Rattle.blocks.specs.Rules.{PieceLength}

@@ -10,8 +10,8 @@ use lib.ListN.{length}
 use borrow.Author.Tests.{eqb-true, eq-eqb, leb-true, leb-false, le-leb}
 use Rattle.refusal.specs.Paper.{taken, refused}
 use Rattle.refusal.specs.Limits.{mostFiles, mostPieces}
+use Rattle.refusal.specs.declared.Part.{Part}
 use Rattle.refusal.proofs.Cases.{lt-or-le, both}
-use Rattle.walk.specs.declared.Part.{Part}
 use Rattle.blocks.specs.Rules.{fileCount, piecesOf, totalAnd, sum, PieceLength}
 use Rattle.blocks.proofs.Legal.{piece-bounds, starts-inside, is-piece}
 use Rattle.metainfo.specs.Rules.{sizedOf}

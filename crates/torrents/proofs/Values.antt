@@ -10,8 +10,8 @@ use lib.ListN.{length}
 use borrow.Author.Tests.{leb-true, leb-false}
 use Rattle.refusal.specs.Paper.{taken, refused, then}
 use Rattle.refusal.specs.Limits.{longestPiece}
+use Rattle.refusal.specs.declared.Part.{Part}
 use Rattle.bencode.specs.Value.{Value, str, int, list, dict}
-use Rattle.walk.specs.declared.Part.{Part}
 use Rattle.walk.specs.Stands.{Stands}
 use Rattle.fields.specs.Values.{partOf, stringAt, naturalAt}
 use Rattle.fields.proofs.Standing.{part-bytes}

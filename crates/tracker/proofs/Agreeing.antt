@@ -13,13 +13,13 @@ use Rattle.bencode.specs.Decode.{decode, closes}
 use Rattle.bencode.specs.Exact.{Fine}
 use Rattle.bencode.specs.Answers.{checkOf}
 use Rattle.refusal.specs.declared.Refusal.{Refusal}
+use Rattle.refusal.specs.declared.Part.{Part}
 use Rattle.bencode.proofs.Complete.{encode-pos}
 use Rattle.bencode.proofs.Exact.{taken-fine}
 use Rattle.walk.specs.Walk.{Head, Hit, found, missing, lookOf, skipOf}
 use Rattle.walk.specs.Walk as walk
 use Rattle.walk.specs.Stands.{Stands, StandItems, StandEntries}
 use Rattle.walk.specs.Lookup.{Under, nothing, under, lookup}
-use Rattle.walk.specs.declared.Part.{Part}
 use Rattle.walk.proofs.Standing.{room, fine-stands, skip-past, string-stands, integer-stands, list-stands, items-next, dictionary-stands, closes-none, closes-item}
 use Rattle.walk.proofs.Finding.{Says, it-is, it-is-not, found-stands, placeOf}
 use Rattle.fields.specs.Looks.{stringOf, naturalOf, dictionaryOf, needed, soughtFrom, soughtAfter}

@@ -8,6 +8,7 @@ use lib.IntN.{ℤ, pos, negsuc}
 use lib.ListN.{length, take, drop}
 use borrow.Author.Tests.{eq-eqb, eqb-true, leb-true, le-leb}
 use Rattle.refusal.specs.Paper.{Outcome, taken, refused, map, then}
+use Rattle.refusal.specs.declared.Part.{Part}
 use Rattle.refusal.proofs.Cases.{no-way}
 use Rattle.bencode.specs.Value.{Value, Items, Entries, str, int, list, dict, none, item, encode, start}
 use Rattle.bencode.specs.Decode.{decode}
@@ -16,7 +17,6 @@ use Rattle.bencode.proofs.Exact.{taken-fine, fine-taken}
 use Rattle.walk.specs.Has.{Has}
 use Rattle.walk.specs.Stands.{Stands, StandItems, StandEntries}
 use Rattle.walk.specs.Lookup.{Under, nothing, under, lookup}
-use Rattle.walk.specs.declared.Part.{Part}
 use Rattle.walk.proofs.Standing.{fine-stands, list-stands, items-next, dictionary-stands}
 use Rattle.walk.proofs.Finding.{found-stands}
 use Rattle.fields.specs.Looks.{ranged}

@@ -10,13 +10,13 @@ use lib.Seq.{drop-cons}
 use borrow.Author.Tests.{le-leb, lt-leb, eq-eqb, ne-eqb, lt-ltb, le-ltb}
 use Rattle.refusal.specs.Paper.{Outcome, taken, refused, refusal, map, then}
 use Rattle.refusal.specs.declared.Refusal.{Refusal}
+use Rattle.refusal.specs.declared.Part.{Part}
 use Rattle.walk.proofs.Seeking.{skip-further}
 use Rattle.bencode.specs.Value.{Value}
 use Rattle.bencode.specs.Decode.{closes}
 use Rattle.walk.specs.Walk.{Hit, Head, seekPaper, skipOf, pastPaper, lookOf, lookAt}
 use Rattle.scalar.specs.Reading.{onHead}
 use Rattle.walk.specs.Stands.{Stands}
-use Rattle.walk.specs.declared.Part.{Part}
 use Rattle.walk.specs.declared.Sought.{Sought}
 use Rattle.walk.specs.declared.Past.{Past}
 use Rattle.walk.specs.declared.Past.the-variants.{To, Bad}

@@ -9,6 +9,7 @@ use lib.ListN.{length, getD, drop, length-append}
 use lib.Seq.{getD-drop}
 use borrow.Author.Tests.{lt-ltb, le-ltb, ltb-true, ltb-false, le-leb}
 use Rattle.refusal.specs.Paper.{Outcome, taken, refused, map, then}
+use Rattle.refusal.specs.declared.Part.{Part}
 use Rattle.scalar.specs.Written.{decimal}
 use Rattle.bencode.specs.Value.{Value, Items, Entries, str, int, list, dict, none, item, encode, start}
 use Rattle.bencode.specs.Decode.{decode}
@@ -16,7 +17,6 @@ use Rattle.bencode.proofs.Exact.{taken-fine}
 use Rattle.walk.specs.Walk.{skipOf}
 use Rattle.walk.specs.Stands.{Stands, StandItems, StandEntries}
 use Rattle.walk.specs.Lookup.{Under, nothing, under, lookup}
-use Rattle.walk.specs.declared.Part.{Part}
 use Rattle.walk.proofs.Standing.{past, room, fine-stands, list-stands, items-next, dictionary-stands}
 use Rattle.walk.proofs.Finding.{found-stands}
 use Rattle.fields.specs.Values.{partOf, stringAt, naturalAt, dictionaryAt, must}

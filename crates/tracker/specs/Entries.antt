@@ -8,9 +8,9 @@ use lib.ListN.{length, getD, drop}
 use Rattle.refusal.specs.Paper.{Outcome, taken, refused, refusal, map, then}
 use Rattle.refusal.specs.Numbers.{cut, peer}
 use Rattle.refusal.specs.Limits.{largestPort}
+use Rattle.refusal.specs.declared.Part.{Part}
 use Rattle.bencode.specs.Decode.{closes}
 use Rattle.walk.specs.Walk.{Hit, skipOf}
-use Rattle.walk.specs.declared.Part.{Part}
 use Rattle.fields.specs.Looks.{stringOf, naturalOf, dictionaryOf, needed, soughtFrom, soughtAfter}
 use Rattle.tracker.specs.Keys.{ip, peerId, port}
 use Rattle.tracker.specs.declared.compact.Packed.{Packed}

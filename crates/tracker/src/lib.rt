@@ -14,10 +14,10 @@ use fields::Natural;
 use listed::Counted;
 use listed::Listed;
 use listed::Listing;
+use refusal::Part;
 use refusal::Refusal;
 use refusal::limit;
 use refusal::number;
-use walk::Part;
 use walk::Seen;
 use walk::Sought;
 

@@ -9,10 +9,10 @@ ghost use Rattle.tracker.specs.Entries.{idOf, listedPaper, peerBy, pastP
 use fields::Bytes;
 use fields::Inside;
 use fields::Natural;
+use refusal::Part;
 use refusal::Refusal;
 use refusal::limit;
 use refusal::number;
-use walk::Part;
 use walk::Past;
 use walk::Sought;
 

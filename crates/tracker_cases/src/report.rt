@@ -2,6 +2,7 @@
 use crate::words::find;
 use crate::words::write_out;
 use libc::STDOUT_FILENO;
+use refusal::Part;
 use tracker::Found;
 use tracker::Peers;
 use tracker::Reply;
@@ -9,7 +10,6 @@ use tracker::compact::Packed;
 use tracker::compact::Packing;
 use tracker::listed::Listed;
 use tracker::listed::Listing;
-use walk::Part;
 use writer::Put;
 
 // Each word of a line, by spaces.

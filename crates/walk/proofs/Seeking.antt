@@ -11,6 +11,7 @@ use borrow.Author.Tests.{lt-ltb, le-ltb, ltb-true, ltb-false}
 use Rattle.refusal.specs.Paper.{Outcome, taken, refused, refusal, then}
 use Rattle.refusal.specs.Numbers.{cut}
 use Rattle.refusal.specs.declared.Refusal.{Refusal}
+use Rattle.refusal.specs.declared.Part.{Part}
 use Rattle.refusal.proofs.Cases.{by-test}
 use Rattle.scalar.specs.Written.{decimal, written, inRange, keyLt}
 use Rattle.scalar.specs.Reading.{Got, got, bad, onHead, stringAt, integerAt}
@@ -20,7 +21,6 @@ use Rattle.bencode.specs.Value.{encode}
 use Rattle.scalar.proofs.Keys.{Comparing, comparing-less, comparing-greater, comparing-long, comparing-short}
 use Rattle.scalar.proofs.Ordering.{key-same}
 use Rattle.walk.specs.Walk.{Head, string, integer, long, list, dictionary, end, stringHead, integerHead, stringSeen, integerSeen, lookAt, lookOf, Due, key, close, dueOf, entryPaper, entryOf, pastPaper, skipOf, Hit, found, missing, orderOf, seekBy, seekOf}
-use Rattle.walk.specs.declared.Part.{Part}
 use Rattle.walk.specs.declared.Next.{Next}
 use Rattle.walk.specs.declared.Next.the-variants.{Key, Close, Not}
 use Rattle.walk.specs.declared.Order.{Order}

@@ -8,11 +8,11 @@ use lib.ListN.{length, take, drop}
 use Rattle.refusal.specs.Paper.{Outcome, taken, refused, refusal, then}
 use Rattle.refusal.specs.Numbers.{cut, byte}
 use Rattle.refusal.specs.Limits.{mostLevels}
+use Rattle.refusal.specs.declared.Part.{Part}
 use Rattle.scalar.specs.Written.{inRange, keyLt}
 use Rattle.scalar.specs.Reading.{Got, got, bad, onHead, stringAt, integerAt}
 use Rattle.bencode.specs.Value.{Value}
 use Rattle.bencode.specs.Decode.{valueOf}
-use Rattle.walk.specs.declared.Part.{Part}
 use Rattle.walk.specs.declared.Seen.{Seen}
 use Rattle.walk.specs.declared.Seen.the-variants.{String, Integer, Long, List as ListSeen, Dictionary, End, Refused}
 use Rattle.walk.specs.declared.Next.{Next}

@@ -2,21 +2,17 @@
 // and any place; on a text that `bencode::check` has taken, what it tells is the text's value, part by part.
 ghost use mathlib.Core.Path.{_≡_};
 ghost use Prim.Native.Nat.{ℕ, suc, _+_, _-_, _≤_, min};
-ghost use lib.ListN.{length, take, drop};
+ghost use lib.ListN.{length};
+ghost use Rattle.refusal.specs.Parts.{bytesAt};
 ghost use Rattle.walk.specs.Walk.{paper, stringSeen, integerSeen, lookOf, entryPaper, entryOf, pastPaper, skipOf, seekPaper, seekOf, orderOf};
 use bencode::Cursor;
 use bencode::Step;
+use refusal::Part;
 use refusal::Refusal;
 use refusal::limit;
 use refusal::number;
 use scalar::Int;
 use scalar::Text;
-
-// A part of the text: the place of its first byte, and how many they are.
-pub struct Part {
-    pub from: usize,
-    pub len: usize,
-}
 
 // What stands at a place. The last number is the place past it; of a list or dictionary it is the place of the first
 // item or key, or of the e.
@@ -130,7 +126,7 @@ pub fn skip(text: &[u8], at: usize) -> Past
 
 // The very part of the text, as far as the text goes.
 pub fn bytes(text: &[u8], p: Part) -> &[u8]
-    ensures same { λ r. ⌜ now r ≡ take (p .len) (drop (p .from) (now (text .entry))) ⌝ }
+    ensures same { λ r. ⌜ now r ≡ bytesAt (now (text .entry)) p ⌝ }
     ensures there { λ r. ⌜ (r .ptr .0 ≡ text .entry .ptr .0) × (r .ptr .1 ≡ text .entry .ptr .1 + min (p .from) (length (now (text .entry)))) ⌝ }
 {
     let from = least(p.from, text.len());

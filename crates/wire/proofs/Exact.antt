@@ -9,12 +9,13 @@ use lib.Seq.{take-nil, take-add, take-at, take-take, drop-at, drop-drop, drop-co
 use Rattle.refusal.specs.BigEndian.{Bytes, bigEndian, bytesOf}
 use Rattle.refusal.specs.Limits.{longestFrame}
 use Rattle.refusal.specs.Paper.{Outcome, taken, refused}
+use Rattle.refusal.specs.Parts.{bytesAt}
+use Rattle.refusal.specs.declared.Part.{Part}
 use Rattle.refusal.proofs.Bytes.{bigEndian-bytesOf, bytesOf-bigEndian}
 use Rattle.refusal.proofs.Places.{bytes-drop, bytes-take}
 use Rattle.wire.specs.Message.{Message, keepalive, word, body, framed, encode, Fields}
-use Rattle.wire.specs.Frames.{least, most, Allowed, Lengths, Keeps, Found, found, numberIn, messageIn, messageOf, readOf, bytesAt, meant, Stream, streamOf, encodeAll, KeepAll}
+use Rattle.wire.specs.Frames.{least, most, Allowed, Lengths, Keeps, Found, found, numberIn, messageIn, messageOf, readOf, meant, Stream, streamOf, encodeAll, KeepAll}
 use Rattle.wire.specs.Causes.{named, All, Right, Zero, Cause}
-use Rattle.wire.specs.declared.Part.{Part}
 use Rattle.wire.proofs.Steps.{most-most, least-least, message-map, message-same}
 use Rattle.wire.proofs.Bodies.{parse, Laid, laid, written}
 use Rattle.wire.proofs.Decided.{exactly, decides}

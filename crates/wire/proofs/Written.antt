@@ -12,16 +12,17 @@ use lib.Seq.{drop-append-seam}
 use Rattle.refusal.specs.Limits.{longestFrame}
 use Rattle.refusal.specs.Numbers.{frame, payload, room}
 use Rattle.refusal.specs.Paper.{Outcome, taken, refused}
+use Rattle.refusal.specs.Parts.{bytesAt}
+use Rattle.refusal.specs.declared.Part.{Part}
 use Rattle.refusal.proofs.Bytes.{length-bytesOf}
 use Rattle.refusal.proofs.Cases.{by-test}
 use Rattle.writer.specs.Put.{Left, left, paper, putOf}
 use Rattle.writer.specs.declared.Put.{Put}
 use Rattle.writer.proofs.Laws.{paper-apart, reads-back}
 use Rattle.wire.specs.Message.{Message, keepalive, word, body, framed, encode, Fields}
-use Rattle.wire.specs.Frames.{allowed, Allowed, Lengths, Found, found, readOf, meant, bytesAt, writeOf}
+use Rattle.wire.specs.Frames.{allowed, Allowed, Lengths, Found, found, readOf, meant, writeOf}
 use Rattle.wire.specs.Handshake.{handshake, zeros, hello, shakeOf}
 use Rattle.wire.specs.Causes.{WriteCause}
-use Rattle.wire.specs.declared.Part.{Part}
 use Rattle.wire.proofs.Steps.{most-most, allowed-true, allowed-false, allowed-if, allowed-not}
 use Rattle.wire.proofs.Exact.{Reads}
 use Rattle.wire.proofs.Exact.{reads-back as message-reads-back}

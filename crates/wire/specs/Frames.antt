@@ -8,9 +8,10 @@ use Rattle.refusal.specs.BigEndian.{bigEndian}
 use Rattle.refusal.specs.Limits.{longestFrame}
 use Rattle.refusal.specs.Numbers.{frame, payload}
 use Rattle.refusal.specs.Paper.{Outcome, taken, refused, refusal}
+use Rattle.refusal.specs.Parts.{bytesAt}
+use Rattle.refusal.specs.declared.Part.{Part}
 use Rattle.writer.specs.Put.{Left, left, putOf}
 use Rattle.wire.specs.Message.{Message, keepalive, choke, unchoke, interested, notInterested, have, bitfield, request, piece, cancel, other, body, framed, encode, Fields}
-use Rattle.wire.specs.declared.Part.{Part}
 use Rattle.wire.specs.declared.Frame.{Frame}
 use Rattle.wire.specs.declared.Frame.the-variants.{Choke, Unchoke, Interested, NotInterested, Have, Bitfield, Request, Piece, Cancel, Other}
 use Rattle.wire.specs.declared.Read.{Read}
@@ -114,10 +115,6 @@ paper (Whole f used) = taken (found (message f) used)
 paper (Refused r) = refusal r
 
 -- ---- what a message that was found means
-
--- the bytes that lie there
-abbrev pub bytesAt : List ℕ → Part → List ℕ
-bytesAt s p = take (p .len) (drop (p .from) s)
 
 abbrev pub map : {A B : Type 0} → (A → B) → Message A → Message B
 map f keepalive = keepalive

@@ -1,8 +1,8 @@
 // Words and numbers of a line.
 use libc::STDOUT_FILENO;
+use refusal::Part;
 use refusal::Refusal;
 use wire::Frame;
-use wire::Part;
 use wire::Read;
 use writer::Put;
 

@@ -10,6 +10,7 @@ use lib.Dec.{ltb, leb, eqb}
 use lib.ListN.{length, getD}
 use Rattle.refusal.specs.Paper.{Outcome, taken, refused, map, then}
 use Rattle.refusal.specs.Limits.{mostText, longestPiece, longestFrame, longestInterval}
+use Rattle.refusal.specs.declared.Part.{Part}
 use Rattle.writer.specs.Put.{Left, left, paper, putOf}
 use Rattle.writer.specs.declared.Put.{Put}
 use Rattle.writer.specs.declared.Put.the-variants.{Refused}
@@ -18,7 +19,6 @@ use Rattle.bencode.specs.Value.{Value, Items}
 use Rattle.bencode.specs.Decode.{decode}
 use Rattle.causes.proofs.Laws as bencode
 use Rattle.walk.specs.Lookup.{Under}
-use Rattle.walk.specs.declared.Part.{Part}
 use Rattle.sha1.specs.Digest.{digestOf, agreementOf}
 use Rattle.sha1.specs.Parts.{finishOf}
 use Rattle.sha1.specs.declared.stream.Stream.{Stream}

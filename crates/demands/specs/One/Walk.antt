@@ -2,10 +2,11 @@
 use mathlib.Core.List.{List}
 use mathlib.Core.Path.{_≡_}
 use Prim.Native.Nat.{ℕ, suc, _+_, min}
-use lib.ListN.{length, take, drop}
+use lib.ListN.{length}
+use Rattle.refusal.specs.Parts.{bytesAt}
+use Rattle.refusal.specs.declared.Part.{Part}
 use Rattle.walk.specs.Walk.{paper, lookOf, entryPaper, entryOf, seekPaper, seekOf, pastPaper, skipOf}
 use Rattle.walk.specs.declared.Next.{Next}
-use Rattle.walk.specs.declared.Part.{Part}
 use Rattle.walk.specs.declared.Past.{Past}
 use Rattle.walk.specs.declared.Seen.{Seen}
 use Rattle.walk.specs.declared.Sought.{Sought}
@@ -44,7 +45,7 @@ skip-determined text at r r′ e f = laws.skip-determined (now (text .entry)) at
 -- walk::bytes
 abbrev bytes-ensures : (text : Lent (List ℕ)) (p : Part) → Ref (List ℕ) → Type 0
 bytes-ensures text p r =
-    (now r ≡ take (p .len) (drop (p .from) (now (text .entry))))
+    (now r ≡ bytesAt (now (text .entry)) p)
     × ((r .ptr .0 ≡ text .entry .ptr .0) × (r .ptr .1 ≡ text .entry .ptr .1 + min (p .from) (length (now (text .entry)))))
 
 pub bytes-determined : (text : Lent (List ℕ)) (p : Part) → Determined (bytes-ensures text p)

@@ -11,19 +11,19 @@ use lib.IntN.{pos}
 use lib.ListN.{length, getD, take, drop, length-drop, take-append-drop}
 use lib.Seq.{take-append-le, drop-append-le, drop-drop}
 use Rattle.refusal.specs.Paper.{Outcome, taken, refused, then}
+use Rattle.refusal.specs.declared.Part.{Part}
 use Rattle.refusal.proofs.Outcomes.{then-taken}
 use Rattle.scalar.specs.Written.{keyLt}
 use Rattle.bencode.specs.Value.{Value, str, int, dict, empty, entry, count, Keeps}
 use Rattle.bencode.specs.Exact.{Fine}
 use Rattle.bencode.proofs.Exact.{fine-taken}
 use Rattle.walk.specs.Lookup.{lookup, sameKey}
-use Rattle.walk.specs.declared.Part as text
 use Rattle.fields.specs.Values.{partOf, dictionaryAt}
 use Rattle.writer.specs.Put.{putOf}
 use Rattle.sha1.specs.Sha1.{sha1}
 use Rattle.sha1.specs.Digest.{same}
 use Rattle.blocks.specs.Rules.{sum, Lawful, piecesOf, lawful}
-use Rattle.blocks.specs.Spans.{Span, Part, joined, lengths, heldIn, partsOf, part, nowhere, endOf}
+use Rattle.blocks.specs.Spans.{Span, FilePart, joined, lengths, heldIn, partsOf, part, nowhere, endOf}
 use Rattle.blocks.specs.Answers.{Spot, spotAt, pieces, keeps, lies, blockOf, byteOf, flat}
 use Rattle.blocks.specs.Answers.{written as partsIn, left as parting, Left as Parting}
 use Rattle.blocks.specs.Covers.{Block}
@@ -129,7 +129,7 @@ module _ (s : List ℕ) (n : ℕ) (m : List ℕ) where
 
 -- the hash of a piece by its number
 pub piece-hashed : (s : List ℕ) (n : ℕ) (v : Value) (t : Said) → Fine s v → IsTorrent v t
-    → (n < t .count → (x : text.Part) × (hashOf s n ≡ taken x) × (bytesOf s x ≡ take 20 (drop (20 * n) (t .pieces)))) × (t .count ≤ n → hashOf s n ≡ refused 31 0)
+    → (n < t .count → (x : Part) × (hashOf s n ≡ taken x) × (bytesOf s x ≡ take 20 (drop (20 * n) (t .pieces)))) × (t .count ≤ n → hashOf s n ≡ refused 31 0)
 piece-hashed s n v t f i =
     let y = torrent-exact s .every v t f i in
     let x = y .0 in
@@ -200,14 +200,14 @@ module _ (ns : List ℕ) (pl : ℕ) where
   keeps-is = joined-keeps ns pl
 
   module _ (p q n : ℕ) (o : List ℕ) where
-    parts-go : (b : Outcome (List Part)) (a : Outcome ℕ) (out : List ℕ) → parting a out ≡ partsIn b o → (k : ℕ) → a ≡ taken k
-        → (ps : List Part) × (b ≡ taken ps) × (k ≡ length ps) × (out ≡ flat ps ++ drop (3 * k) o) × (3 * length ps ≤ length o)
+    parts-go : (b : Outcome (List FilePart)) (a : Outcome ℕ) (out : List ℕ) → parting a out ≡ partsIn b o → (k : ℕ) → a ≡ taken k
+        → (ps : List FilePart) × (b ≡ taken ps) × (k ≡ length ps) × (out ≡ flat ps ++ drop (3 * k) o) × (3 * length ps ≤ length o)
     unfolding partsIn
     parts-go (refused x y) a out c k t = let d : refused x y ≡ taken k = sym (ap (λ (l : Parting). l .answer) c) ∙ t in no-way (cc)
     parts-go (taken ps) a out c k t = by (leb (3 * length ps) (length o)) refl c
       where
         by : (b : Bool) → leb (3 * length ps) (length o) ≡ b → parting a out ≡ cond b (parting (taken (length ps)) (flat ps ++ drop (3 * length ps) o)) (parting (refused 37 0) o)
-            → (qs : List Part) × (taken ps ≡ taken qs) × (k ≡ length qs) × (out ≡ flat qs ++ drop (3 * k) o) × (3 * length qs ≤ length o)
+            → (qs : List FilePart) × (taken ps ≡ taken qs) × (k ≡ length qs) × (out ≡ flat qs ++ drop (3 * k) o) × (3 * length qs ≤ length o)
         by true h d =
             let f : taken k ≡ taken (length ps) = sym t ∙ ap (λ (l : Parting). l .answer) d in
             let g : k ≡ length ps = cc in
@@ -215,7 +215,7 @@ module _ (ns : List ℕ) (pl : ℕ) where
         by false h d = let f : refused 37 0 ≡ taken k = sym (ap (λ (l : Parting). l .answer) d) ∙ t in no-way (cc)
 
     pub block-parts : (a : Outcome ℕ) (out : List ℕ) → parting a out ≡ partsIn (blockOf ss pl p q n) o → (k : ℕ) → a ≡ taken k
-        → (ps : List Part) × (blockOf ss pl p q n ≡ taken ps) × (k ≡ length ps) × (out ≡ flat ps ++ drop (3 * k) o) × (3 * length ps ≤ length o)
+        → (ps : List FilePart) × (blockOf ss pl p q n ≡ taken ps) × (k ≡ length ps) × (out ≡ flat ps ++ drop (3 * k) o) × (3 * length ps ≤ length o)
     block-parts = parts-go (blockOf ss pl p q n)
 
     abbrev Taken : Type 0
@@ -233,7 +233,7 @@ module _ (ns : List ℕ) (pl : ℕ) where
           l .some,
           l .most,
           omega (arith, l .ends, joined-held ns pl p),
-          subst (λ (x : List Part). 3 * length x ≤ length o) (sym (h .3)) (b .4),
+          subst (λ (x : List FilePart). 3 * length x ≤ length o) (sym (h .3)) (b .4),
         )
 
     pub block-takes : Taken → (k : ℕ) × (partsIn (blockOf ss pl p q n) o .answer ≡ taken k)

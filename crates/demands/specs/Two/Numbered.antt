@@ -7,11 +7,11 @@ use native.Mathlib.Omega.{arith}
 use lib.ListN.{length, getD, take, drop, take-append-drop}
 use lib.Seq.{take-append-seam}
 use Rattle.refusal.specs.Paper.{Outcome, taken, refused, then}
+use Rattle.refusal.specs.declared.Part.{Part}
 use Rattle.refusal.proofs.Outcomes.{then-taken}
 use Rattle.bencode.specs.Value.{Value, Items}
 use Rattle.bencode.specs.Decode.{decode}
 use Rattle.blocks.specs.Rules.{sum}
-use Rattle.walk.specs.declared.Part.{Part}
 use Rattle.metainfo.specs.Keys.{filesKey}
 use Rattle.metainfo.specs.Reading.{bytesOf, readOf, fileAt}
 use Rattle.metainfo.specs.Rules.{torrentOf}
