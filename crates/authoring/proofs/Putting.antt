@@ -5,9 +5,9 @@ use Prim.Native.Nat.{ℕ, _+_, _≤_}
 use native.Mathlib.Omega.{arith}
 use lib.ListN.{length, length-append}
 use Rattle.refusal.specs.Paper.{Outcome}
-use Rattle.scalar.specs.Written.{decimal, decimalIn, written}
+use Rattle.scalar.specs.Written.{decimal, decimalIn, writtenString}
 use Rattle.bencode.specs.Value.{encode}
-use Rattle.writer.specs.Put.{left, putOf, endOf, Ran}
+use Rattle.writer.specs.Put.{left, putOf, placePast, Ran}
 use Rattle.writer.proofs.Runs.{ran-then, ran-as, ran-room, ran-put}
 use Rattle.authoring.specs.Writing.{Fields, textOf}
 
@@ -40,11 +40,11 @@ e = 101 ∷ []
 -- all of it, from the parts that are put one after the other
 abbrev pub joined : Fields → List ℕ
 joined f =
-    (((((toAnnounce ++ written (f .announce))
+    (((((toAnnounce ++ writtenString (f .announce))
     ++ (toLength ++ (decimal (f .length) ++ e)))
-    ++ (toName ++ written (f .name)))
+    ++ (toName ++ writtenString (f .name)))
     ++ (toPieceLength ++ (decimal (f .pieceLength) ++ e)))
-    ++ (toPieces ++ written (f .pieces)))
+    ++ (toPieces ++ writtenString (f .pieces)))
     ++ (101 ∷ e)
 
 regroup : (A a I L l E N n P p Q q : List ℕ)
@@ -55,17 +55,17 @@ regroup A a I L l E N n P p Q q = simp append-assoc
 pub parts : (f : Fields) → textOf f ≡ joined f
 unfolding encode decimalIn
 parts f =
-    regroup toAnnounce (written (f .announce)) (52 ∷ 58 ∷ 105 ∷ 110 ∷ 102 ∷ 111 ∷ 100 ∷ []) (54 ∷ 58 ∷ 108 ∷ 101 ∷ 110 ∷ 103 ∷ 116 ∷ 104 ∷ 105 ∷ []) (decimal (f .length)) e toName (written (f .name)) toPieceLength (decimal (f .pieceLength)) toPieces (written (f .pieces))
+    regroup toAnnounce (writtenString (f .announce)) (52 ∷ 58 ∷ 105 ∷ 110 ∷ 102 ∷ 111 ∷ 100 ∷ []) (54 ∷ 58 ∷ 108 ∷ 101 ∷ 110 ∷ 103 ∷ 116 ∷ 104 ∷ 105 ∷ []) (decimal (f .length)) e toName (writtenString (f .name)) toPieceLength (decimal (f .pieceLength)) toPieces (writtenString (f .pieces))
 
 module _ (f : Fields) where
   -- how long the text is
-  pub size : length (textOf f) ≡ length (written (f .announce)) + length (written (f .name)) + length (written (f .pieces)) + length (decimal (f .pieceLength)) + length (decimal (f .length)) + 61
+  pub size : length (textOf f) ≡ length (writtenString (f .announce)) + length (writtenString (f .name)) + length (writtenString (f .pieces)) + length (decimal (f .pieceLength)) + length (decimal (f .length)) + 61
   size =
-      let w₁ : List ℕ = toAnnounce ++ written (f .announce) in
+      let w₁ : List ℕ = toAnnounce ++ writtenString (f .announce) in
       let v₂ : List ℕ = toLength ++ (decimal (f .length) ++ e) in
-      let v₃ : List ℕ = toName ++ written (f .name) in
+      let v₃ : List ℕ = toName ++ writtenString (f .name) in
       let v₄ : List ℕ = toPieceLength ++ (decimal (f .pieceLength) ++ e) in
-      let v₅ : List ℕ = toPieces ++ written (f .pieces) in
+      let v₅ : List ℕ = toPieces ++ writtenString (f .pieces) in
       ap length (parts f)
       ∙ omega (
         arith,
@@ -74,31 +74,31 @@ module _ (f : Fields) where
         length-append ((w₁ ++ v₂) ++ v₃) v₄,
         length-append (w₁ ++ v₂) v₃,
         length-append w₁ v₂,
-        length-append toAnnounce (written (f .announce)),
+        length-append toAnnounce (writtenString (f .announce)),
         length-append toLength (decimal (f .length) ++ e),
         length-append (decimal (f .length)) e,
-        length-append toName (written (f .name)),
+        length-append toName (writtenString (f .name)),
         length-append toPieceLength (decimal (f .pieceLength) ++ e),
         length-append (decimal (f .pieceLength)) e,
-        length-append toPieces (written (f .pieces)),
+        length-append toPieces (writtenString (f .pieces)),
       )
 
 -- the parts one after the other, where the whole text fits
 module _ (f : Fields) (o : List ℕ) (h : length (textOf f) ≤ length o) where
   abbrev v₁ : List ℕ
-  v₁ = toAnnounce ++ written (f .announce)
+  v₁ = toAnnounce ++ writtenString (f .announce)
 
   abbrev v₂ : List ℕ
   v₂ = toLength ++ (decimal (f .length) ++ e)
 
   abbrev v₃ : List ℕ
-  v₃ = toName ++ written (f .name)
+  v₃ = toName ++ writtenString (f .name)
 
   abbrev v₄ : List ℕ
   v₄ = toPieceLength ++ (decimal (f .pieceLength) ++ e)
 
   abbrev v₅ : List ℕ
-  v₅ = toPieces ++ written (f .pieces)
+  v₅ = toPieces ++ writtenString (f .pieces)
 
   fits₆ : 0 + length (joined f) ≤ length o
   fits₆ = omega (arith, ap length (parts f))
@@ -143,7 +143,7 @@ module _ (f : Fields) (o : List ℕ) (h : length (textOf f) ≤ length o) where
           pub room-pieces : d + length v₅ ≤ length o₄
           room-pieces = ran-room r₄ v₅ fits₅
 
-          pub all-put : {i j : ℕ} {o₅ o₆ : List ℕ} {a : Outcome ℕ} → Ran v₅ d o₄ i o₅ → left a o₆ ≡ putOf (101 ∷ e) i o₅ → j ≡ endOf a → Ran (textOf f) 0 o j o₆
+          pub all-put : {i j : ℕ} {o₅ o₆ : List ℕ} {a : Outcome ℕ} → Ran v₅ d o₄ i o₅ → left a o₆ ≡ putOf (101 ∷ e) i o₅ → j ≡ placePast a → Ran (textOf f) 0 o j o₆
           all-put p₅ g k =
               let r₅ = ran-then r₄ p₅ in
               ran-as (ran-put r₅ (101 ∷ e) fits₆ g k) (sym (parts f))

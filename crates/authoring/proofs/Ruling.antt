@@ -9,7 +9,7 @@ use lib.ListN.{length}
 use Rattle.refusal.specs.Paper.{Outcome, taken, refused, then}
 use Rattle.refusal.specs.Limits.{longestPiece, mostText}
 use Rattle.refusal.specs.declared.Part.{Part}
-use Rattle.scalar.specs.Written.{written}
+use Rattle.scalar.specs.Written.{writtenString}
 use Rattle.bencode.specs.Value.{Value, str, int, encode}
 use Rattle.walk.specs.Lookup.{nothing, under, lookup, sameKey}
 use Rattle.fields.specs.Values.{partOf, stringAt}
@@ -25,22 +25,22 @@ use Rattle.authoring.specs.Rules.{pieceCount, ruled, Ruled, Broken, bad-
 -- ---- where the values stand
 
 abbrev pub announcePlace : ℕ
-announcePlace = 1 + length (written announceKey)
+announcePlace = 1 + length (writtenString announceKey)
 
 abbrev pub infoPlace : Value → ℕ
-infoPlace a = announcePlace + length (encode a) + length (written infoKey)
+infoPlace a = announcePlace + length (encode a) + length (writtenString infoKey)
 
 abbrev pub lengthPlace : Value → ℕ
-lengthPlace a = infoPlace a + 1 + length (written lengthKey)
+lengthPlace a = infoPlace a + 1 + length (writtenString lengthKey)
 
 abbrev pub namePlace : Value → Value → ℕ
-namePlace a l = lengthPlace a + length (encode l) + length (written nameKey)
+namePlace a l = lengthPlace a + length (encode l) + length (writtenString nameKey)
 
 abbrev pub piecePlace : Value → Value → Value → ℕ
-piecePlace a l n = namePlace a l + length (encode n) + length (written pieceLengthKey)
+piecePlace a l n = namePlace a l + length (encode n) + length (writtenString pieceLengthKey)
 
 abbrev pub piecesPlace : Value → Value → Value → Value → ℕ
-piecesPlace a l n pl = piecePlace a l n + length (encode pl) + length (written piecesKey)
+piecesPlace a l n pl = piecePlace a l n + length (encode pl) + length (writtenString piecesKey)
 
 -- the reader's checks of a torrent with only those keys, one after the other
 module _ (a l n pl ps : Value) where

@@ -9,7 +9,7 @@ use lib.ListN.{length, length-append}
 use borrow.Author.Tests.{eq-eqb, ne-eqb, lt-ltb, le-ltb, ltb-true, ltb-false, eqb-true}
 use Rattle.refusal.specs.Paper.{Outcome, taken, refused, then}
 use Rattle.refusal.proofs.Cases.{no-way}
-use Rattle.scalar.specs.Written.{decimal, written}
+use Rattle.scalar.specs.Written.{decimal, writtenString}
 use Rattle.writer.specs.Put.{left, putOf, Ran}
 use Rattle.writer.specs.Put.{paper as putPaper}
 use Rattle.writer.specs.declared.Put.{Put}
@@ -25,7 +25,7 @@ use Rattle.authoring.specs.declared.Sized.the-variants as sized
 use Rattle.authoring.proofs.Putting.{size}
 use Rattle.authoring.proofs.Ruling.{Judged, kept, broken, judged, ruled-broken, ruled-kept, limited, size-ruled}
 
-pub written-size : (bs : List ℕ) → length (written bs) ≡ length (decimal (length bs)) + 1 + length bs
+pub written-size : (bs : List ℕ) → length (writtenString bs) ≡ length (decimal (length bs)) + 1 + length bs
 written-size bs = omega (arith, length-append (decimal (length bs)) (58 ∷ bs))
 
 module _ (f : Fields) where

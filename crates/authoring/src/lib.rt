@@ -5,7 +5,7 @@ ghost use Prim.Native.Nat.{_+_, _≤_};
 ghost use lib.ListN.{length as lengthOf};
 ghost use Rattle.refusal.specs.Numbers.{room};
 ghost use Rattle.refusal.specs.Limits.{mostText};
-ghost use Rattle.scalar.specs.Written.{decimal, written};
+ghost use Rattle.scalar.specs.Written.{decimal, writtenString};
 ghost use Rattle.writer.specs.Put.{left, Ran};
 ghost use Rattle.writer.specs.Put.{paper as putPaper};
 ghost use Rattle.authoring.specs.Writing.{fields, textOf, sizeOf, writeOf, paper};
@@ -104,8 +104,8 @@ fn put_all(
 
 // Puts what leads to a string, and the string; gives the place past it.
 fn put_string(out: &mut [u8], at: usize, lead: &[u8], bytes: &[u8]) -> usize
-    requires { ⌜ at + lengthOf (now lead ++ written (now bytes)) ≤ lengthOf (now out) ⌝ }
-    ensures { λ r. ⌜ Ran (now (lead .entry) ++ written (now (bytes .entry))) at (now (out .entry)) r (now (out .exit)) ⌝ }
+    requires { ⌜ at + lengthOf (now lead ++ writtenString (now bytes)) ≤ lengthOf (now out) ⌝ }
+    ensures { λ r. ⌜ Ran (now (lead .entry) ++ writtenString (now (bytes .entry))) at (now (out .entry)) r (now (out .exit)) ⌝ }
 {
     let a = end(writer::literal(out, at, lead));
     end(writer::string(out, a, bytes))
@@ -124,7 +124,7 @@ fn put_number(out: &mut [u8], at: usize, lead: &[u8], n: u64) -> usize
 // How many bytes a string has as it is written.
 fn string_size(bytes: &[u8]) -> usize
     requires { ⌜ lengthOf (now bytes) ≤ mostText ⌝ }
-    ensures { λ r. ⌜ (r ≡ lengthOf (written (now (bytes .entry)))) × (r ≤ mostText + 21) ⌝ }
+    ensures { λ r. ⌜ (r ≡ lengthOf (writtenString (now (bytes .entry)))) × (r ≤ mostText + 21) ⌝ }
 {
     digits(bytes.len() as u64) + 1 + bytes.len()
 }

@@ -8,31 +8,31 @@ use lib.Dec.{ltb, eqb}
 use lib.IntN.{ℤ}
 use lib.ListN.{length, drop, length-append}
 use borrow.Author.Tests.{lt-ltb, ne-eqb}
-use Rattle.scalar.specs.Written.{written, signed, writtenInt, inRange}
+use Rattle.scalar.specs.Written.{writtenString, signed, writtenInt, inRange}
 use Rattle.scalar.specs.Reading.{Got, got, bad, mapGot, onHead, isDigit, stringOf, integerOf}
 use Rattle.scalar.proofs.Decimal.{digit-range}
 use Rattle.scalar.proofs.Complete.{numeral, Key, string-complete, int-complete}
 use Rattle.bencode.specs.Value.{Value, Items, Entries, str, int, list, dict, none, item, empty, entry, encode, encodeItems, encodeEntries, count, countItems, countEntries, Keeps, KeepsItems, KeepsEntries, Prev, start, last, follows}
-use Rattle.bencode.specs.Decode.{Kind, digit, letterI, letterL, letterD, other, kindOf, begin, ranged, valueBy, closes, itemsOf, keyOf, entriesOf, valueOf}
+use Rattle.bencode.specs.Decode.{Kind, digit, letterI, letterL, letterD, other, kindOf, begin, ranged, valueBy, closes, itemsOf, keyOf, entriesOf, valueFrom}
 
 -- the value at a byte
 module _ (e : ℕ) (t : List ℕ) (p n : ℕ) (few : n < 16384) where
-  pub str-here : (d b : ℕ) → kindOf b ≡ digit → valueOf d e (b ∷ t) p n ≡ mapGot str (stringOf e b t p (n + 1))
-  unfolding valueOf
+  pub str-here : (d b : ℕ) → kindOf b ≡ digit → valueFrom d e (b ∷ t) p n ≡ mapGot str (stringOf e b t p (n + 1))
+  unfolding valueFrom
   str-here zero b k = rw (k, lt-ltb n 16384 few)
   str-here (suc d) b k = rw (k, lt-ltb n 16384 few)
 
-  pub int-here : (d : ℕ) → valueOf d e (105 ∷ t) p n ≡ mapGot int (ranged p (integerOf e t (p + 1) (n + 1)))
-  unfolding valueOf kindOf
+  pub int-here : (d : ℕ) → valueFrom d e (105 ∷ t) p n ≡ mapGot int (ranged p (integerOf e t (p + 1) (n + 1)))
+  unfolding valueFrom kindOf
   int-here zero = rw (lt-ltb n 16384 few)
   int-here (suc d) = rw (lt-ltb n 16384 few)
 
-  pub list-here : (d : ℕ) → valueOf (suc d) e (108 ∷ t) p n ≡ mapGot list (itemsOf (suc e) (valueOf d e) e t (p + 1) (n + 1))
-  unfolding valueOf kindOf
+  pub list-here : (d : ℕ) → valueFrom (suc d) e (108 ∷ t) p n ≡ mapGot list (itemsOf (suc e) (valueFrom d e) e t (p + 1) (n + 1))
+  unfolding valueFrom kindOf
   list-here d = rw (lt-ltb n 16384 few)
 
-  pub dict-here : (d : ℕ) → valueOf (suc d) e (100 ∷ t) p n ≡ mapGot dict (entriesOf (suc e) (valueOf d e) e start t (p + 1) (n + 1))
-  unfolding valueOf kindOf
+  pub dict-here : (d : ℕ) → valueFrom (suc d) e (100 ∷ t) p n ≡ mapGot dict (entriesOf (suc e) (valueFrom d e) e start t (p + 1) (n + 1))
+  unfolding valueFrom kindOf
   dict-here d = rw (lt-ltb n 16384 few)
 
 pub kind-digit : (b : ℕ) → isDigit b ≡ true → kindOf b ≡ digit
@@ -76,7 +76,7 @@ entries-none (suc f) e val prev r p n h i = refl
 
 pub entries-entry : (f e : ℕ) (val : List ℕ → ℕ → ℕ → Got Value) (prev : Prev) (l : List ℕ) (p n : ℕ) (k l₁ : List ℕ) (y : Key e k l₁ p) (v : Value) (l₂ : List ℕ) (r m : ℕ) (es : Entries) (l₃ : List ℕ) (q j : ℕ)
     → e < p + f → p ≤ e → n < 16384 → l ≡ y .first ∷ y .rest → follows prev k ≡ true
-    → val l₁ (p + length (written k)) (n + 1) ≡ got v l₂ r m → ((g : ℕ) → e < p + suc g → entriesOf g val e (last k) l₂ r m ≡ got es l₃ q j) → entriesOf f val e prev l p n ≡ got (entry k v es) l₃ q j
+    → val l₁ (p + length (writtenString k)) (n + 1) ≡ got v l₂ r m → ((g : ℕ) → e < p + suc g → entriesOf g val e (last k) l₂ r m ≡ got es l₃ q j) → entriesOf f val e prev l p n ≡ got (entry k v es) l₃ q j
 unfolding entriesOf keyOf
 entries-entry zero e val prev l p n k l₁ y v l₂ r m es l₃ q j h i s x w z g = absurd (omega arith)
 entries-entry (suc f) e val prev l p n k l₁ y v l₂ r m es l₃ q j h i s x w z g =
@@ -89,10 +89,10 @@ places x y = rw (x, y)
 mutual
   unfolding encode count Keeps
 
-  pub complete : (v : Value) (d e : ℕ) (r : List ℕ) (p n : ℕ) → Keeps v d → p + length (encode v ++ r) ≡ e → n + count v ≤ 16384 → valueOf d e (encode v ++ r) p n ≡ got v r (p + length (encode v)) (n + count v)
+  pub complete : (v : Value) (d e : ℕ) (r : List ℕ) (p n : ℕ) → Keeps v d → p + length (encode v ++ r) ≡ e → n + count v ≤ 16384 → valueFrom d e (encode v ++ r) p n ≡ got v r (p + length (encode v)) (n + count v)
   complete (str k) d e r p n h x c =
       let y = string-complete e k r p x in
-      ap (λ (l : List ℕ). valueOf d e l p n) (y .text) ∙ str-here e (y .rest) p n (omega arith) d (y .first) (kind-digit (y .first) (y .starts)) ∙ ap (mapGot str) (y .reads (n + 1))
+      ap (λ (l : List ℕ). valueFrom d e l p n) (y .text) ∙ str-here e (y .rest) p n (omega arith) d (y .first) (kind-digit (y .first) (y .starts)) ∙ ap (mapGot str) (y .reads (n + 1))
   complete (int z) d e r p n h x c = int-here e ((signed z ++ 101 ∷ []) ++ r) p n (omega arith) d ∙ ap (λ (g : Got ℤ). mapGot int (ranged p g)) (int-complete e p z r (n + 1)) ∙ rw h
   complete (list vs) d e r p n h x c =
       rw (h .1) (list-here e (encodeItems vs ++ r) p n (omega arith) (h .0)
@@ -104,32 +104,32 @@ mutual
       ∙ places (omega arith) (omega arith))
 
   pub complete-items : (vs : Items) (d e : ℕ) (r : List ℕ) (p n f : ℕ) → KeepsItems vs d → p + length (encodeItems vs ++ r) ≡ e → n + countItems vs ≤ 16384 → e < p + f
-      → itemsOf f (valueOf d e) e (encodeItems vs ++ r) p n ≡ got vs r (p + length (encodeItems vs)) (n + countItems vs)
-  complete-items none d e r p n f h x c l = items-none f e (valueOf d e) r p n l (omega arith) ∙ places refl (omega arith)
+      → itemsOf f (valueFrom d e) e (encodeItems vs ++ r) p n ≡ got vs r (p + length (encodeItems vs)) (n + countItems vs)
+  complete-items none d e r p n f h x c l = items-none f e (valueFrom d e) r p n l (omega arith) ∙ places refl (omega arith)
   complete-items (item v vs) d e r p n f h x c l =
       let b = first-byte v in
       let a = append-assoc (encode v) (encodeItems vs) r in
       let z : p + length (encode v ++ (encodeItems vs ++ r)) ≡ e = omega (arith, ap length a) in
       let w : length (encode v ++ (encodeItems vs ++ r)) ≡ length (encode v) + length (encodeItems vs ++ r) = length-append (encode v) (encodeItems vs ++ r) in
-      rw a (items-item f e (valueOf d e) (encode v ++ (encodeItems vs ++ r)) p n (b .0) (b .1 ++ (encodeItems vs ++ r)) v (encodeItems vs ++ r) (p + length (encode v)) (n + count v) vs r
+      rw a (items-item f e (valueFrom d e) (encode v ++ (encodeItems vs ++ r)) p n (b .0) (b .1 ++ (encodeItems vs ++ r)) v (encodeItems vs ++ r) (p + length (encode v)) (n + count v) vs r
       (p + length (encode v ++ encodeItems vs)) (n + (count v + countItems vs)) l (omega arith) (ap (λ (t : List ℕ). t ++ (encodeItems vs ++ r)) (b .2)) (b .3)
       (complete v d e (encodeItems vs ++ r) p n (h .0) z (omega arith))
       (λ g k. complete-items vs d e r (p + length (encode v)) (n + count v) g (h .1) (omega arith) (omega arith) (omega (arith, encode-pos v))
       ∙ places (omega (arith, length-append (encode v) (encodeItems vs))) (omega arith)))
 
   pub complete-entries : (es : Entries) (d e : ℕ) (prev : Prev) (r : List ℕ) (p n f : ℕ) → KeepsEntries es d prev → p + length (encodeEntries es ++ r) ≡ e → n + countEntries es ≤ 16384 → e < p + f
-      → entriesOf f (valueOf d e) e prev (encodeEntries es ++ r) p n ≡ got es r (p + length (encodeEntries es)) (n + countEntries es)
-  complete-entries empty d e prev r p n f h x c l = entries-none f e (valueOf d e) prev r p n l (omega arith) ∙ places refl (omega arith)
+      → entriesOf f (valueFrom d e) e prev (encodeEntries es ++ r) p n ≡ got es r (p + length (encodeEntries es)) (n + countEntries es)
+  complete-entries empty d e prev r p n f h x c l = entries-none f e (valueFrom d e) prev r p n l (omega arith) ∙ places refl (omega arith)
   complete-entries (entry k v es) d e prev r p n f h x c l =
-      let a : (written k ++ (encode v ++ encodeEntries es)) ++ r ≡ written k ++ (encode v ++ (encodeEntries es ++ r)) =
-      append-assoc (written k) (encode v ++ encodeEntries es) r ∙ ap (λ (t : List ℕ). written k ++ t) (append-assoc (encode v) (encodeEntries es) r) in
-      let z : p + length (written k ++ (encode v ++ (encodeEntries es ++ r))) ≡ e = omega (arith, ap length a) in
-      let u : length (written k ++ (encode v ++ (encodeEntries es ++ r))) ≡ length (written k) + length (encode v ++ (encodeEntries es ++ r)) = length-append (written k) (encode v ++ (encodeEntries es ++ r)) in
+      let a : (writtenString k ++ (encode v ++ encodeEntries es)) ++ r ≡ writtenString k ++ (encode v ++ (encodeEntries es ++ r)) =
+      append-assoc (writtenString k) (encode v ++ encodeEntries es) r ∙ ap (λ (t : List ℕ). writtenString k ++ t) (append-assoc (encode v) (encodeEntries es) r) in
+      let z : p + length (writtenString k ++ (encode v ++ (encodeEntries es ++ r))) ≡ e = omega (arith, ap length a) in
+      let u : length (writtenString k ++ (encode v ++ (encodeEntries es ++ r))) ≡ length (writtenString k) + length (encode v ++ (encodeEntries es ++ r)) = length-append (writtenString k) (encode v ++ (encodeEntries es ++ r)) in
       let w : length (encode v ++ (encodeEntries es ++ r)) ≡ length (encode v) + length (encodeEntries es ++ r) = length-append (encode v) (encodeEntries es ++ r) in
       let y = string-complete e k (encode v ++ (encodeEntries es ++ r)) p z in
-      rw a (entries-entry f e (valueOf d e) prev (written k ++ (encode v ++ (encodeEntries es ++ r))) p n k (encode v ++ (encodeEntries es ++ r)) y v (encodeEntries es ++ r)
-      (p + length (written k) + length (encode v)) (n + 1 + count v) es r (p + length (written k ++ (encode v ++ encodeEntries es))) (n + suc (count v + countEntries es))
+      rw a (entries-entry f e (valueFrom d e) prev (writtenString k ++ (encode v ++ (encodeEntries es ++ r))) p n k (encode v ++ (encodeEntries es ++ r)) y v (encodeEntries es ++ r)
+      (p + length (writtenString k) + length (encode v)) (n + 1 + count v) es r (p + length (writtenString k ++ (encode v ++ encodeEntries es))) (n + suc (count v + countEntries es))
       l (omega arith) (omega arith) (y .text) (h .0)
-      (complete v d e (encodeEntries es ++ r) (p + length (written k)) (n + 1) (h .1) (omega arith) (omega arith))
-      (λ g j. complete-entries es d e (last k) r (p + length (written k) + length (encode v)) (n + 1 + count v) g (h .2) (omega arith) (omega arith) (omega (arith, encode-pos v))
-      ∙ places (omega (arith, length-append (written k) (encode v ++ encodeEntries es), length-append (encode v) (encodeEntries es))) (omega arith)))
+      (complete v d e (encodeEntries es ++ r) (p + length (writtenString k)) (n + 1) (h .1) (omega arith) (omega arith))
+      (λ g j. complete-entries es d e (last k) r (p + length (writtenString k) + length (encode v)) (n + 1 + count v) g (h .2) (omega arith) (omega arith) (omega (arith, encode-pos v))
+      ∙ places (omega (arith, length-append (writtenString k) (encode v ++ encodeEntries es), length-append (encode v) (encodeEntries es))) (omega arith)))

@@ -14,7 +14,7 @@ use Rattle.refusal.specs.declared.Refusal.{Refusal}
 use Rattle.scalar.specs.Reading.{Got, got, bad}
 use Rattle.scalar.proofs.Sound.{Holds}
 use Rattle.bencode.specs.Value.{Value, encode, count, Keeps}
-use Rattle.bencode.specs.Decode.{valueOf, wholeOf, decode}
+use Rattle.bencode.specs.Decode.{valueFrom, wholeOf, decode}
 use Rattle.bencode.specs.Answers.{paper, checkOf, stepOf}
 use Rattle.bencode.specs.Exact.{Fine, Exactly}
 use Rattle.bencode.specs.declared.Cursor.{Cursor}
@@ -39,16 +39,16 @@ decode-says : (s : List ℕ) → Says s (decode s)
 unfolding decode
 decode-says s = go (ltb 1048576 (length s)) refl
   where
-    go : (b : Bool) → ltb 1048576 (length s) ≡ b → Says s (cond b (refused long 0) (wholeOf (valueOf 32 (length s) s 0 0)))
+    go : (b : Bool) → ltb 1048576 (length s) ≡ b → Says s (cond b (refused long 0) (wholeOf (valueFrom 32 (length s) s 0 0)))
     go true e = tt
-    go false e = got-says s (ltb-false 1048576 (length s) e) (valueOf 32 (length s) s 0 0) (value-sound 32 (length s) s 0 0 (omega arith))
+    go false e = got-says s (ltb-false 1048576 (length s) e) (valueFrom 32 (length s) s 0 0) (value-sound 32 (length s) s 0 0 (omega arith))
 
 encoded : (v : Value) → Keeps v 32 → count v ≤ 16384 → length (encode v) ≤ 1048576 → decode (encode v) ≡ taken v
 unfolding decode
 encoded v k f h =
     let a : encode v ++ [] ≡ encode v = append-nil (encode v) in
-    let c : valueOf 32 (length (encode v)) (encode v ++ []) 0 0 ≡ got v [] (0 + length (encode v)) (0 + count v) = complete v 32 (length (encode v)) [] 0 0 k (omega (arith, ap length a)) (omega arith) in
-    let d : valueOf 32 (length (encode v)) (encode v) 0 0 ≡ got v [] (0 + length (encode v)) (0 + count v) = ap (λ (l : List ℕ). valueOf 32 (length (encode v)) l 0 0) (sym a) ∙ c in
+    let c : valueFrom 32 (length (encode v)) (encode v ++ []) 0 0 ≡ got v [] (0 + length (encode v)) (0 + count v) = complete v 32 (length (encode v)) [] 0 0 k (omega (arith, ap length a)) (omega arith) in
+    let d : valueFrom 32 (length (encode v)) (encode v) 0 0 ≡ got v [] (0 + length (encode v)) (0 + count v) = ap (λ (l : List ℕ). valueFrom 32 (length (encode v)) l 0 0) (sym a) ∙ c in
     rw (le-ltb 1048576 (length (encode v)) h, d)
 
 -- taken as v exactly when the text is the encoding of v and v keeps the limits
@@ -82,19 +82,19 @@ unfolding decode
 check-long s h = rw (lt-ltb 1048576 (length s) h)
 
 module _ (s : List ℕ) (h : length s ≤ 1048576) where
-  pub check-bad : (r : Refusal) → Bad r ≡ stepOf (valueOf 32 (length s) s 0 0) → paper (Refused r) ≡ checkOf s
+  pub check-bad : (r : Refusal) → Bad r ≡ stepOf (valueFrom 32 (length s) s 0 0) → paper (Refused r) ≡ checkOf s
   unfolding decode
-  check-bad r e = rw (le-ltb 1048576 (length s) h, bad-got (valueOf 32 (length s) s 0 0) r e)
+  check-bad r e = rw (le-ltb 1048576 (length s) h, bad-got (valueFrom 32 (length s) s 0 0) r e)
 
-  taken-with : (v : Value) (p m : ℕ) → valueOf 32 (length s) s 0 0 ≡ got v (drop p s) p m → m ≡ count v → length s ≤ p → taken m ≡ checkOf s
+  taken-with : (v : Value) (p m : ℕ) → valueFrom 32 (length s) s 0 0 ≡ got v (drop p s) p m → m ≡ count v → length s ≤ p → taken m ≡ checkOf s
   unfolding decode
   taken-with v p m e k l = rw (le-ltb 1048576 (length s) h, e, drop-of-length-le s l, k)
 
-  more-with : (v : Value) (p m : ℕ) → valueOf 32 (length s) s 0 0 ≡ got v (drop p s) p m → p < length s → refused after p ≡ checkOf s
+  more-with : (v : Value) (p m : ℕ) → valueFrom 32 (length s) s 0 0 ≡ got v (drop p s) p m → p < length s → refused after p ≡ checkOf s
   unfolding decode
   more-with v p m e l = rw (le-ltb 1048576 (length s) h, e, drop-cons s p 0 l)
 
-  module _ (c : Cursor) (e : Past c ≡ stepOf (valueOf 32 (length s) s 0 0)) where
+  module _ (c : Cursor) (e : Past c ≡ stepOf (valueFrom 32 (length s) s 0 0)) where
     pub check-more : c .at < length s → refused after (c .at) ≡ checkOf s
     check-more l = let w = past-got s 32 0 0 (omega arith) c e in more-with (w .what) (c .at) (c .count) (w .is) l
 

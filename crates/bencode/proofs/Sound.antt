@@ -10,11 +10,11 @@ use lib.ListN.{length, drop}
 use borrow.Author.Tests.{ltb-true, eqb-true}
 use Rattle.refusal.specs.Numbers.{byte, order, integer, many}
 use Rattle.refusal.proofs.Cases.{by-test}
-use Rattle.scalar.specs.Written.{written, writtenInt, inRange}
+use Rattle.scalar.specs.Written.{writtenString, writtenInt, inRange}
 use Rattle.scalar.specs.Reading.{Got, got, bad, andThen, mapGot, onHead, isDigit, stringOf, integerOf}
 use Rattle.scalar.proofs.Sound.{Holds, holds-map, holds-then, holds-cond, At, at-then, at-byte, at-left, TextP, string-sound, IntP, int-sound}
 use Rattle.bencode.specs.Value.{Value, Items, Entries, str, int, list, dict, none, item, empty, entry, encode, encodeItems, encodeEntries, count, countItems, countEntries, Keeps, KeepsItems, KeepsEntries, Prev, start, last, follows}
-use Rattle.bencode.specs.Decode.{Kind, digit, letterI, letterL, letterD, other, kindOf, begin, ranged, valueBy, closes, itemsBy, itemsOf, ordered, keyOf, entriesBy, entriesOf, valueOf}
+use Rattle.bencode.specs.Decode.{Kind, digit, letterI, letterL, letterD, other, kindOf, begin, ranged, valueBy, closes, itemsBy, itemsOf, ordered, keyOf, entriesBy, entriesOf, valueFrom}
 
 holds-begin : {A : Type 0} (P : A → List ℕ → ℕ → ℕ → Type 0) (n p : ℕ) (g : Got A) → (n < 16384 → Holds P g) → Holds P (begin n p g)
 holds-begin P n p g h = holds-cond P (ltb n 16384) g (bad many p) (λ e. h (ltb-true n 16384 e)) (λ e. tt)
@@ -157,12 +157,12 @@ value-by d e b t p n ls ds x letterL v hl hd = holds-begin (Took (b ∷ t) d p n
 value-by d e b t p n ls ds x letterD v hl hd = holds-begin (Took (b ∷ t) d p n) n p _ (λ l. holds-map (Took (b ∷ t) d p n) dict (ds t (p + 1) (n + 1)) (hd v l))
 
 -- What is taken stands there as it is written, is counted, and keeps the rules.
-pub value-sound : (d e : ℕ) (l : List ℕ) (p n : ℕ) → p + length l ≡ e → Holds (Took l d p n) (valueOf d e l p n)
-unfolding valueOf
+pub value-sound : (d e : ℕ) (l : List ℕ) (p n : ℕ) → p + length l ≡ e → Holds (Took l d p n) (valueFrom d e l p n)
+unfolding valueFrom
 value-sound zero e [] p n x = tt
 value-sound zero e (b ∷ t) p n x = value-by 0 e b t p n _ _ x (kindOf b) (kind-view b) (λ y h. tt) (λ y h. tt)
 value-sound (suc d) e [] p n x = tt
 value-sound (suc d) e (b ∷ t) p n x =
     value-by (suc d) e b t p n _ _ x (kindOf b) (kind-view b)
-    (λ y h. value-list (b ∷ t) d p n h t (ap (λ (c : ℕ). c ∷ t) y) (itemsOf (suc e) (valueOf d e) e t (p + 1) (n + 1)) (items-sound d e (valueOf d e) (value-sound d e) (suc e) t (p + 1) (n + 1) (omega arith) (omega arith)))
-    (λ y h. value-dict (b ∷ t) d p n h t (ap (λ (c : ℕ). c ∷ t) y) (entriesOf (suc e) (valueOf d e) e start t (p + 1) (n + 1)) (entries-sound d e (valueOf d e) (value-sound d e) (suc e) start t (p + 1) (n + 1) (omega arith) (omega arith)))
+    (λ y h. value-list (b ∷ t) d p n h t (ap (λ (c : ℕ). c ∷ t) y) (itemsOf (suc e) (valueFrom d e) e t (p + 1) (n + 1)) (items-sound d e (valueFrom d e) (value-sound d e) (suc e) t (p + 1) (n + 1) (omega arith) (omega arith)))
+    (λ y h. value-dict (b ∷ t) d p n h t (ap (λ (c : ℕ). c ∷ t) y) (entriesOf (suc e) (valueFrom d e) e start t (p + 1) (n + 1)) (entries-sound d e (valueFrom d e) (value-sound d e) (suc e) start t (p + 1) (n + 1) (omega arith) (omega arith)))

@@ -12,7 +12,7 @@ use borrow.Author.Tests.{lt-ltb, le-ltb, ne-eqb, eq-eqb, eqb-true, eqb-false}
 use Rattle.refusal.specs.Numbers.{cut, byte, order, integer, deep, many}
 use Rattle.refusal.specs.declared.Refusal.{Refusal}
 use Rattle.refusal.proofs.Cases.{no-way}
-use Rattle.scalar.specs.Written.{decimal, written, inRange}
+use Rattle.scalar.specs.Written.{decimal, writtenString, inRange}
 use Rattle.scalar.specs.Reading.{Got, got, bad, andThen, mapGot, onHead, isDigit, stringOf, stringAt, integerOf, integerAt}
 use Rattle.scalar.specs.Answers.{textOf, integerIs}
 use Rattle.scalar.specs.declared.Text.{Text}
@@ -23,7 +23,7 @@ use Rattle.scalar.proofs.Decimal.{digit-range}
 use Rattle.scalar.proofs.Forms.{at-head, at-byte}
 use Rattle.scalar.proofs.Sound.{Holds, At as Stood, at-left, IntP, integer-at-sound}
 use Rattle.bencode.specs.Value.{Value, Items, Entries, str, int, list, dict, item, entry, count, Prev, start, last, follows}
-use Rattle.bencode.specs.Decode.{Kind, digit, letterI, letterL, letterD, other, kindOf, begun, begin, ranged, valueBy, closes, itemsBy, itemsOf, ordered, keyOf, entriesBy, entriesOf, valueOf}
+use Rattle.bencode.specs.Decode.{Kind, digit, letterI, letterL, letterD, other, kindOf, begun, begin, ranged, valueBy, closes, itemsBy, itemsOf, ordered, keyOf, entriesBy, entriesOf, valueFrom}
 use Rattle.bencode.specs.Answers.{stepOf, prevIs, prevOf, keyIs}
 use Rattle.bencode.specs.declared.Cursor.{Cursor}
 use Rattle.bencode.specs.declared.Key.{Key}
@@ -55,8 +55,8 @@ past-by s d p n c (got v r q m) e h =
     record { what = v; is = rw (rest-is s (h .at), x, y); further = omega (arith, h .at .place, encode-pos v); counted = omega (arith, h .counted) }
 past-by s d p n c (bad r q) e h = no-way (cc)
 
-pub past-got : (s : List ℕ) (d p n : ℕ) → p ≤ length s → (c : Cursor) → Past c ≡ stepOf (valueOf d (length s) (drop p s) p n) → Read s d p n c (valueOf d (length s) (drop p s) p n)
-past-got s d p n h c e = past-by s d p n c (valueOf d (length s) (drop p s) p n) e (value-sound d (length s) (drop p s) p n (omega (arith, length-drop p s)))
+pub past-got : (s : List ℕ) (d p n : ℕ) → p ≤ length s → (c : Cursor) → Past c ≡ stepOf (valueFrom d (length s) (drop p s) p n) → Read s d p n c (valueFrom d (length s) (drop p s) p n)
+past-got s d p n h c e = past-by s d p n c (valueFrom d (length s) (drop p s) p n) e (value-sound d (length s) (drop p s) p n (omega (arith, length-drop p s)))
 
 pub bad-got : {A : Type 0} (g : Got A) (r : Refusal) → Bad r ≡ stepOf g → g ≡ bad (r .number) (r .place)
 bad-got (got v l p m) r e = no-way (cc)
@@ -111,10 +111,10 @@ kind-opens b h x d = opens-by b h x d (eqb b 108) refl
 
 module _ (s : List ℕ) (p n : ℕ) where
   abbrev here : ℕ → Step
-  here d = stepOf (valueOf d (length s) (drop p s) p n)
+  here d = stepOf (valueFrom d (length s) (drop p s) p n)
 
-  pub value-out : (d : ℕ) → length s ≤ p → valueOf d (length s) (drop p s) p n ≡ bad cut (length s)
-  unfolding valueOf
+  pub value-out : (d : ℕ) → length s ≤ p → valueFrom d (length s) (drop p s) p n ≡ bad cut (length s)
+  unfolding valueFrom
   value-out zero h = rw (drop-of-length-le s h)
   value-out (suc d) h = rw (drop-of-length-le s h)
 
@@ -140,46 +140,46 @@ module _ (s : List ℕ) (p n : ℕ) where
   deep-by letterD x h = rw (lt-ltb n 16384 h)
 
   module _ (l : p < length s) where
-    pub value-wrong : (d : ℕ) → begun (kindOf (getD s p 0)) ≡ false → valueOf d (length s) (drop p s) p n ≡ bad byte p
-    unfolding valueOf
+    pub value-wrong : (d : ℕ) → begun (kindOf (getD s p 0)) ≡ false → valueFrom d (length s) (drop p s) p n ≡ bad byte p
+    unfolding valueFrom
     value-wrong zero e = rw (at-head s p l) (wrong-by (kindOf (getD s p 0)) _ _ e)
     value-wrong (suc d) e = rw (at-head s p l) (wrong-by (kindOf (getD s p 0)) _ _ e)
 
-    pub value-many : (d : ℕ) → begun (kindOf (getD s p 0)) ≡ true → 16384 ≤ n → valueOf d (length s) (drop p s) p n ≡ bad many p
-    unfolding valueOf
+    pub value-many : (d : ℕ) → begun (kindOf (getD s p 0)) ≡ true → 16384 ≤ n → valueFrom d (length s) (drop p s) p n ≡ bad many p
+    unfolding valueFrom
     value-many zero e h = rw (at-head s p l) (many-by (kindOf (getD s p 0)) _ _ e h)
     value-many (suc d) e h = rw (at-head s p l) (many-by (kindOf (getD s p 0)) _ _ e h)
 
-    pub value-deep : (d : ℕ) → d ≡ 0 → Opens (kindOf (getD s p 0)) → n < 16384 → valueOf d (length s) (drop p s) p n ≡ bad deep p
-    unfolding valueOf
+    pub value-deep : (d : ℕ) → d ≡ 0 → Opens (kindOf (getD s p 0)) → n < 16384 → valueFrom d (length s) (drop p s) p n ≡ bad deep p
+    unfolding valueFrom
     value-deep zero x e h = rw (at-head s p l) (deep-by (kindOf (getD s p 0)) e h)
     value-deep (suc d) x e h = absurd (omega arith)
 
     pub value-int : (d : ℕ) → getD s p 0 ≡ 105 → n < 16384 → stepOf (ranged p (integerAt (length s) (drop p s) p (n + 1))) ≡ here d
-    unfolding valueOf
+    unfolding valueFrom
     value-int zero e h = rw (at-byte s p 105 l e, kind-I 105 refl, lt-ltb n 16384 h) (sym (step-map int (ranged p (integerOf (length s) (drop (p + 1) s) (p + 1) (n + 1)))))
     value-int (suc d) e h = rw (at-byte s p 105 l e, kind-I 105 refl, lt-ltb n 16384 h) (sym (step-map int (ranged p (integerOf (length s) (drop (p + 1) s) (p + 1) (n + 1)))))
 
     pub value-str : (d : ℕ) → isDigit (getD s p 0) ≡ true → n < 16384 → stepOf (stringAt (length s) (drop p s) p (n + 1)) ≡ here d
-    unfolding valueOf
+    unfolding valueFrom
     value-str zero e h = rw (at-head s p l, e, kind-digit (getD s p 0) e, lt-ltb n 16384 h) (sym (step-map str (stringOf (length s) (getD s p 0) (drop (p + 1) s) p (n + 1))))
     value-str (suc d) e h = rw (at-head s p l, e, kind-digit (getD s p 0) e, lt-ltb n 16384 h) (sym (step-map str (stringOf (length s) (getD s p 0) (drop (p + 1) s) p (n + 1))))
 
     pub value-list : (d : ℕ) → (d ≡ 0 → ⊥) → kindOf (getD s p 0) ≡ letterL → n < 16384
-        → stepOf (itemsOf (suc (length s)) (valueOf (d - 1) (length s)) (length s) (drop (p + 1) s) (p + 1) (n + 1)) ≡ here d
-    unfolding valueOf
+        → stepOf (itemsOf (suc (length s)) (valueFrom (d - 1) (length s)) (length s) (drop (p + 1) s) (p + 1) (n + 1)) ≡ here d
+    unfolding valueFrom
     value-list zero x e h = absurd (x refl)
     value-list (suc d) x e h =
         let y : suc d - 1 ≡ d = omega arith in
-        rw (y, at-head s p l, e, lt-ltb n 16384 h) (sym (step-map list (itemsOf (suc (length s)) (valueOf d (length s)) (length s) (drop (p + 1) s) (p + 1) (n + 1))))
+        rw (y, at-head s p l, e, lt-ltb n 16384 h) (sym (step-map list (itemsOf (suc (length s)) (valueFrom d (length s)) (length s) (drop (p + 1) s) (p + 1) (n + 1))))
 
     pub value-dict : (d : ℕ) → (d ≡ 0 → ⊥) → kindOf (getD s p 0) ≡ letterD → n < 16384
-        → stepOf (entriesOf (suc (length s)) (valueOf (d - 1) (length s)) (length s) start (drop (p + 1) s) (p + 1) (n + 1)) ≡ here d
-    unfolding valueOf
+        → stepOf (entriesOf (suc (length s)) (valueFrom (d - 1) (length s)) (length s) start (drop (p + 1) s) (p + 1) (n + 1)) ≡ here d
+    unfolding valueFrom
     value-dict zero x e h = absurd (x refl)
     value-dict (suc d) x e h =
         let y : suc d - 1 ≡ d = omega arith in
-        rw (y, at-head s p l, e, lt-ltb n 16384 h) (sym (step-map dict (entriesOf (suc (length s)) (valueOf d (length s)) (length s) start (drop (p + 1) s) (p + 1) (n + 1))))
+        rw (y, at-head s p l, e, lt-ltb n 16384 h) (sym (step-map dict (entriesOf (suc (length s)) (valueFrom d (length s)) (length s) start (drop (p + 1) s) (p + 1) (n + 1))))
 
 -- whether a list or dictionary ends at p
 closes-no : (s : List ℕ) (p : ℕ) → p < length s → (getD s p 0 ≡ 101 → ⊥) → closes (drop p s) ≡ false
@@ -192,17 +192,17 @@ closes-out s p h = rw (drop-of-length-le s h)
 pub record ListTurn (s : List ℕ) (d p₀ n₀ p n : ℕ) : Type 0 where
   pub left : ℕ
   pub enough : length s < p + left
-  pub same : stepOf (itemsOf left (valueOf d (length s)) (length s) (drop p s) p n) ≡ stepOf (itemsOf (suc (length s)) (valueOf d (length s)) (length s) (drop p₀ s) p₀ n₀)
+  pub same : stepOf (itemsOf left (valueFrom d (length s)) (length s) (drop p s) p n) ≡ stepOf (itemsOf (suc (length s)) (valueFrom d (length s)) (length s) (drop p₀ s) p₀ n₀)
 
 pub list-start : (s : List ℕ) (d p n : ℕ) → ListTurn s d p n p n
 list-start s d p n = record { left = suc (length s); enough = omega arith; same = refl }
 
 module _ (s : List ℕ) (d p₀ n₀ p n : ℕ) where
   abbrev goal : Step
-  goal = stepOf (itemsOf (suc (length s)) (valueOf d (length s)) (length s) (drop p₀ s) p₀ n₀)
+  goal = stepOf (itemsOf (suc (length s)) (valueFrom d (length s)) (length s) (drop p₀ s) p₀ n₀)
 
   abbrev turn : ℕ → Got Items
-  turn f = itemsOf f (valueOf d (length s)) (length s) (drop p s) p n
+  turn f = itemsOf f (valueFrom d (length s)) (length s) (drop p s) p n
 
   close-with : (f : ℕ) → length s < p + f → p < length s → getD s p 0 ≡ 101 → Past (record { at = p + 1; count = n }) ≡ stepOf (turn f)
   unfolding itemsOf
@@ -213,15 +213,15 @@ module _ (s : List ℕ) (d p₀ n₀ p n : ℕ) where
   list-close t l x = close-with (t .left) (t .enough) l x ∙ t .same
 
   items-turn : (f : ℕ) → closes (drop p s) ≡ false
-      → turn (suc f) ≡ andThen (valueOf d (length s) (drop p s) p n) (λ v r q m. mapGot (item v) (itemsOf f (valueOf d (length s)) (length s) r q m))
+      → turn (suc f) ≡ andThen (valueFrom d (length s) (drop p s) p n) (λ v r q m. mapGot (item v) (itemsOf f (valueFrom d (length s)) (length s) r q m))
   unfolding itemsOf
   items-turn f a = rw a
 
-  bad-with : (f : ℕ) (r : Refusal) → length s < p + f → p < length s → closes (drop p s) ≡ false → Bad r ≡ stepOf (valueOf d (length s) (drop p s) p n) → Bad r ≡ stepOf (turn f)
+  bad-with : (f : ℕ) (r : Refusal) → length s < p + f → p < length s → closes (drop p s) ≡ false → Bad r ≡ stepOf (valueFrom d (length s) (drop p s) p n) → Bad r ≡ stepOf (turn f)
   bad-with zero r h l x e = absurd (omega arith)
-  bad-with (suc f) r h l x e = rw (items-turn f x, bad-got (valueOf d (length s) (drop p s) p n) r e)
+  bad-with (suc f) r h l x e = rw (items-turn f x, bad-got (valueFrom d (length s) (drop p s) p n) r e)
 
-  pub list-bad : ListTurn s d p₀ n₀ p n → (r : Refusal) → p < length s → (getD s p 0 ≡ 101 → ⊥) → Bad r ≡ stepOf (valueOf d (length s) (drop p s) p n) → Bad r ≡ goal
+  pub list-bad : ListTurn s d p₀ n₀ p n → (r : Refusal) → p < length s → (getD s p 0 ≡ 101 → ⊥) → Bad r ≡ stepOf (valueFrom d (length s) (drop p s) p n) → Bad r ≡ goal
   list-bad t r l x e = bad-with (t .left) r (t .enough) l (closes-no s p l x) e ∙ t .same
 
   out-with : (f : ℕ) → length s ≤ p → Bad (record { number = cut; place = length s }) ≡ stepOf (turn f)
@@ -232,7 +232,7 @@ module _ (s : List ℕ) (d p₀ n₀ p n : ℕ) where
   pub list-out : ListTurn s d p₀ n₀ p n → length s ≤ p → Bad (record { number = cut; place = length s }) ≡ goal
   list-out t h = out-with (t .left) h ∙ t .same
 
-  more-with : (f : ℕ) → length s < p + f → stepOf (turn f) ≡ goal → p < length s → closes (drop p s) ≡ false → (c : Cursor) → Past c ≡ stepOf (valueOf d (length s) (drop p s) p n)
+  more-with : (f : ℕ) → length s < p + f → stepOf (turn f) ≡ goal → p < length s → closes (drop p s) ≡ false → (c : Cursor) → Past c ≡ stepOf (valueFrom d (length s) (drop p s) p n)
       → (p < c .at) × ListTurn s d p₀ n₀ (c .at) (c .count)
   more-with zero h e l x c g = absurd (omega arith)
   more-with (suc f) h e l x c g =
@@ -241,11 +241,11 @@ module _ (s : List ℕ) (d p₀ n₀ p n : ℕ) where
         record {
           left = f;
           enough = omega (arith, w .further);
-          same = sym (step-map (item (w .what)) (itemsOf f (valueOf d (length s)) (length s) (drop (c .at) s) (c .at) (c .count))) ∙ (rw (items-turn f x, w .is) at e);
+          same = sym (step-map (item (w .what)) (itemsOf f (valueFrom d (length s)) (length s) (drop (c .at) s) (c .at) (c .count))) ∙ (rw (items-turn f x, w .is) at e);
         },
       )
 
-  pub list-more : ListTurn s d p₀ n₀ p n → p < length s → (getD s p 0 ≡ 101 → ⊥) → (c : Cursor) → Past c ≡ stepOf (valueOf d (length s) (drop p s) p n)
+  pub list-more : ListTurn s d p₀ n₀ p n → p < length s → (getD s p 0 ≡ 101 → ⊥) → (c : Cursor) → Past c ≡ stepOf (valueFrom d (length s) (drop p s) p n)
       → (p < c .at) × ListTurn s d p₀ n₀ (c .at) (c .count)
   list-more t l x c g = more-with (t .left) (t .enough) (t .same) l (closes-no s p l x) c g
 
@@ -254,7 +254,7 @@ pub key-further : (s : List ℕ) (before : Prev) (p n a m : ℕ) → p ≤ lengt
 key-further s before p n a m h e =
     let w = key-sound (length s) before (drop p s) p n (omega (arith, length-drop p s)) in
     let v : KeyP (drop p s) before p n (take m (drop a s)) (drop (a + m) s) (a + m) (n + 1) = subst (Holds (KeyP (drop p s) before p n)) (sym e) w in
-    let k : length (written (take m (drop a s))) ≡ length (decimal (length (take m (drop a s)))) + suc (length (take m (drop a s))) = length-append (decimal (length (take m (drop a s)))) (58 ∷ take m (drop a s)) in
+    let k : length (writtenString (take m (drop a s))) ≡ length (decimal (length (take m (drop a s)))) + suc (length (take m (drop a s))) = length-append (decimal (length (take m (drop a s)))) (58 ∷ take m (drop a s)) in
     let z : a + m + length (drop (a + m) s) ≡ length s = at-left (v .0 .0) (omega (arith, length-drop p s)) in
     (omega (arith, v .0 .0 .place), omega (arith, length-drop (a + m) s), v .2)
 
@@ -263,17 +263,17 @@ pub record DictTurn (s : List ℕ) (d p₀ n₀ : ℕ) (p n : ℕ) (before : Key
   pub left : ℕ
   pub enough : length s < p + left
   pub within : before .from + before .size ≤ length s
-  pub same : stepOf (entriesOf left (valueOf d (length s)) (length s) (prevOf s before) (drop p s) p n) ≡ stepOf (entriesOf (suc (length s)) (valueOf d (length s)) (length s) start (drop p₀ s) p₀ n₀)
+  pub same : stepOf (entriesOf left (valueFrom d (length s)) (length s) (prevOf s before) (drop p s) p n) ≡ stepOf (entriesOf (suc (length s)) (valueFrom d (length s)) (length s) start (drop p₀ s) p₀ n₀)
 
 pub dict-start : (s : List ℕ) (d p n : ℕ) → DictTurn s d p n p n (record { some = false; from = 0; size = 0 })
 dict-start s d p n = record { left = suc (length s); enough = omega arith; within = omega arith; same = refl }
 
 module _ (s : List ℕ) (d p₀ n₀ p n : ℕ) (before : Key) where
   abbrev goal-dict : Step
-  goal-dict = stepOf (entriesOf (suc (length s)) (valueOf d (length s)) (length s) start (drop p₀ s) p₀ n₀)
+  goal-dict = stepOf (entriesOf (suc (length s)) (valueFrom d (length s)) (length s) start (drop p₀ s) p₀ n₀)
 
   abbrev turn-dict : ℕ → Got Entries
-  turn-dict f = entriesOf f (valueOf d (length s)) (length s) (prevOf s before) (drop p s) p n
+  turn-dict f = entriesOf f (valueFrom d (length s)) (length s) (prevOf s before) (drop p s) p n
 
   dclose-with : (f : ℕ) → length s < p + f → p < length s → getD s p 0 ≡ 101 → Past (record { at = p + 1; count = n }) ≡ stepOf (turn-dict f)
   unfolding entriesOf
@@ -293,7 +293,7 @@ module _ (s : List ℕ) (d p₀ n₀ p n : ℕ) (before : Key) where
 
   -- what is left of a turn, by the key that the code found
   entries-turn : (f : ℕ) → closes (drop p s) ≡ false → (k : Found) → keyIs s n k ≡ keyOf (length s) (prevOf s before) (drop p s) p n
-      → turn-dict (suc f) ≡ andThen (keyIs s n k) (λ j l₁ p₁ n₁. andThen (valueOf d (length s) l₁ p₁ n₁) (λ v l₂ p₂ n₂. mapGot (entry j v) (entriesOf f (valueOf d (length s)) (length s) (last j) l₂ p₂ n₂)))
+      → turn-dict (suc f) ≡ andThen (keyIs s n k) (λ j l₁ p₁ n₁. andThen (valueFrom d (length s) l₁ p₁ n₁) (λ v l₂ p₂ n₂. mapGot (entry j v) (entriesOf f (valueFrom d (length s)) (length s) (last j) l₂ p₂ n₂)))
   unfolding entriesOf
   entries-turn f x k e = rw (x, ← e)
 
@@ -307,14 +307,14 @@ module _ (s : List ℕ) (d p₀ n₀ p n : ℕ) (before : Key) where
     dict-not r e = dnot-with (t .left) r (t .enough) e ∙ t .same
 
     module _ (a m : ℕ) (e : keyIs s n (At a m) ≡ keyOf (length s) (prevOf s before) (drop p s) p n) where
-      dbad-with : (f : ℕ) (r : Refusal) → length s < p + f → Bad r ≡ stepOf (valueOf d (length s) (drop (a + m) s) (a + m) (n + 1)) → Bad r ≡ stepOf (turn-dict f)
+      dbad-with : (f : ℕ) (r : Refusal) → length s < p + f → Bad r ≡ stepOf (valueFrom d (length s) (drop (a + m) s) (a + m) (n + 1)) → Bad r ≡ stepOf (turn-dict f)
       dbad-with zero r h y = absurd (omega arith)
-      dbad-with (suc f) r h y = rw (entries-turn f (closes-no s p l x) (At a m) e, bad-got (valueOf d (length s) (drop (a + m) s) (a + m) (n + 1)) r y)
+      dbad-with (suc f) r h y = rw (entries-turn f (closes-no s p l x) (At a m) e, bad-got (valueFrom d (length s) (drop (a + m) s) (a + m) (n + 1)) r y)
 
-      pub dict-bad : (r : Refusal) → Bad r ≡ stepOf (valueOf d (length s) (drop (a + m) s) (a + m) (n + 1)) → Bad r ≡ goal-dict
+      pub dict-bad : (r : Refusal) → Bad r ≡ stepOf (valueFrom d (length s) (drop (a + m) s) (a + m) (n + 1)) → Bad r ≡ goal-dict
       dict-bad r y = dbad-with (t .left) r (t .enough) y ∙ t .same
 
-      dmore-with : (f : ℕ) → length s < p + f → stepOf (turn-dict f) ≡ goal-dict → (c : Cursor) → Past c ≡ stepOf (valueOf d (length s) (drop (a + m) s) (a + m) (n + 1))
+      dmore-with : (f : ℕ) → length s < p + f → stepOf (turn-dict f) ≡ goal-dict → (c : Cursor) → Past c ≡ stepOf (valueFrom d (length s) (drop (a + m) s) (a + m) (n + 1))
           → (p < c .at) × DictTurn s d p₀ n₀ (c .at) (c .count) (record { some = true; from = a; size = m })
       dmore-with zero h z c y = absurd (omega arith)
       dmore-with (suc f) h z c y =
@@ -325,12 +325,12 @@ module _ (s : List ℕ) (d p₀ n₀ p n : ℕ) (before : Key) where
               left = f;
               enough = omega (arith, w .further, u .0);
               within = u .1;
-              same = sym (step-map (entry (take m (drop a s)) (w .what)) (entriesOf f (valueOf d (length s)) (length s) (last (take m (drop a s))) (drop (c .at) s) (c .at) (c .count)))
+              same = sym (step-map (entry (take m (drop a s)) (w .what)) (entriesOf f (valueFrom d (length s)) (length s) (last (take m (drop a s))) (drop (c .at) s) (c .at) (c .count)))
                   ∙ (rw (entries-turn f (closes-no s p l x) (At a m) e, w .is) at z);
             },
           )
 
-      pub dict-more : (c : Cursor) → Past c ≡ stepOf (valueOf d (length s) (drop (a + m) s) (a + m) (n + 1))
+      pub dict-more : (c : Cursor) → Past c ≡ stepOf (valueFrom d (length s) (drop (a + m) s) (a + m) (n + 1))
           → (p < c .at) × DictTurn s d p₀ n₀ (c .at) (c .count) (record { some = true; from = a; size = m })
       dict-more c y = dmore-with (t .left) (t .enough) (t .same) c y
 

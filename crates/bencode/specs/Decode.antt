@@ -77,12 +77,12 @@ entriesOf zero value e prev l p n = bad cut e
 entriesOf (suc f) value e prev l p n = entriesBy (closes l) value (entriesOf f value e) e prev l p n
 
 -- a value, with d more levels of lists and dictionaries
-unfoldable pub valueOf : ℕ → ℕ → List ℕ → ℕ → ℕ → Got Value
-valueOf zero e l p n = onHead l (bad cut e) (λ b t. valueBy (kindOf b) (λ r q m. bad deep p) (λ r q m. bad deep p) e b t p n)
-valueOf (suc d) e l p n =
+unfoldable pub valueFrom : ℕ → ℕ → List ℕ → ℕ → ℕ → Got Value
+valueFrom zero e l p n = onHead l (bad cut e) (λ b t. valueBy (kindOf b) (λ r q m. bad deep p) (λ r q m. bad deep p) e b t p n)
+valueFrom (suc d) e l p n =
     onHead l (bad cut e) (λ b t. valueBy (kindOf b)
-    (λ r q m. itemsOf (suc e) (valueOf d e) e r q m)
-    (λ r q m. entriesOf (suc e) (valueOf d e) e start r q m)
+    (λ r q m. itemsOf (suc e) (valueFrom d e) e r q m)
+    (λ r q m. entriesOf (suc e) (valueFrom d e) e start r q m)
     e b t p n)
 
 -- the whole text is one value
@@ -92,4 +92,4 @@ wholeOf (got v (b ∷ t) p n) = refused after p
 wholeOf (bad r p) = refused r p
 
 unfoldable pub decode : List ℕ → Outcome Value
-decode s = let r : Outcome Value = wholeOf (valueOf mostLevels (length s) s 0 0) in cond (ltb mostText (length s)) (refused long 0) r
+decode s = let r : Outcome Value = wholeOf (valueFrom mostLevels (length s) s 0 0) in cond (ltb mostText (length s)) (refused long 0) r

@@ -4,7 +4,7 @@ use mathlib.Core.Bool.{Bool, true}
 use mathlib.Core.List.{List, [], _∷_, _++_}
 use Prim.Native.Nat.{ℕ, suc, _+_}
 use lib.IntN.{ℤ}
-use Rattle.scalar.specs.Written.{written, writtenInt, inRange, keyLt}
+use Rattle.scalar.specs.Written.{writtenString, writtenInt, inRange, keyLt}
 
 mutual
   pub data Value : Type 0 where
@@ -24,7 +24,7 @@ mutual
 -- a list is l, its items and e; a dictionary is d, its keys and values in turn and e
 unfoldable mutual
   pub encode : Value → List ℕ
-  encode (str bs) = written bs
+  encode (str bs) = writtenString bs
   encode (int z) = writtenInt z
   encode (list vs) = 108 ∷ encodeItems vs
   encode (dict es) = 100 ∷ encodeEntries es
@@ -35,7 +35,7 @@ unfoldable mutual
 
   pub encodeEntries : Entries → List ℕ
   encodeEntries empty = 101 ∷ []
-  encodeEntries (entry k v es) = written k ++ (encode v ++ encodeEntries es)
+  encodeEntries (entry k v es) = writtenString k ++ (encode v ++ encodeEntries es)
 
 -- how many values: every key counts as a value of its own
 unfoldable mutual

@@ -3,7 +3,7 @@ ghost use mathlib.Core.Path.{_≡_};
 ghost use Prim.Native.Nat.{ℕ, suc, _+_, _≤_};
 ghost use lib.ListN.{length, take, drop};
 ghost use Rattle.bencode.specs.Value.{start, follows};
-ghost use Rattle.bencode.specs.Decode.{kindOf, begun, ranged, keyOf, itemsOf, entriesOf, valueOf};
+ghost use Rattle.bencode.specs.Decode.{kindOf, begun, ranged, keyOf, itemsOf, entriesOf, valueFrom};
 ghost use Rattle.scalar.specs.Reading.{stringAt, integerAt};
 ghost use Rattle.bencode.specs.Answers.{paper, checkOf, stepOf, prevOf, keyIs};
 ghost use Rattle.bencode.specs.Exact.{Exactly};
@@ -52,7 +52,7 @@ pub fn check(text: &[u8]) -> Checked
 
 // The value that begins at the cursor, where `levels` more lists and dictionaries may stand in each other.
 pub fn value(text: &[u8], c: Cursor, levels: usize) -> Step
-    ensures { λ r. ⌜ r ≡ stepOf (valueOf levels (length (now (text .entry))) (drop (c .at) (now (text .entry))) (c .at) (c .count)) ⌝ }
+    ensures { λ r. ⌜ r ≡ stepOf (valueFrom levels (length (now (text .entry))) (drop (c .at) (now (text .entry))) (c .at) (c .count)) ⌝ }
 {
     let at = c.at;
     let count = c.count;
@@ -87,7 +87,7 @@ pub fn value(text: &[u8], c: Cursor, levels: usize) -> Step
 
 // The items of a list, and its e.
 fn list(text: &[u8], c: Cursor, levels: usize) -> Step
-    ensures { λ r. ⌜ r ≡ stepOf (itemsOf (suc (length (now (text .entry)))) (valueOf levels (length (now (text .entry)))) (length (now (text .entry))) (drop (c .at) (now (text .entry))) (c .at) (c .count)) ⌝ }
+    ensures { λ r. ⌜ r ≡ stepOf (itemsOf (suc (length (now (text .entry)))) (valueFrom levels (length (now (text .entry)))) (length (now (text .entry))) (drop (c .at) (now (text .entry))) (c .at) (c .count)) ⌝ }
 {
     let mut at = c.at;
     let mut count = c.count;
@@ -108,7 +108,7 @@ fn list(text: &[u8], c: Cursor, levels: usize) -> Step
 
 // The entries of a dictionary, and its e.
 fn dictionary(text: &[u8], c: Cursor, levels: usize) -> Step
-    ensures { λ r. ⌜ r ≡ stepOf (entriesOf (suc (length (now (text .entry)))) (valueOf levels (length (now (text .entry)))) (length (now (text .entry))) start (drop (c .at) (now (text .entry))) (c .at) (c .count)) ⌝ }
+    ensures { λ r. ⌜ r ≡ stepOf (entriesOf (suc (length (now (text .entry)))) (valueFrom levels (length (now (text .entry)))) (length (now (text .entry))) start (drop (c .at) (now (text .entry))) (c .at) (c .count)) ⌝ }
 {
     let mut at = c.at;
     let mut count = c.count;

@@ -11,13 +11,13 @@ use borrow.Author.Tests.{lt-ltb, le-ltb, ne-eqb}
 use Rattle.refusal.specs.Numbers.{cut, byte, order, integer, deep, many, after}
 use Rattle.refusal.specs.Limits.{mostValues, mostLevels}
 use Rattle.refusal.specs.Paper.{refused}
-use Rattle.scalar.specs.Written.{written}
+use Rattle.scalar.specs.Written.{writtenString}
 use Rattle.scalar.specs.Reading.{Got, got, bad, andThen, mapGot, isDigit, stringOf}
 use Rattle.scalar.proofs.Decimal.{digit-range}
 use Rattle.scalar.proofs.Complete.{string-complete, int-complete}
 use Rattle.bencode.specs.Value.{Value, Items, Entries, str, int, list, dict, entry, encode, count, Prev, last, follows}
 use Rattle.bencode.specs.Value.{item as one}
-use Rattle.bencode.specs.Decode.{Kind, digit, letterI, letterL, letterD, other, kindOf, begun, ranged, valueBy, closes, itemsOf, ordered, keyOf, entriesOf, valueOf, wholeOf}
+use Rattle.bencode.specs.Decode.{Kind, digit, letterI, letterL, letterD, other, kindOf, begun, ranged, valueBy, closes, itemsOf, ordered, keyOf, entriesOf, valueFrom, wholeOf}
 use Rattle.bencode.proofs.Complete.{str-here, int-here, list-here, dict-here, kind-digit, first-byte, encode-pos, complete}
 use Rattle.causes.specs.Causes.{Due, value, item, key, Comes, top, an-item, in-list, past-item, in-dictionary, past-key, past-entry, Begins, Ends, Stops, Cut, Byte, Order, Integer, Deep, Many, After}
 use Rattle.causes.proofs.Fails.{place}
@@ -49,76 +49,76 @@ unfolding keyOf
 key-at e j b t p n d few = rw (d, lt-ltb n mostValues few)
 
 -- a key that is written there
-module _ (e : ℕ) (j : Prev) (k l : List ℕ) (p n : ℕ) (h : p + length (written k ++ l) ≡ e) where
-  key-open : closes (written k ++ l) ≡ false
+module _ (e : ℕ) (j : Prev) (k l : List ℕ) (p n : ℕ) (h : p + length (writtenString k ++ l) ≡ e) where
+  key-open : closes (writtenString k ++ l) ≡ false
   key-open = let y = string-complete e k l p h in rw (y .text) (digit-open (y .first) (y .rest) (y .starts))
 
-  key-whole : n < mostValues → keyOf e j (written k ++ l) p n ≡ ordered j p (got k l (p + length (written k)) (n + 1))
+  key-whole : n < mostValues → keyOf e j (writtenString k ++ l) p n ≡ ordered j p (got k l (p + length (writtenString k)) (n + 1))
   key-whole few =
       let y = string-complete e k l p h in
       ap (λ (t : List ℕ). keyOf e j t p n) (y .text) ∙ key-at e j (y .first) (y .rest) p n (y .starts) few ∙ ap (ordered j p) (y .reads (n + 1))
 
-  key-here : n < mostValues → follows j k ≡ true → keyOf e j (written k ++ l) p n ≡ got k l (p + length (written k)) (n + 1)
+  key-here : n < mostValues → follows j k ≡ true → keyOf e j (writtenString k ++ l) p n ≡ got k l (p + length (writtenString k)) (n + 1)
   key-here few x = key-whole few ∙ rw x
 
 -- the whole text's reader refuses by r at q; the reader of what is due at a place does
 abbrev pub Ended : List ℕ → ℕ → ℕ → Type 0
-Ended s r q = valueOf mostLevels (length s) s 0 0 ≡ bad r q
+Ended s r q = valueFrom mostLevels (length s) s 0 0 ≡ bad r q
 
 abbrev Refuses : List ℕ → Due → List ℕ → ℕ → ℕ → ℕ → ℕ → ℕ → Type 0
-Refuses s value l p n d r q = valueOf d (length s) l p n ≡ bad r q
-Refuses s item l p n d r q = (f : ℕ) → length s < p + f → itemsOf f (valueOf d (length s)) (length s) l p n ≡ bad r q
-Refuses s (key j) l p n d r q = (f : ℕ) → length s < p + f → entriesOf f (valueOf d (length s)) (length s) j l p n ≡ bad r q
+Refuses s value l p n d r q = valueFrom d (length s) l p n ≡ bad r q
+Refuses s item l p n d r q = (f : ℕ) → length s < p + f → itemsOf f (valueFrom d (length s)) (length s) l p n ≡ bad r q
+Refuses s (key j) l p n d r q = (f : ℕ) → length s < p + f → entriesOf f (valueFrom d (length s)) (length s) j l p n ≡ bad r q
 
 module _ (s : List ℕ) (r q : ℕ) where
   -- what the latter refuses, the former does
   goes : {w : Due} {l : List ℕ} {p n d : ℕ} → Comes s w l p n d → Refuses s w l p n d r q → Ended s r q
   goes top h = h
-  goes (an-item {l} {p} {n} {d} c y) h = goes c (λ f k. items-turn f (length s) (valueOf d (length s)) l p n k (omega (arith, place c)) y (λ g j. rw h))
+  goes (an-item {l} {p} {n} {d} c y) h = goes c (λ f k. items-turn f (length s) (valueFrom d (length s)) l p n k (omega (arith, place c)) y (λ g j. rw h))
   goes (in-list {l} {p} {n} {d} c few) h = goes c (list-here (length s) l p n few d ∙ ap (mapGot list) (h (suc (length s)) (omega arith)))
   goes (past-item {l} {p} {n} {d} v c keeps few) h =
-      goes c (λ f k. items-turn f (length s) (valueOf d (length s)) (encode v ++ l) p n k (omega (arith, place c)) (value-open v l)
+      goes c (λ f k. items-turn f (length s) (valueFrom d (length s)) (encode v ++ l) p n k (omega (arith, place c)) (value-open v l)
       (λ g j. rw (complete v d (length s) l p n keeps (place c) few, h g (omega (arith, encode-pos v)))))
   goes (in-dictionary {l} {p} {n} {d} c few) h = goes c (dict-here (length s) l p n few d ∙ ap (mapGot dict) (h (suc (length s)) (omega arith)))
   goes (past-key {l} {p} {n} {d} {before = j} k c x few) h =
-      goes c (λ f y. entries-turn f (length s) (valueOf d (length s)) j (written k ++ l) p n y (omega (arith, place c)) (key-open (length s) j k l p n (place c))
+      goes c (λ f y. entries-turn f (length s) (valueFrom d (length s)) j (writtenString k ++ l) p n y (omega (arith, place c)) (key-open (length s) j k l p n (place c))
       (λ g z. rw (key-here (length s) j k l p n (place c) few x, h)))
   goes (past-entry {l} {p} {n} {d} {before = j} k v c x keeps few) h =
-      let w : p + length (written k) + length (encode v ++ l) ≡ length s = omega (arith, place c, length-append (written k) (encode v ++ l)) in
-      goes c (λ f y. entries-turn f (length s) (valueOf d (length s)) j (written k ++ (encode v ++ l)) p n y (omega (arith, place c)) (key-open (length s) j k (encode v ++ l) p n (place c))
-      (λ g z. rw (key-here (length s) j k (encode v ++ l) p n (place c) (omega arith) x, complete v d (length s) l (p + length (written k)) (n + 1) keeps w few, h g (omega (arith, encode-pos v)))))
+      let w : p + length (writtenString k) + length (encode v ++ l) ≡ length s = omega (arith, place c, length-append (writtenString k) (encode v ++ l)) in
+      goes c (λ f y. entries-turn f (length s) (valueFrom d (length s)) j (writtenString k ++ (encode v ++ l)) p n y (omega (arith, place c)) (key-open (length s) j k (encode v ++ l) p n (place c))
+      (λ g z. rw (key-here (length s) j k (encode v ++ l) p n (place c) (omega arith) x, complete v d (length s) l (p + length (writtenString k)) (n + 1) keeps w few, h g (omega (arith, encode-pos v)))))
 
   -- where a string or an integer is due
   string-value : {l : List ℕ} {p n d : ℕ} → Comes s value l p n d → n < mostValues → BadString (length s) l p r q → Ended s r q
   string-value {l} {p} {n} {d} c few y =
-      goes c (ap (λ (t : List ℕ). valueOf d (length s) t p n) (y .text)
+      goes c (ap (λ (t : List ℕ). valueFrom d (length s) t p n) (y .text)
       ∙ str-here (length s) (y .rest) p n few d (y .first) (kind-digit (y .first) (y .starts)) ∙ ap (mapGot str) (y .reads (n + 1)))
 
   integer-value : {l : List ℕ} {p n d : ℕ} → Comes s value l p n d → n < mostValues → BadInteger (length s) l p r q → Ended s r q
   integer-value {l} {p} {n} {d} c few y =
-      goes c (ap (λ (t : List ℕ). valueOf d (length s) t p n) (y .text) ∙ int-here (length s) (y .rest) p n few d ∙ ap (λ (g : Got ℤ). mapGot int (ranged p g)) (y .reads (n + 1)))
+      goes c (ap (λ (t : List ℕ). valueFrom d (length s) t p n) (y .text) ∙ int-here (length s) (y .rest) p n few d ∙ ap (λ (g : Got ℤ). mapGot int (ranged p g)) (y .reads (n + 1)))
 
   -- where a key is due
   key-value : {j : Prev} {l : List ℕ} {p n d : ℕ} → Comes s (key j) l p n d → closes l ≡ false → keyOf (length s) j l p n ≡ bad r q → Ended s r q
-  key-value {j} {l} {p} {n} {d} c y h = goes c (λ f k. entries-turn f (length s) (valueOf d (length s)) j l p n k (omega (arith, place c)) y (λ g z. rw h))
+  key-value {j} {l} {p} {n} {d} c y h = goes c (λ f k. entries-turn f (length s) (valueFrom d (length s)) j l p n k (omega (arith, place c)) y (λ g z. rw h))
 
   string-key : {j : Prev} {l : List ℕ} {p n d : ℕ} → Comes s (key j) l p n d → n < mostValues → BadString (length s) l p r q → Ended s r q
   string-key {j} {l} {p} {n} c few y =
       key-value c (rw (y .text) (digit-open (y .first) (y .rest) (y .starts)))
       (ap (λ (t : List ℕ). keyOf (length s) j t p n) (y .text) ∙ key-at (length s) j (y .first) (y .rest) p n (y .starts) few ∙ ap (ordered j p) (y .reads (n + 1)))
 
-value-none : (d e p n : ℕ) → valueOf d e [] p n ≡ bad cut e
-unfolding valueOf
+value-none : (d e p n : ℕ) → valueFrom d e [] p n ≡ bad cut e
+unfolding valueFrom
 value-none zero e p n = refl
 value-none (suc d) e p n = refl
 
-value-other : (d e b : ℕ) (t : List ℕ) (p n : ℕ) → kindOf b ≡ other → valueOf d e (b ∷ t) p n ≡ bad byte p
-unfolding valueOf
+value-other : (d e b : ℕ) (t : List ℕ) (p n : ℕ) → kindOf b ≡ other → valueFrom d e (b ∷ t) p n ≡ bad byte p
+unfolding valueFrom
 value-other zero e b t p n k = rw k
 value-other (suc d) e b t p n k = rw k
 
-value-deep : (e b : ℕ) (t : List ℕ) (p n : ℕ) → n < mostValues → (b ≡ 108) ⊎ (b ≡ 100) → valueOf 0 e (b ∷ t) p n ≡ bad deep p
-unfolding valueOf kindOf
+value-deep : (e b : ℕ) (t : List ℕ) (p n : ℕ) → n < mostValues → (b ≡ 108) ⊎ (b ≡ 100) → valueFrom 0 e (b ∷ t) p n ≡ bad deep p
+unfolding valueFrom kindOf
 value-deep e b t p n few (inl x) = rw (x, lt-ltb n mostValues few)
 value-deep e b t p n few (inr x) = rw (x, lt-ltb n mostValues few)
 
@@ -129,8 +129,8 @@ by-many letterL ls ds e b t p n k h = rw (le-ltb n mostValues h)
 by-many letterD ls ds e b t p n k h = rw (le-ltb n mostValues h)
 by-many other ls ds e b t p n k h = cc
 
-value-many : (d e b : ℕ) (t : List ℕ) (p n : ℕ) → begun (kindOf b) ≡ true → mostValues ≤ n → valueOf d e (b ∷ t) p n ≡ bad many p
-unfolding valueOf
+value-many : (d e b : ℕ) (t : List ℕ) (p n : ℕ) → begun (kindOf b) ≡ true → mostValues ≤ n → valueFrom d e (b ∷ t) p n ≡ bad many p
+unfolding valueFrom
 value-many zero e b t p n k h = by-many (kindOf b) _ _ e b t p n k h
 value-many (suc d) e b t p n k h = by-many (kindOf b) _ _ e b t p n k h
 
@@ -198,7 +198,7 @@ module _ (s : List ℕ) where
   whole-after v [] q m h = absurd (h refl)
   whole-after v (b ∷ t) q m h = refl
 
-  pub every-after : {p : ℕ} → After s p → wholeOf (valueOf mostLevels (length s) s 0 0) ≡ refused after p
+  pub every-after : {p : ℕ} → After s p → wholeOf (valueFrom mostLevels (length s) s 0 0) ≡ refused after p
   every-after (After.bytes {l} v x keeps few h) =
-      ap (λ (t : List ℕ). wholeOf (valueOf mostLevels (length s) t 0 0)) x ∙ ap wholeOf (complete v mostLevels (length s) l 0 0 keeps (omega (arith, ap length x)) (omega arith))
+      ap (λ (t : List ℕ). wholeOf (valueFrom mostLevels (length s) t 0 0)) x ∙ ap wholeOf (complete v mostLevels (length s) l 0 0 keeps (omega (arith, ap length x)) (omega arith))
       ∙ whole-after v l (0 + length (encode v)) (0 + count v) h ∙ ap (refused after) (omega arith)

@@ -9,7 +9,7 @@ use borrow.Author.Tests.{ltb-true, ltb-false}
 use Rattle.refusal.specs.Numbers.{many}
 use Rattle.refusal.specs.Limits.{mostValues}
 use Rattle.refusal.proofs.Cases.{by-test}
-use Rattle.scalar.specs.Written.{written}
+use Rattle.scalar.specs.Written.{writtenString}
 use Rattle.scalar.specs.Reading.{Got, got, bad, andThen, mapGot}
 use Rattle.scalar.proofs.Sound.{Holds}
 use Rattle.bencode.specs.Value.{encode}
@@ -53,8 +53,8 @@ place (an-item c y) = place c
 place (in-list c h) = omega (arith, place c)
 place (past-item {l} v c k h) = omega (arith, place c, length-append (encode v) l)
 place (in-dictionary c h) = omega (arith, place c)
-place (past-key {l} k c f h) = omega (arith, place c, length-append (written k) l)
-place (past-entry {l} k v c f j h) = omega (arith, place c, length-append (written k) (encode v ++ l), length-append (encode v) l)
+place (past-key {l} k c f h) = omega (arith, place c, length-append (writtenString k) l)
+place (past-entry {l} k v c f j h) = omega (arith, place c, length-append (writtenString k) (encode v ++ l), length-append (encode v) l)
 
 -- the same place, written otherwise
 pub moved : {s l r : List ℕ} {w : Due} {p q n m d : ℕ} → Comes s w l p n d → l ≡ r → p ≡ q → n ≡ m → Comes s w r q m d

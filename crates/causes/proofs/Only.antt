@@ -12,12 +12,12 @@ use Rattle.refusal.specs.Numbers.{byte, order, integer, after}
 use Rattle.refusal.specs.Limits.{mostValues, mostLevels}
 use Rattle.refusal.specs.Paper.{refused}
 use Rattle.refusal.proofs.Cases.{by-test}
-use Rattle.scalar.specs.Written.{written, inRange}
+use Rattle.scalar.specs.Written.{writtenString, inRange}
 use Rattle.scalar.specs.Reading.{Got, got, bad, isDigit, stringOf, integerOf}
 use Rattle.scalar.proofs.Sound.{Holds, TextP, string-sound, IntP, int-sound}
 use Rattle.bencode.specs.Value.{Value, Items, Entries, str, int, list, dict, entry, Prev, start, last, follows}
 use Rattle.bencode.specs.Value.{item as one}
-use Rattle.bencode.specs.Decode.{Kind, digit, letterI, letterL, letterD, other, kindOf, begun, ranged, valueBy, closes, itemsBy, itemsOf, ordered, keyOf, entriesBy, entriesOf, valueOf, wholeOf}
+use Rattle.bencode.specs.Decode.{Kind, digit, letterI, letterL, letterD, other, kindOf, begun, ranged, valueBy, closes, itemsBy, itemsOf, ordered, keyOf, entriesBy, entriesOf, valueFrom, wholeOf}
 use Rattle.bencode.proofs.Sound.{KeyP, key-sound, Took, KindP, kind-view, value-sound}
 use Rattle.bencode.proofs.Complete.{encode-pos}
 use Rattle.causes.specs.Causes.{Due, value, item, key, Comes, top, an-item, in-list, past-item, in-dictionary, past-key, past-entry, StringEnds, StringStops, Ends, Stops, Cut, Byte, Order, Integer, Deep, Many, After}
@@ -58,40 +58,40 @@ module _ (s : List ℕ) where
       (λ h. Many.begins c (omega arith) x))
       (λ x. Byte.no-key c x (eqb-false b 101 y))
 
-  module _ (d : ℕ) (fails : (l : List ℕ) (p n : ℕ) → Comes s value l p n d → Fails (Cause s) (valueOf d (length s) l p n)) where
+  module _ (d : ℕ) (fails : (l : List ℕ) (p n : ℕ) → Comes s value l p n d → Fails (Cause s) (valueFrom d (length s) l p n)) where
     -- the items of a list, with fuel enough
     items-by : (f : ℕ) (go : List ℕ → ℕ → ℕ → Got Items) → ((l : List ℕ) (p n : ℕ) → length s < p + f → Comes s item l p n d → Fails (Cause s) (go l p n))
-        → (l : List ℕ) (p n : ℕ) → length s < p + suc f → Comes s item l p n d → (x : Bool) → closes l ≡ x → Fails (Cause s) (itemsBy x (valueOf d (length s)) go l p n)
+        → (l : List ℕ) (p n : ℕ) → length s < p + suc f → Comes s item l p n d → (x : Bool) → closes l ≡ x → Fails (Cause s) (itemsBy x (valueFrom d (length s)) go l p n)
     items-by f go ih l p n h c true y = tt
     items-by f go ih l p n h c false y =
-        fails-then (Cause s) (Took l d p n) (valueOf d (length s) l p n) _ (value-sound d (length s) l p n (place c)) (fails l p n (an-item c y))
+        fails-then (Cause s) (Took l d p n) (valueFrom d (length s) l p n) _ (value-sound d (length s) l p n (place c)) (fails l p n (an-item c y))
         (λ v r q m k. fails-map (Cause s) (one v) (go r q m) (ih r q m (omega (arith, k .at .place, encode-pos v))
         (moved (past-item v (moved c (k .at .text) refl refl) (k .keeps) (omega (arith, k .counted, k .few))) refl (sym (k .at .place)) (sym (k .counted)))))
 
-    items-fails : (f : ℕ) (l : List ℕ) (p n : ℕ) → length s < p + f → Comes s item l p n d → Fails (Cause s) (itemsOf f (valueOf d (length s)) (length s) l p n)
+    items-fails : (f : ℕ) (l : List ℕ) (p n : ℕ) → length s < p + f → Comes s item l p n d → Fails (Cause s) (itemsOf f (valueFrom d (length s)) (length s) l p n)
     unfolding itemsOf
     items-fails zero l p n h c = absurd (omega (arith, place c))
-    items-fails (suc f) l p n h c = items-by f (itemsOf f (valueOf d (length s)) (length s)) (items-fails f) l p n h c (closes l) refl
+    items-fails (suc f) l p n h c = items-by f (itemsOf f (valueFrom d (length s)) (length s)) (items-fails f) l p n h c (closes l) refl
 
     -- the entries of a dictionary
     entries-by : (f : ℕ) (go : Prev → List ℕ → ℕ → ℕ → Got Entries) → ((j : Prev) (l : List ℕ) (p n : ℕ) → length s < p + f → Comes s (key j) l p n d → Fails (Cause s) (go j l p n))
-        → (j : Prev) (l : List ℕ) (p n : ℕ) → length s < p + suc f → Comes s (key j) l p n d → (x : Bool) → closes l ≡ x → Fails (Cause s) (entriesBy x (valueOf d (length s)) go (length s) j l p n)
+        → (j : Prev) (l : List ℕ) (p n : ℕ) → length s < p + suc f → Comes s (key j) l p n d → (x : Bool) → closes l ≡ x → Fails (Cause s) (entriesBy x (valueFrom d (length s)) go (length s) j l p n)
     entries-by f go ih j l p n h c true y = tt
     entries-by f go ih j l p n h c false y =
         fails-then (Cause s) (KeyP l j p n) (keyOf (length s) j l p n) _ (key-sound (length s) j l p n (place c)) (key-fails j l p n d c y)
         (λ k l₁ q m w.
         let c₁ : Comes s value l₁ q m d = moved (past-key k (moved c (w .0 .0 .text) refl refl) (w .1) (w .2)) refl (sym (w .0 .0 .place)) (sym (w .0 .1)) in
-        fails-then (Cause s) (Took l₁ d q m) (valueOf d (length s) l₁ q m) _ (value-sound d (length s) l₁ q m (place c₁)) (fails l₁ q m c₁)
+        fails-then (Cause s) (Took l₁ d q m) (valueFrom d (length s) l₁ q m) _ (value-sound d (length s) l₁ q m (place c₁)) (fails l₁ q m c₁)
         (λ v l₂ q₂ m₂ z.
         let c₂ : Comes s (key (last k)) l₂ q₂ m₂ d =
-        moved (past-entry k v (moved c (w .0 .0 .text ∙ ap (λ (r : List ℕ). written k ++ r) (z .at .text)) refl refl) (w .1) (z .keeps) (omega (arith, w .0 .1, z .counted, z .few))) refl
+        moved (past-entry k v (moved c (w .0 .0 .text ∙ ap (λ (r : List ℕ). writtenString k ++ r) (z .at .text)) refl refl) (w .1) (z .keeps) (omega (arith, w .0 .1, z .counted, z .few))) refl
         (omega (arith, w .0 .0 .place, z .at .place)) (omega (arith, w .0 .1, z .counted)) in
         fails-map (Cause s) (entry k v) (go (last k) l₂ q₂ m₂) (ih (last k) l₂ q₂ m₂ (omega (arith, w .0 .0 .place, z .at .place, encode-pos v)) c₂)))
 
-    entries-fails : (f : ℕ) (j : Prev) (l : List ℕ) (p n : ℕ) → length s < p + f → Comes s (key j) l p n d → Fails (Cause s) (entriesOf f (valueOf d (length s)) (length s) j l p n)
+    entries-fails : (f : ℕ) (j : Prev) (l : List ℕ) (p n : ℕ) → length s < p + f → Comes s (key j) l p n d → Fails (Cause s) (entriesOf f (valueFrom d (length s)) (length s) j l p n)
     unfolding entriesOf
     entries-fails zero j l p n h c = absurd (omega (arith, place c))
-    entries-fails (suc f) j l p n h c = entries-by f (entriesOf f (valueOf d (length s)) (length s)) (entries-fails f) j l p n h c (closes l) refl
+    entries-fails (suc f) j l p n h c = entries-by f (entriesOf f (valueFrom d (length s)) (length s)) (entries-fails f) j l p n h c (closes l) refl
 
   -- a value, by its first byte
   value-by : (d b : ℕ) (t : List ℕ) (p n : ℕ) (ls : List ℕ → ℕ → ℕ → Got Items) (ds : List ℕ → ℕ → ℕ → Got Entries) → Comes s value (b ∷ t) p n d → (k : Kind) → kindOf b ≡ k → KindP b k
@@ -106,8 +106,8 @@ module _ (s : List ℕ) where
   value-by d b t p n ls ds c letterL x y hl hd = fails-begin (Cause s) n p _ (λ few. fails-map (Cause s) list (ls t (p + 1) (n + 1)) (hl y few)) (λ h. Many.begins c (omega arith) (ap begun x))
   value-by d b t p n ls ds c letterD x y hl hd = fails-begin (Cause s) n p _ (λ few. fails-map (Cause s) dict (ds t (p + 1) (n + 1)) (hd y few)) (λ h. Many.begins c (omega arith) (ap begun x))
 
-  value-fails : (d : ℕ) (l : List ℕ) (p n : ℕ) → Comes s value l p n d → Fails (Cause s) (valueOf d (length s) l p n)
-  unfolding valueOf
+  value-fails : (d : ℕ) (l : List ℕ) (p n : ℕ) → Comes s value l p n d → Fails (Cause s) (valueFrom d (length s) l p n)
+  unfolding valueFrom
   value-fails zero [] p n c = Cut.at-once c
   value-fails zero (b ∷ t) p n c = value-by 0 b t p n _ _ c (kindOf b) refl (kind-view b) (λ y few. Deep.level c (omega arith) (inl y)) (λ y few. Deep.level c (omega arith) (inr y))
   value-fails (suc d) [] p n c = Cut.at-once c
@@ -128,5 +128,5 @@ module _ (s : List ℕ) where
       let z : q ≡ p = cc in
       subst₂ (Cause s) y z x
 
-  pub only : (r p : ℕ) → wholeOf (valueOf mostLevels (length s) s 0 0) ≡ refused r p → Cause s r p
-  only r p e = whole-by r p (valueOf mostLevels (length s) s 0 0) (value-sound mostLevels (length s) s 0 0 (omega arith)) (value-fails mostLevels s 0 0 top) e
+  pub only : (r p : ℕ) → wholeOf (valueFrom mostLevels (length s) s 0 0) ≡ refused r p → Cause s r p
+  only r p e = whole-by r p (valueFrom mostLevels (length s) s 0 0) (value-sound mostLevels (length s) s 0 0 (omega arith)) (value-fails mostLevels s 0 0 top) e

@@ -11,7 +11,7 @@ use borrow.Author.Tests.{leb-false, lt-leb, eqb-true, eqb-false, ne-eqb}
 use Rattle.refusal.specs.Numbers.{cut, byte}
 use Rattle.refusal.proofs.Cases.{by-test}
 use Rattle.scalar.specs.Written.{decimal, signed}
-use Rattle.scalar.specs.Reading.{Got, bad, isDigit, numVal, numLen, colonOf, stringOf, signedAs, endOf, closedOf, minusAt, integerOf}
+use Rattle.scalar.specs.Reading.{Got, bad, isDigit, numVal, numLen, colonOf, stringOf, signedAs, integerEnd, closedOf, minusAt, integerOf}
 use Rattle.scalar.proofs.Decimal.{digit-range, range-digit}
 use Rattle.scalar.proofs.Printed.{num-pos}
 use Rattle.scalar.proofs.Sound.{at-number, shown, At, at-then, at-byte, at-left}
@@ -42,7 +42,7 @@ sized false m h = refl
 
 -- why an integer is refused, whose i stands at o
 module _ (Q : ℕ → ℕ → Type 0) (e o : ℕ) (l : List ℕ) (ends : IntegerEnds (105 ∷ l) → Q cut e) (stops : (w : List ℕ) (c : ℕ) (u : List ℕ) → 105 ∷ l ≡ w ++ c ∷ u → IntegerStops w c → Q byte (o + length w)) where
-  end-fails : (neg : Bool) (k m : ℕ) (r : List ℕ) (n : ℕ) → At (105 ∷ l) o r k (105 ∷ signed (signedAs neg m)) → Over (size (signedAs neg m)) r → Fails Q (endOf neg e k m r n)
+  end-fails : (neg : Bool) (k m : ℕ) (r : List ℕ) (n : ℕ) → At (105 ∷ l) o r k (105 ∷ signed (signedAs neg m)) → Over (size (signedAs neg m)) r → Fails Q (integerEnd neg e k m r n)
   end-fails neg k m [] n a v = ends (subst IntegerEnds (sym (a .text ∙ append-nil (105 ∷ signed (signedAs neg m)))) (IntegerEnds.in-digits (signedAs neg m)))
   end-fails neg k m (c ∷ u) n a v =
       by-test (Fails Q) (eqb c 101) (λ x. tt)

@@ -10,12 +10,12 @@ use borrow.Author.Tests.{ltb-true, ltb-false, lt-ltb, le-ltb}
 use Rattle.refusal.specs.Numbers.{long}
 use Rattle.refusal.specs.Limits.{mostText, mostLevels}
 use Rattle.refusal.specs.Paper.{refused}
-use Rattle.bencode.specs.Decode.{valueOf, wholeOf, decode}
+use Rattle.bencode.specs.Decode.{valueFrom, wholeOf, decode}
 use Rattle.causes.proofs.Fails.{Cause}
 use Rattle.causes.proofs.Only.{only}
 use Rattle.causes.proofs.Every.{Ended}
 
-pub decode-short : (s : List ℕ) → length s ≤ mostText → decode s ≡ wholeOf (valueOf mostLevels (length s) s 0 0)
+pub decode-short : (s : List ℕ) → length s ≤ mostText → decode s ≡ wholeOf (valueFrom mostLevels (length s) s 0 0)
 unfolding decode
 decode-short s h = rw (le-ltb mostText (length s) h)
 

@@ -8,7 +8,7 @@ use Prim.Native.Nat.{ℕ, zero, suc, _+_, _<_, _≤_}
 use lib.IntN.{ℤ, pos, negsuc}
 use lib.ListN.{length}
 use Rattle.refusal.specs.Limits.{mostValues, mostLevels}
-use Rattle.scalar.specs.Written.{decimal, written, signed, writtenInt, inRange}
+use Rattle.scalar.specs.Written.{decimal, writtenString, signed, writtenInt, inRange}
 use Rattle.scalar.specs.Reading.{isDigit, more}
 use Rattle.bencode.specs.Value.{Value, encode, count, Keeps, Prev, start, last, follows}
 use Rattle.bencode.specs.Decode.{kindOf, other, begun, closes}
@@ -27,10 +27,10 @@ pub data Comes (s : List ℕ) : Due → List ℕ → ℕ → ℕ → ℕ → Typ
   past-item : {l : List ℕ} {p n d : ℕ} (v : Value) → Comes s item (encode v ++ l) p n d → Keeps v d → n + count v ≤ mostValues
       → Comes s item l (p + length (encode v)) (n + count v) d
   in-dictionary : {l : List ℕ} {p n d : ℕ} → Comes s value (100 ∷ l) p n (suc d) → n < mostValues → Comes s (key start) l (p + 1) (n + 1) d
-  past-key : {l : List ℕ} {p n d : ℕ} {before : Prev} (k : List ℕ) → Comes s (key before) (written k ++ l) p n d → follows before k ≡ true → n < mostValues
-      → Comes s value l (p + length (written k)) (n + 1) d
-  past-entry : {l : List ℕ} {p n d : ℕ} {before : Prev} (k : List ℕ) (v : Value) → Comes s (key before) (written k ++ (encode v ++ l)) p n d → follows before k ≡ true → Keeps v d → n + 1 + count v ≤ mostValues
-      → Comes s (key (last k)) l (p + length (written k) + length (encode v)) (n + 1 + count v) d
+  past-key : {l : List ℕ} {p n d : ℕ} {before : Prev} (k : List ℕ) → Comes s (key before) (writtenString k ++ l) p n d → follows before k ≡ true → n < mostValues
+      → Comes s value l (p + length (writtenString k)) (n + 1) d
+  past-entry : {l : List ℕ} {p n d : ℕ} {before : Prev} (k : List ℕ) (v : Value) → Comes s (key before) (writtenString k ++ (encode v ++ l)) p n d → follows before k ≡ true → Keeps v d → n + 1 + count v ≤ mostValues
+      → Comes s (key (last k)) l (p + length (writtenString k) + length (encode v)) (n + 1 + count v) d
 
 -- a value or a key may begin at a place: it is due there, and its first byte can begin one
 abbrev pub Begins : Due → List ℕ → Type 0
@@ -87,7 +87,7 @@ pub data Byte (s : List ℕ) : ℕ → Type 0 where
 
 -- 3: a key not greater than the one before; offset of its first digit
 pub data Order (s : List ℕ) : ℕ → Type 0 where
-  not-greater : {before : Prev} {p n d : ℕ} (k l : List ℕ) → Comes s (key before) (written k ++ l) p n d → n < mostValues → follows before k ≡ false → Order s p
+  not-greater : {before : Prev} {p n d : ℕ} (k l : List ℕ) → Comes s (key before) (writtenString k ++ l) p n d → n < mostValues → follows before k ≡ false → Order s p
 
 -- 4: integer outside -2^63 .. 2^63-1; offset of its i
 pub data Integer (s : List ℕ) : ℕ → Type 0 where

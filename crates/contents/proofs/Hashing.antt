@@ -17,7 +17,7 @@ use Rattle.bencode.specs.Value.{Value, str, encode}
 use Rattle.walk.specs.Lookup.{under}
 use Rattle.walk.proofs.Standing.{past, room}
 use Rattle.blocks.specs.Rules.{sum}
-use Rattle.blocks.specs.Spans.{joined, heldIn}
+use Rattle.blocks.specs.Spans.{joinedFiles, heldIn}
 use Rattle.blocks.proofs.Joined.{joined-held}
 use Rattle.sha1.specs.Sha1.{sha1}
 use Rattle.sha1.specs.Digest.{same, agreementOf}
@@ -87,7 +87,7 @@ piece-hash s t n e h =
     record { value = x .value; place = f .place; bytes = f .bytes; found = f .under-pieces; hash = hash-bytes s (x .value) t f n h; all = as-many s (x .value) t f }
 
 -- a piece has the bytes of files in it, by the blocks' reckoning
-pub piece-bytes : (ns : List ℕ) (pl n : ℕ) → pieceBytes (sum ns) pl n ≡ heldIn (joined ns) pl n
+pub piece-bytes : (ns : List ℕ) (pl n : ℕ) → pieceBytes (sum ns) pl n ≡ heldIn (joinedFiles ns) pl n
 piece-bytes ns pl n = sym (joined-held ns pl n)
 
 -- ---- as the code goes

@@ -9,9 +9,9 @@ use Rattle.refusal.specs.Paper.{Outcome, taken, refused, then, map}
 use Rattle.refusal.specs.Limits.{longestFile}
 use Rattle.refusal.specs.declared.Part.{Part}
 use Rattle.refusal.proofs.Outcomes.{then-taken}
-use Rattle.scalar.specs.Written.{written}
+use Rattle.scalar.specs.Written.{writtenString}
 use Rattle.bencode.specs.Value.{Value, Items, str, int, list, dict, none, item, encode, encodeItems, start}
-use Rattle.bencode.specs.Decode.{valueOf, kindOf}
+use Rattle.bencode.specs.Decode.{valueFrom, kindOf}
 use Rattle.walk.specs.Walk.{Head, string, lookOf}
 use Rattle.walk.specs.Stands.{Stands, StandItems}
 use Rattle.walk.specs.Lookup.{Under, nothing, under, lookup}
@@ -47,11 +47,11 @@ module _ (s : List ℕ) (d : ℕ) where
   elements-walk (item (str bs) vs) p q t e =
       let i = items-next s d p (str bs) vs t in
       let b = string-stands s d p bs (i .0) in
-      let g = good (goodName bs) p bs (λ z. elementsOf (p + length (written bs)) vs) q e in
+      let g = good (goodName bs) p bs (λ z. elementsOf (p + length (writtenString bs)) vs) q e in
       let f : goodName (take (length bs) (drop (b .from) s)) ≡ true = ap goodName (b .bytes) ∙ g .0 in
-      let x : elementOf s p ≡ taken (element (record { from = b .from; len = length bs }) (p + length (written bs))) = seen p (b .seen) ∙ rw f in
+      let x : elementOf s p ≡ taken (element (record { from = b .from; len = length bs }) (p + length (writtenString bs))) = seen p (b .seen) ∙ rw f in
       subst (λ (l : List ℕ). Elements s p (l ∷ strings vs)) (b .bytes)
-      (goes p (record { from = b .from; len = length bs }) (p + length (written bs)) (strings vs) x (elements-walk vs (p + length (written bs)) q (i .1) (g .1)))
+      (goes p (record { from = b .from; len = length bs }) (p + length (writtenString bs)) (strings vs) x (elements-walk vs (p + length (writtenString bs)) q (i .1) (g .1)))
   elements-walk (item (int z) vs) p q t e = no-way (cc)
   elements-walk (item (list ws) vs) p q t e = no-way (cc)
   elements-walk (item (dict es) vs) p q t e = no-way (cc)
@@ -100,8 +100,8 @@ module _ (s : List ℕ) where
 module _ (s : List ℕ) (d : ℕ) (levels : d ≤ 32) where
   -- where the list ends no file stands
   end-refused : (p : ℕ) → StandItems s d p none → fileAt s p ≡ refused 2 p
-  unfolding encodeItems valueOf kindOf
-  end-refused p t = ap (λ (l : List ℕ). then (valueIn (valueOf 32 (length s) l p 0)) (fileOf p)) (t .text)
+  unfolding encodeItems valueFrom kindOf
+  end-refused p t = ap (λ (l : List ℕ). then (valueIn (valueFrom 32 (length s) l p 0)) (fileOf p)) (t .text)
 
   pub files-walk : (vs : Items) (p o : ℕ) (ns : List ℕ) (es : List Entry) → StandItems s d p vs → lengthsOf p vs ≡ taken ns → entriesFrom p o vs ≡ taken es → Files s p o vs es
   unfolding entriesFrom

@@ -14,11 +14,11 @@ use Rattle.scalar.specs.Written.{keyLt, decimalIn}
 use Rattle.scalar.specs.Reading.{digitsVal, digitsLen, stringOf, closedOf, integerOf}
 use Rattle.bencode.specs.Value.{encode}
 use Rattle.bencode.specs.Value.{count as countIn}
-use Rattle.bencode.specs.Decode.{decode, kindOf, keyOf, itemsOf, entriesOf, valueOf}
+use Rattle.bencode.specs.Decode.{decode, kindOf, keyOf, itemsOf, entriesOf, valueFrom}
 use Rattle.bencode.specs.Answers.{checkOf}
 use Rattle.walk.specs.Lookup.{lookup, sameKey}
 use Rattle.blocks.specs.Rules.{powerFrom, sum, fileLengths, lawful}
-use Rattle.blocks.specs.Spans.{Span, FilePart, part, joined, joinedFrom, lengths, endFrom, partsFrom}
+use Rattle.blocks.specs.Spans.{Span, FilePart, part, joinedFiles, joinedFrom, lengths, endFrom, partsFrom}
 use Rattle.blocks.specs.Spans.{sizes as sizesIn}
 use Rattle.blocks.specs.Answers.{Spot, spot, blockOf, byteOf}
 use Rattle.wire.specs.Message.{Message, have, bitfield}
@@ -132,7 +132,7 @@ pub record Now : Type 0 where
   pub past : History
 
 abbrev pub files : List Span
-files = joined (20000 ∷ 0 ∷ 12769 ∷ [])
+files = joinedFiles (20000 ∷ 0 ∷ 12769 ∷ [])
 
 -- a call's answer, the seats complete and the holders of piece 9: by the tables, and by the history alone
 abbrev pub byTables : Out → Given
@@ -177,5 +177,5 @@ lent = record {
 
 -- every row gives its answer
 pub stars-hold : given stars lent lent ≡ asked stars
-unfolding given asked stars bytes blockOf byteOf lawful powerFrom sum fileLengths joinedFrom lengths endFrom partsFrom sizesIn step startOf sizesFit lowestFree sitOf seatedAt leaveOf atZero left feedOf messageOf haveOf bitfieldOf overTop announced eachFrom orBytes readOf sizedOf least most messageBy bigEndian numberBytes event sizesWith lowestWithout decode valueOf itemsOf entriesOf kindOf stringOf closedOf integerOf keyOf digitsVal digitsLen keyLt countIn listingOf fileLines pathOf escaped filesIn elementsIn lookup sameKey torrentOf topOf infoOf torrentSized lengthsOf fileOf elementsOf goodName clean decimalIn encode
+unfolding given asked stars bytes blockOf byteOf lawful powerFrom sum fileLengths joinedFrom lengths endFrom partsFrom sizesIn step startOf sizesFit lowestFree sitOf seatedAt leaveOf atZero left feedOf messageOf haveOf bitfieldOf overTop announced eachFrom orBytes readOf sizedOf least most messageBy bigEndian numberBytes event sizesWith lowestWithout decode valueFrom itemsOf entriesOf kindOf stringOf closedOf integerOf keyOf digitsVal digitsLen keyLt countIn listingOf fileLines pathOf escaped filesIn elementsIn lookup sameKey torrentOf topOf infoOf torrentSized lengthsOf fileOf elementsOf goodName clean decimalIn encode
 stars-hold = refl

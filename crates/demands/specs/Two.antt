@@ -28,15 +28,15 @@ use Rattle.sha1.specs.Sha1.{sha1}
 use Rattle.sha1.specs.Digest.{paper as hashPaper, left as hashing, Left as Hashing}
 use Rattle.sha1.specs.declared.Hashed.{Hashed}
 use Rattle.blocks.specs.Rules.{sum, Lawful, piecesOf}
-use Rattle.blocks.specs.Spans.{FilePart, part, joined, partsOf}
+use Rattle.blocks.specs.Spans.{FilePart, part, joinedFiles, partsOf}
 use Rattle.blocks.specs.Answers.{Spot, partsPaper, placePaper, blockOf, byteOf, flat}
-use Rattle.blocks.specs.Answers.{written as partsIn, left as parting, Left as Parting}
+use Rattle.blocks.specs.Answers.{partsWritten, left as parting, Left as Parting}
 use Rattle.blocks.specs.Covers.{run, placesOf, Neat}
 use Rattle.blocks.specs.declared.Parts.{Parts}
 use Rattle.blocks.specs.declared.Place.{Place}
 use Rattle.blocks.proofs.Whole as whole
 use Rattle.blocks.proofs.Joined.{joined-laid}
-use Rattle.wire.specs.Message.{Message, Fields, body, keepalive}
+use Rattle.wire.specs.Message.{Message, FieldsFit, body, keepalive}
 use Rattle.wire.specs.Message.{encode as frameOf}
 use Rattle.wire.specs.Frames.{Found, found, readOf, meant, Lengths, Stream, streamOf, encodeAll, KeepAll, writeOf}
 use Rattle.wire.specs.Handshake.{Shaken, hello, name, handshake, zeros, shakeOf}
@@ -214,7 +214,7 @@ module _ (s : List ℕ) (r : Reply) (c : replyPaper r ≡ map counted (replyOf s
 -- ---- 7. "What is written reads back": "Reading gives the fields back; rewriting a read text that has only those keys [..] gives its bytes."
 
 -- every frame writer of wire::write; m is the message, o the output as it was lent. Past the frame it stays
-pub frame-reads-back : (m : Message (List ℕ)) → Fields m → (o out : List ℕ) (r : Put) → left (putPaper r) out ≡ writeOf (body m) o → (q : ℕ) → putPaper r ≡ taken q
+pub frame-reads-back : (m : Message (List ℕ)) → FieldsFit m → (o out : List ℕ) (r : Put) → left (putPaper r) out ≡ writeOf (body m) o → (q : ℕ) → putPaper r ≡ taken q
     → (out ≡ frameOf m ++ drop q o) × ((at : Message Part) × (readOf out ≡ taken (found at q)) × (meant out at ≡ m))
 frame-reads-back m f o out r c q t = let b = framing.frame-reads-back m f o r c t in (b .0, (b .1 .at, b .1 .answer, b .1 .means))
 
@@ -230,12 +230,12 @@ module _ (s : List ℕ) (bytes : Bytes s) (m : Message (List ℕ)) (q : ℕ) whe
   within at (inr (a, r, k, u)) = omega (arith, a .2, u)
 
   pub frame-exact : ((at : Message Part) × (readOf s ≡ taken (found at q)) × (meant s at ≡ m))
-      ↔ ((s ≡ frameOf m ++ drop q s) × (q ≡ length (frameOf m)) × Fields m × Lengths (body m))
+      ↔ ((s ≡ frameOf m ++ drop q s) × (q ≡ length (frameOf m)) × FieldsFit m × Lengths (body m))
   frame-exact = (
     λ (at, e, d).
         let t = frames.taken-was-written s bytes at q e in
         let u : frameOf m ≡ take q s = ap frameOf (sym d) ∙ t .0 in
-        let k = subst (λ (n : Message (List ℕ)). Fields n × Lengths (body n)) d (t .1) in
+        let k = subst (λ (n : Message (List ℕ)). FieldsFit n × Lengths (body n)) d (t .1) in
         let l = within at (decided.exactly s (taken (found at q)) .0 e) in
         (sym (ap (λ (l : List ℕ). l ++ drop q s) u ∙ take-append-drop q s), sym (ap length u ∙ length-take-le q s l), k .0, k .1),
     λ (e, l, f, k).
@@ -344,28 +344,28 @@ module _ (s : List ℕ) (n : ℕ) (m : List ℕ) (r : piece.Checked) (c : checkP
 
 -- of blocks::block: n bytes from offset q of piece p, of files of the lengths ns one after the other. The parts of a taken block are its bytes, once each and in
 -- order; none is empty, each lies within its file, and files ascend. They stand at the output's start as file, offset and length each, and past them it stays
-pub block-covers : (ns : List ℕ) (pl p q n : ℕ) (o out : List ℕ) (r : Parts) → parting (partsPaper r) out ≡ partsIn (blockOf (joined ns) pl p q n) o → (k : ℕ) → partsPaper r ≡ taken k
-    → (ps : List FilePart) × (k ≡ length ps) × (out ≡ flat ps ++ drop (3 * k) o) × (placesOf (joined ns) ps ≡ run (p * pl + q) n) × Neat (joined ns) 0 ps
+pub block-covers : (ns : List ℕ) (pl p q n : ℕ) (o out : List ℕ) (r : Parts) → parting (partsPaper r) out ≡ partsWritten (blockOf (joinedFiles ns) pl p q n) o → (k : ℕ) → partsPaper r ≡ taken k
+    → (ps : List FilePart) × (k ≡ length ps) × (out ≡ flat ps ++ drop (3 * k) o) × (placesOf (joinedFiles ns) ps ≡ run (p * pl + q) n) × Neat (joinedFiles ns) 0 ps
 block-covers ns pl p q n o out r c k t =
     let b = block-parts ns pl p q n o (partsPaper r) out c k t in
-    let w = whole.block-covers (joined ns) pl (joined-laid ns pl) p q n (b .0) (b .1) in
+    let w = whole.block-covers (joinedFiles ns) pl (joined-laid ns pl) p q n (b .0) (b .1) in
     (b .0, b .2, b .3, w .bytes, w .neat)
 
 -- and it is taken exactly when the numbers keep the rules for torrents, there is such a piece, the block has 1 to 16,384 bytes and ends within its piece, and
 -- there is room
-pub block-exact : (ns : List ℕ) (pl p q n : ℕ) (o out : List ℕ) (r : Parts) → parting (partsPaper r) out ≡ partsIn (blockOf (joined ns) pl p q n) o
+pub block-exact : (ns : List ℕ) (pl p q n : ℕ) (o out : List ℕ) (r : Parts) → parting (partsPaper r) out ≡ partsWritten (blockOf (joinedFiles ns) pl p q n) o
     → ((k : ℕ) × (partsPaper r ≡ taken k))
     ↔ (Lawful pl ns (piecesOf (sum ns) pl) × (p < piecesOf (sum ns) pl) × (1 ≤ n) × (n ≤ 16384) × (q + n ≤ min pl (sum ns - p * pl))
-    × (3 * length (partsOf (joined ns) (p * pl + q) n) ≤ length o))
+    × (3 * length (partsOf (joinedFiles ns) (p * pl + q) n) ≤ length o))
 block-exact ns pl p q n o out r c = (
   λ (k, t). block-taken ns pl p q n o (partsPaper r) out c k t,
   λ h. let e = block-takes ns pl p q n o h in (e .0, ap (λ (x : Parting). x .answer) c ∙ e .1),
 )
 
 -- of blocks::byte: byte o of file f. Its piece and offset are its place in the joined content, and the block of that one byte is that byte of that file
-module _ (ns : List ℕ) (pl f o : ℕ) (r : Place) (c : placePaper r ≡ byteOf (joined ns) pl f o) where
+module _ (ns : List ℕ) (pl f o : ℕ) (r : Place) (c : placePaper r ≡ byteOf (joinedFiles ns) pl f o) where
   pub byte-finds-piece : (x : Spot) → placePaper r ≡ taken x
-      → (x .piece * pl + x .offset ≡ sum (take f ns) + o) × (x .offset < pl) × (blockOf (joined ns) pl (x .piece) (x .offset) 1 ≡ taken (part f o 1 ∷ []))
+      → (x .piece * pl + x .offset ≡ sum (take f ns) + o) × (x .offset < pl) × (blockOf (joinedFiles ns) pl (x .piece) (x .offset) 1 ≡ taken (part f o 1 ∷ []))
   byte-finds-piece x e = byte-found ns pl f o x (sym c ∙ e)
 
   -- and every byte of every file has one

@@ -8,7 +8,7 @@ use native.Mathlib.Omega.{arith}
 use lib.ListN.{length, take, drop, getD, set, replicate, length-append, length-take, length-replicate, length-set, replicate-append-replicate}
 use lib.Seq.{sets, sets-eq, length-sets, paste, paste-suc, take-length, take-all, take-at, drop-at, set-at, take-append-le, drop-drop}
 use borrow.Author.Tests.{le-leb}
-use Rattle.refusal.specs.BigEndian.{bytesOf, fits, written}
+use Rattle.refusal.specs.BigEndian.{bytesOf, fits, numberWritten}
 use Rattle.refusal.proofs.Bytes.{length-bytesOf}
 use Rattle.refusal.proofs.Places.{sets-append}
 use Rattle.digest.specs.Message.{zeros, padding, filled}
@@ -139,7 +139,7 @@ ends s o n at {bits} l h k z b e =
 
 -- the same, from the call that writes the length
 pub ends-written : (s o t : List ℕ) (n at bits : ℕ) → length s ≡ n % 64 → n % 64 < at → at + 8 ≤ 128 → zeros n ≡ at - 1 - n % 64 → bits ≡ n * 8
-    → o ≡ sets (replicate 128 0) 0 s → t ≡ written 8 (set o (n % 64) 128) at bits → t ≡ filled 128 (s ++ padding n)
+    → o ≡ sets (replicate 128 0) 0 s → t ≡ numberWritten 8 (set o (n % 64) 128) at bits → t ≡ filled 128 (s ++ padding n)
 ends-written s o t n at bits l h k z b e w =
     let m : length (set o (n % 64) 128) ≡ 128 = length-set o (n % 64) 128 ∙ ap length e ∙ length-sets (replicate 128 0) 0 s ∙ length-replicate {A = ℕ} 128 0 in
     let f : fits 8 (set o (n % 64) 128) at ≡ true = le-leb (at + 8) (length (set o (n % 64) 128)) (omega arith) in

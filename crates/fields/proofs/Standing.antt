@@ -7,7 +7,7 @@ use lib.IntN.{ℤ}
 use lib.ListN.{length, take, drop, length-append}
 use Rattle.refusal.specs.Paper.{Outcome, taken, refused, then, map}
 use Rattle.refusal.specs.declared.Part.{Part}
-use Rattle.scalar.specs.Written.{decimal, written}
+use Rattle.scalar.specs.Written.{decimal, writtenString}
 use Rattle.bencode.specs.Value.{Value, Items, Entries, str, int, list, dict, encode}
 use Rattle.walk.specs.Walk.{Head, lookOf}
 use Rattle.walk.specs.Stands.{Stands, StandItems, StandEntries}
@@ -23,7 +23,7 @@ module _ (s : List ℕ) (d p : ℕ) where
   -- where a string stands, its bytes begin past its length and colon
   pub begins : (bs : List ℕ) (b : Bytes s p bs) → b .from ≡ p + suc (length (decimal (length bs)))
   begins bs b =
-      let e = string-from s p (b .from) (length bs) (p + length (written bs)) (b .seen) in
+      let e = string-from s p (b .from) (length bs) (p + length (writtenString bs)) (b .seen) in
       omega (arith, length-append (decimal (length bs)) (58 ∷ bs))
 
   -- the part of a string that stands at p is its bytes

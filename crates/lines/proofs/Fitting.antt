@@ -7,7 +7,7 @@ use native.Mathlib.Omega.{arith}
 use borrow.Author.Tests.{ltb-true, ltb-false}
 use lib.Dec.{ltb}
 use lib.ListN.{length, length-append}
-use Rattle.scalar.specs.Written.{decimal, written}
+use Rattle.scalar.specs.Written.{decimal, writtenString}
 use Rattle.writer.proofs.Decimals.{length-one, length-last}
 use Rattle.bencode.specs.Value.{Value, Items, Entries, str, int, list, dict, none, item, empty, entry, encode, encodeItems, encodeEntries}
 use Rattle.bencode.proofs.Complete.{encode-pos}
@@ -42,15 +42,15 @@ dict-length es = omega arith
 pub entries-pos : (es : Entries) → 1 ≤ length (encodeEntries es)
 unfolding encodeEntries
 entries-pos empty = omega arith
-entries-pos (entry k v es) = omega (arith, length-append (written k) (encode v ++ encodeEntries es), length-append (encode v) (encodeEntries es), entries-pos es)
+entries-pos (entry k v es) = omega (arith, length-append (writtenString k) (encode v ++ encodeEntries es), length-append (encode v) (encodeEntries es), entries-pos es)
 
 -- what a dictionary has under a key is a part of it
 pub has-room : (es : Entries) (k : List ℕ) (v : Value) → Has es k v → length k + length (encode v) + 3 ≤ length (encodeEntries es)
 unfolding encodeEntries
 has-room es k v (here j w ds) =
-    omega (arith, length-append (written j) (encode w ++ encodeEntries ds), length-append (encode w) (encodeEntries ds), length-append (decimal (length j)) (58 ∷ j), digits-some (length j), entries-pos ds)
+    omega (arith, length-append (writtenString j) (encode w ++ encodeEntries ds), length-append (encode w) (encodeEntries ds), length-append (decimal (length j)) (58 ∷ j), digits-some (length j), entries-pos ds)
 has-room es k v (there j w ds l u x) =
-    omega (arith, length-append (written j) (encode w ++ encodeEntries ds), length-append (encode w) (encodeEntries ds), has-room ds l u x)
+    omega (arith, length-append (writtenString j) (encode w ++ encodeEntries ds), length-append (encode w) (encodeEntries ds), has-room ds l u x)
 
 -- ---- paths
 

@@ -11,7 +11,7 @@ use lib.ListN.{length}
 use Rattle.refusal.specs.Paper.{Outcome, taken, refused, map, then}
 use Rattle.refusal.specs.declared.Part.{Part}
 use Rattle.refusal.proofs.Outcomes.{then-taken, map-taken}
-use Rattle.scalar.specs.Written.{written}
+use Rattle.scalar.specs.Written.{writtenString}
 use Rattle.bencode.specs.Value.{Value, Items, Entries, str, int, list, dict, none, item, empty, entry, encode}
 use Rattle.walk.specs.Lookup.{Under, nothing, under, lookup, sameKey}
 use Rattle.fields.specs.Values.{partOf, naturalAt, listAt, dictionaryAt, must}
@@ -84,11 +84,11 @@ path-taken p v a e = let t = then-taken (listAt p v) (pathIn p) a e in go (t .0)
 pub found-any : (p q : ℕ) (es : Entries) (k : List ℕ) → found (lookup p es k) ≡ found (lookup q es k)
 unfolding lookup
 found-any p q empty k = refl
-found-any p q (entry j v es) k = go (sameKey j k) (found-any (p + length (written j) + length (encode v)) (q + length (written j) + length (encode v)) es k)
+found-any p q (entry j v es) k = go (sameKey j k) (found-any (p + length (writtenString j) + length (encode v)) (q + length (writtenString j) + length (encode v)) es k)
   where
-    go : (b : Bool) → found (lookup (p + length (written j) + length (encode v)) es k) ≡ found (lookup (q + length (written j) + length (encode v)) es k)
-        → found (cond b (under (p + length (written j)) v) (lookup (p + length (written j) + length (encode v)) es k))
-        ≡ found (cond b (under (q + length (written j)) v) (lookup (q + length (written j) + length (encode v)) es k))
+    go : (b : Bool) → found (lookup (p + length (writtenString j) + length (encode v)) es k) ≡ found (lookup (q + length (writtenString j) + length (encode v)) es k)
+        → found (cond b (under (p + length (writtenString j)) v) (lookup (p + length (writtenString j) + length (encode v)) es k))
+        ≡ found (cond b (under (q + length (writtenString j)) v) (lookup (q + length (writtenString j) + length (encode v)) es k))
     go true e = refl
     go false e = e
 

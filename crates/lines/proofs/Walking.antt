@@ -12,7 +12,7 @@ use Rattle.refusal.specs.declared.Part.{Part}
 use Rattle.refusal.proofs.Outcomes.{then-taken, map-taken}
 use Rattle.scalar.specs.Written.{decimal}
 use Rattle.bencode.specs.Value.{Value, Items, Entries, str, int, list, dict, none, item, encode, encodeItems, start}
-use Rattle.bencode.specs.Decode.{kindOf, valueOf}
+use Rattle.bencode.specs.Decode.{kindOf, valueFrom}
 use Rattle.bencode.proofs.Complete.{encode-pos}
 use Rattle.walk.specs.Walk.{Head, end}
 use Rattle.walk.specs.Stands.{Stands, StandItems}
@@ -184,8 +184,8 @@ file-read s d p v t f e =
 
 -- where a list of files ends, no file stands
 pub no-file : (s : List ℕ) (d p : ℕ) → StandItems s d p none → fileAt s p ≡ refused 2 p
-unfolding valueOf kindOf encodeItems
-no-file s d p t = ap (λ (l : List ℕ). then (valueIn (valueOf 32 (length s) l p 0)) (fileOf p)) (t .text)
+unfolding valueFrom kindOf encodeItems
+no-file s d p t = ap (λ (l : List ℕ). then (valueIn (valueFrom 32 (length s) l p 0)) (fileOf p)) (t .text)
 
 -- the file at p, and what is left after it
 pub record Filing (s : List ℕ) (o : ℕ) (w : List ℕ) (p : ℕ) (f : File) : Type 0 where

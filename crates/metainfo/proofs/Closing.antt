@@ -7,7 +7,7 @@ use native.Mathlib.Omega.{arith}
 use lib.ListN.{length}
 use Rattle.refusal.specs.Paper.{Outcome, taken, refused, map, then}
 use Rattle.refusal.specs.declared.Part.{Part}
-use Rattle.scalar.specs.Written.{written, keyLt}
+use Rattle.scalar.specs.Written.{writtenString, keyLt}
 use Rattle.bencode.specs.Value.{Value, Items, Entries, dict, empty, entry, encode, encodeEntries, Prev, start, last}
 use Rattle.walk.specs.Walk.{Hit, found, missing, seekPaper, key, close, entryOf, skipOf}
 use Rattle.walk.specs.Stands.{StandEntries}
@@ -35,10 +35,10 @@ use Rattle.metainfo.proofs.Telling.{Told, tell, tell-first, tell-second
 goes-sought : (s : List ℕ) (d p : ℕ) (before : Prev) (es : Entries) (k : List ℕ) → StandEntries s d p before es → Goes s d p es (placeOf (soughtOf p es k))
 unfolding soughtOf
 goes-sought s d p before empty k t = record { before = before; left = empty; stands = t; ends = refl }
-goes-sought s d p before (entry j v es) k t = go (goes-sought s d (p + length (written j) + length (encode v)) (last j) es k (entries-next s d p before j v es t .others)) (keyLt j k) refl (keyLt k j) refl
+goes-sought s d p before (entry j v es) k t = go (goes-sought s d (p + length (writtenString j) + length (encode v)) (last j) es k (entries-next s d p before j v es t .others)) (keyLt j k) refl (keyLt k j) refl
   where
-    go : Goes s d (p + length (written j) + length (encode v)) es (placeOf (soughtOf (p + length (written j) + length (encode v)) es k)) → (a : Bool) → keyLt j k ≡ a → (b : Bool) → keyLt k j ≡ b
-        → Goes s d p (entry j v es) (placeOf (cond (keyLt j k) (soughtOf (p + length (written j) + length (encode v)) es k) (cond (keyLt k j) (missing p) (found p (p + length (written j))))))
+    go : Goes s d (p + length (writtenString j) + length (encode v)) es (placeOf (soughtOf (p + length (writtenString j) + length (encode v)) es k)) → (a : Bool) → keyLt j k ≡ a → (b : Bool) → keyLt k j ≡ b
+        → Goes s d p (entry j v es) (placeOf (cond (keyLt j k) (soughtOf (p + length (writtenString j) + length (encode v)) es k) (cond (keyLt k j) (missing p) (found p (p + length (writtenString j))))))
     go r true x b y = rw x (record { before = r .before; left = r .left; stands = r .stands; ends = r .ends ∙ omega (arith, entry-length j v es) })
     go r false x true y = rw (x, y) (record { before = before; left = entry j v es; stands = t; ends = refl })
     go r false x false y = rw (x, y) (record { before = before; left = entry j v es; stands = t; ends = refl })
@@ -90,12 +90,12 @@ module _ (s : List ℕ) (from p : ℕ) (g : Closing s from p) where
 
   module _ (a m q : ℕ) (e : taken (key a m q) ≡ entryOf s p) where
     -- the value under the key
-    skipped : (d : ℕ) → d ≤ 32 → (b : Prev) (j : List ℕ) (v : Value) (ws : Entries) → StandEntries s d p b (entry j v ws) → skipOf s q ≡ taken (p + length (written j) + length (encode v))
+    skipped : (d : ℕ) → d ≤ 32 → (b : Prev) (j : List ℕ) (v : Value) (ws : Entries) → StandEntries s d p b (entry j v ws) → skipOf s q ≡ taken (p + length (writtenString j) + length (encode v))
     skipped d l b j v ws u =
         let n = entries-next s d p b j v ws u in
-        let f : taken (key a m q) ≡ taken (key (n .from) (length j) (p + length (written j))) = e ∙ n .seen in
-        let h : q ≡ p + length (written j) = cc in
-        ap (skipOf s) h ∙ skip-past s d (p + length (written j)) v l (n .value)
+        let f : taken (key a m q) ≡ taken (key (n .from) (length j) (p + length (writtenString j))) = e ∙ n .seen in
+        let h : q ≡ p + length (writtenString j) = cc in
+        ap (skipOf s) h ∙ skip-past s d (p + length (writtenString j)) v l (n .value)
 
     pub closing-bad : (r o : ℕ) → refused r o ≡ skipOf s q → (d : ℕ) → (before : Prev) → (es : Entries) → d ≤ 32 → StandEntries s d from before es → refused r o ≡ taken (from + length (encodeEntries es))
     closing-bad r o k d before es l t = go (g d before es l t .before) (g d before es l t .left) (g d before es l t .stands)
@@ -110,8 +110,8 @@ module _ (s : List ℕ) (from p : ℕ) (g : Closing s from p) where
         go : (b : Prev) (left : Entries) → StandEntries s d p b left → p + length (encodeEntries left) ≡ from + length (encodeEntries es) → Goes s d from es next
         go b empty u i = let f = e ∙ entries-end s d p b u in no-way (cc)
         go b (entry j v ws) u i =
-            let f : taken next ≡ taken (p + length (written j) + length (encode v)) = k ∙ skipped d l b j v ws u in
-            let h : next ≡ p + length (written j) + length (encode v) = cc in
+            let f : taken next ≡ taken (p + length (writtenString j) + length (encode v)) = k ∙ skipped d l b j v ws u in
+            let h : next ≡ p + length (writtenString j) + length (encode v) = cc in
             record {
               before = last j;
               left = ws;

@@ -14,7 +14,7 @@ use Rattle.scalar.specs.Reading.{Got, got, bad}
 use Rattle.scalar.specs.Written.{keyLt}
 use Rattle.scalar.proofs.Sound.{Holds}
 use Rattle.bencode.specs.Value.{Value, Items, Entries, str, int, list, dict, none, item, encode, encodeItems, encodeEntries, count, Prev, start, last}
-use Rattle.bencode.specs.Decode.{closes, valueOf}
+use Rattle.bencode.specs.Decode.{closes, valueFrom}
 use Rattle.bencode.proofs.Complete.{complete, encode-pos}
 use Rattle.bencode.proofs.Sound.{Took, value-sound}
 use Rattle.walk.specs.Walk.{seekPaper, skipOf, pastOf}
@@ -178,23 +178,23 @@ module _ (s : List ℕ) (p : ℕ) where
   passed-by h (got v r q m) t = (record { rest = r; text = t .at .text; inside = h; keeps = t .keeps; few = omega (arith, t .counted, t .few) }, t .at .place)
   passed-by h (bad r q) t = tt
 
-  passed : (t : Bool) → ltb p (length s) ≡ t → Passed (valueOf 32 (length s) (drop p s) p 0)
-  unfolding valueOf
+  passed : (t : Bool) → ltb p (length s) ≡ t → Passed (valueFrom 32 (length s) (drop p s) p 0)
+  unfolding valueFrom
   passed true e =
       let h = ltb-true p (length s) e in
-      passed-by (omega arith) (valueOf 32 (length s) (drop p s) p 0) (value-sound 32 (length s) (drop p s) p 0 (omega (arith, length-drop p s)))
-  passed false e = subst (λ (l : List ℕ). Passed (valueOf 32 (length s) l p 0)) (sym (drop-of-length-le s (ltb-false p (length s) e))) tt
+      passed-by (omega arith) (valueFrom 32 (length s) (drop p s) p 0) (value-sound 32 (length s) (drop p s) p 0 (omega (arith, length-drop p s)))
+  passed false e = subst (λ (l : List ℕ). Passed (valueFrom 32 (length s) l p 0)) (sym (drop-of-length-le s (ltb-false p (length s) e))) tt
 
   -- what skip goes past is the value there
   pub value-past : (q : ℕ) → taken q ≡ skipOf s p → (v : Value) × (valueAt s p ≡ taken v) × Stands s 32 p v × (q ≡ p + length (encode v))
-  value-past q e = go (valueOf 32 (length s) (drop p s) p 0) (passed (ltb p (length s)) refl) e
+  value-past q e = go (valueFrom 32 (length s) (drop p s) p 0) (passed (ltb p (length s)) refl) e
     where
       go : (g : Got Value) → Passed g → taken q ≡ pastOf g → (v : Value) × (valueIn g ≡ taken v) × Stands s 32 p v × (q ≡ p + length (encode v))
       go (got v l i n) h f = (v, refl, h .0, (cc) ∙ h .1)
       go (bad r o) h f = no-way (cc)
 
   pub value-bad : (r o : ℕ) → refused r o ≡ skipOf s p → refused r o ≡ fileAt s p
-  value-bad r o e = go (valueOf 32 (length s) (drop p s) p 0) e
+  value-bad r o e = go (valueFrom 32 (length s) (drop p s) p 0) e
     where
       go : (g : Got Value) → refused r o ≡ pastOf g → refused r o ≡ then (valueIn g) (fileOf p)
       go (got v l i n) f = no-way (cc)
@@ -206,9 +206,9 @@ module _ (s : List ℕ) (p : ℕ) where
   -- where a value stands, the file there is that value's
   pub file-stands : (d : ℕ) (v : Value) → d ≤ 32 → Stands s d p v → fileAt s p ≡ fileOf p v
   file-stands d v h t =
-      let x : valueOf 32 (length s) (encode v ++ t .rest) p 0 ≡ got v (t .rest) (p + length (encode v)) (0 + count v) =
+      let x : valueFrom 32 (length s) (encode v ++ t .rest) p 0 ≡ got v (t .rest) (p + length (encode v)) (0 + count v) =
       complete v 32 (length s) (t .rest) p 0 (keeps-more v d 32 h (t .keeps)) (omega (arith, length-drop p s, ap length (t .text), t .inside)) (omega (arith, t .few)) in
-      ap (λ (l : List ℕ). then (valueIn (valueOf 32 (length s) l p 0)) (fileOf p)) (t .text) ∙ ap (λ (g : Got Value). then (valueIn g) (fileOf p)) x
+      ap (λ (l : List ℕ). then (valueIn (valueFrom 32 (length s) l p 0)) (fileOf p)) (t .text) ∙ ap (λ (g : Got Value). then (valueIn g) (fileOf p)) x
 
 -- ---- a file's next place
 
@@ -233,7 +233,7 @@ file-next p v f e = go (dictionaryAt p v) e
 
 -- a file goes further
 pub file-further : (s : List ℕ) (p : ℕ) (f : File) → taken f ≡ fileAt s p → (p < f .next) × (f .next ≤ length s)
-file-further s p f e = go (valueOf 32 (length s) (drop p s) p 0) (passed s p (ltb p (length s)) refl) e
+file-further s p f e = go (valueFrom 32 (length s) (drop p s) p 0) (passed s p (ltb p (length s)) refl) e
   where
     go : (g : Got Value) → Passed s p g → taken f ≡ then (valueIn g) (fileOf p) → (p < f .next) × (f .next ≤ length s)
     go (got v l i n) h k =

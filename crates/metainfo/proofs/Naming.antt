@@ -10,12 +10,12 @@ use borrow.Author.Tests.{eq-eqb, ne-eqb, eqb-true}
 use Rattle.refusal.specs.Paper.{Outcome, taken, refused, then, map}
 use Rattle.refusal.specs.declared.Part.{Part}
 pub use Rattle.refusal.proofs.Cases.{no-way}
-use Rattle.scalar.specs.Written.{written}
+use Rattle.scalar.specs.Written.{writtenString}
 use Rattle.scalar.specs.Reading.{onHead}
 use Rattle.scalar.proofs.Forms.{at-head}
 use Rattle.bencode.specs.Value.{Value, Items, Entries, str, int, list, dict, none, item, encode, encodeItems}
 use Rattle.bencode.specs.Decode.{closes}
-use Rattle.walk.specs.Walk.{Head, string, integer, long, end, lookOf, entryOf, dueOf, key}
+use Rattle.walk.specs.Walk.{Head, string, integer, long, end, lookOf, entryOf, asEntry, key}
 use Rattle.walk.specs.Walk as walk
 use Rattle.walk.specs.Stands.{Stands, StandItems}
 use Rattle.walk.proofs.Standing.{Bytes, string-stands, integer-stands, list-stands, dictionary-stands, items-end, items-next, closes-none, closes-item}
@@ -152,7 +152,7 @@ going-start s first d vs t = record { left = vs; stands = t; same = refl }
 module _ (s : List ℕ) (first p : ℕ) (g : Going s first p) where
   -- a string that is seen goes further
   pub string-further : (a m q : ℕ) → taken (string a m q) ≡ lookOf s p → (p < q) × (q ≤ length s)
-  string-further a m q e = key-further s p a m q (ap (λ (o : Outcome Head). then o (dueOf p)) (sym e))
+  string-further a m q e = key-further s p a m q (ap (λ (o : Outcome Head). then o (asEntry p)) (sym e))
 
   pub going-more : (x : Part) (q : ℕ) → taken (string (x .from) (x .len) q) ≡ lookOf s p → goodName (take (x .len) (drop (x .from) s)) ≡ true → Going s first q
   unfolding elementsOf

@@ -9,7 +9,7 @@ use Rattle.refusal.specs.Limits.{mostLevels}
 use Rattle.refusal.specs.declared.Part.{Part}
 use Rattle.scalar.specs.Reading.{Got, got, bad}
 use Rattle.bencode.specs.Value.{Value, encode}
-use Rattle.bencode.specs.Decode.{valueOf, decode}
+use Rattle.bencode.specs.Decode.{valueFrom, decode}
 use Rattle.fields.specs.Looks.{endingAt}
 use Rattle.fields.specs.Values.{listAt}
 use Rattle.metainfo.specs.Rules.{fileOf, lengthsOf, torrentOf}
@@ -62,7 +62,7 @@ valueIn (got v l q n) = taken v
 valueIn (bad r p) = refused r p
 
 abbrev pub valueAt : List ℕ → ℕ → Outcome Value
-valueAt s p = valueIn (valueOf mostLevels (length s) (drop p s) p 0)
+valueAt s p = valueIn (valueFrom mostLevels (length s) (drop p s) p 0)
 
 -- the file that stands at p of any text
 abbrev pub fileAt : List ℕ → ℕ → Outcome File

@@ -3,8 +3,8 @@ use mathlib.Core.Path.{_≡_, refl, sym, ap, _∙_}
 use mathlib.Core.List.{List}
 use Prim.Native.Nat.{ℕ}
 use Rattle.refusal.specs.Paper.{Outcome, taken, refused}
-use Rattle.blocks.specs.Spans.{joined}
-use Rattle.blocks.specs.Answers.{Left as Laid, left as laid, blockOf, written}
+use Rattle.blocks.specs.Spans.{joinedFiles}
+use Rattle.blocks.specs.Answers.{Left as Laid, left as laid, blockOf, partsWritten}
 use Rattle.blocks.specs.declared.Parts.the-variants.{Refused as Unlaid}
 use Rattle.blocks.proofs.Determined.{block-refusal-keeps}
 use Rattle.sha1.specs.Digest.{Left as Hash, left as hash, digestOf}
@@ -64,14 +64,14 @@ write-torrent-keeps f o = keeps (torrentTextOf f o) o (λ n p e. torrent-keeps f
 
 -- ---- blocks
 
-pub block-keeps : (ns : List ℕ) (pl p o n : ℕ) (out : List ℕ) (r d : ℕ) (after : List ℕ) → Parted (written (blockOf (joined ns) pl p o n) out) r d after → (r ≡ 0 → ⊥) → after ≡ out
+pub block-keeps : (ns : List ℕ) (pl p o n : ℕ) (out : List ℕ) (r d : ℕ) (after : List ℕ) → Parted (partsWritten (blockOf (joinedFiles ns) pl p o n) out) r d after → (r ≡ 0 → ⊥) → after ≡ out
 block-keeps ns pl p o n out r d after w = kept (l .answer) (l .out) out k r after (w .0) (w .2)
   where
     l : Laid
-    l = written (blockOf (joined ns) pl p o n) out
+    l = partsWritten (blockOf (joinedFiles ns) pl p o n) out
 
     k : (m q : ℕ) → l .answer ≡ refused m q → l .out ≡ out
-    k m q e = block-refusal-keeps (joined ns) pl p o n out (Unlaid (record { number = m; place = q })) (l .out) (ap (λ (x : Outcome ℕ). laid x (l .out)) (sym e)) m q refl
+    k m q e = block-refusal-keeps (joinedFiles ns) pl p o n out (Unlaid (record { number = m; place = q })) (l .out) (ap (λ (x : Outcome ℕ). laid x (l .out)) (sym e)) m q refl
 
 -- ---- digests
 

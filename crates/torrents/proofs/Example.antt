@@ -11,7 +11,7 @@ use Rattle.refusal.specs.Paper.{taken}
 use Rattle.scalar.specs.Written.{keyLt}
 use Rattle.scalar.specs.Reading.{digitsVal, digitsLen, stringOf, closedOf, integerOf}
 use Rattle.bencode.specs.Value.{Value, Entries, int, empty, entry}
-use Rattle.bencode.specs.Decode.{decode, kindOf, keyOf, itemsOf, entriesOf, valueOf}
+use Rattle.bencode.specs.Decode.{decode, kindOf, keyOf, itemsOf, entriesOf, valueFrom}
 use Rattle.bencode.specs.Exact.{Fine}
 use Rattle.bencode.proofs.Exact.{taken-fine}
 use Rattle.walk.specs.Lookup.{sameKey}
@@ -27,7 +27,7 @@ use Rattle.torrents.proofs.Paths.{AllGood, more-good}
 
 -- the text is read as the value
 text-decodes : decode text ≡ taken value
-unfolding text strings decode valueOf itemsOf entriesOf kindOf stringOf closedOf integerOf keyOf digitsVal digitsLen keyLt
+unfolding text strings decode valueFrom itemsOf entriesOf kindOf stringOf closedOf integerOf keyOf digitsVal digitsLen keyLt
 text-decodes = refl
 
 pub listing-fine : Fine text value

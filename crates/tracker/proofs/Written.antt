@@ -10,7 +10,7 @@ use lib.ListN.{length, length-append}
 use lib.Seq.{sets}
 use borrow.Author.Tests.{lt-ltb, le-ltb}
 use Rattle.refusal.specs.Paper.{Outcome, taken, refused}
-use Rattle.scalar.specs.Written.{decimal, decimalIn, written, writtenInt}
+use Rattle.scalar.specs.Written.{decimal, decimalIn, writtenString, writtenInt}
 use Rattle.bencode.specs.Value.{encode}
 use Rattle.writer.specs.Put.{Left, paper, left, putOf}
 use Rattle.writer.specs.declared.Put.{Put}
@@ -19,7 +19,7 @@ use Rattle.writer.proofs.Laws.{put-whole, put-none}
 use Rattle.writer.proofs.Decimals.{length-most}
 use Rattle.writer.proofs.Runs.{ran-as, ran-put, put-ran}
 use Rattle.tracker.specs.Keys.{interval, peers}
-use Rattle.tracker.specs.Writing.{compactReply, textOf, writeOf, endOf}
+use Rattle.tracker.specs.Writing.{compactReply, textOf, writeOf, placePast}
 
 -- what stands before the number of seconds, and between that and the entries
 abbrev pub opening : List ℕ
@@ -28,49 +28,49 @@ opening = 100 ∷ 56 ∷ 58 ∷ 105 ∷ 110 ∷ 116 ∷ 101 ∷ 114 ∷ 118 ∷ 
 abbrev pub between : List ℕ
 between = 101 ∷ 53 ∷ 58 ∷ 112 ∷ 101 ∷ 101 ∷ 114 ∷ 115 ∷ []
 
-pub parts : (n : ℕ) (bs : List ℕ) → textOf n bs ≡ opening ++ (decimal n ++ (between ++ (written bs ++ (101 ∷ []))))
+pub parts : (n : ℕ) (bs : List ℕ) → textOf n bs ≡ opening ++ (decimal n ++ (between ++ (writtenString bs ++ (101 ∷ []))))
 unfolding encode decimalIn
-parts n bs = ap (λ (l : List ℕ). opening ++ l) (append-assoc (decimal n) (101 ∷ []) (53 ∷ 58 ∷ 112 ∷ 101 ∷ 101 ∷ 114 ∷ 115 ∷ (written bs ++ (101 ∷ []))))
+parts n bs = ap (λ (l : List ℕ). opening ++ l) (append-assoc (decimal n) (101 ∷ []) (53 ∷ 58 ∷ 112 ∷ 101 ∷ 101 ∷ 114 ∷ 115 ∷ (writtenString bs ++ (101 ∷ []))))
 
 pub size : (n : ℕ) (bs : List ℕ) → length (textOf n bs) ≡ length (decimal n) + length (decimal (length bs)) + length bs + 22
 size n bs =
     ap length (parts n bs)
-    ∙ omega (arith, length-append (decimal n) (between ++ (written bs ++ (101 ∷ []))), length-append (written bs) (101 ∷ []), length-append (decimal (length bs)) (58 ∷ bs))
+    ∙ omega (arith, length-append (decimal n) (between ++ (writtenString bs ++ (101 ∷ []))), length-append (writtenString bs) (101 ∷ []), length-append (decimal (length bs)) (58 ∷ bs))
 
-joined : (n : ℕ) (bs : List ℕ) → (((opening ++ decimal n) ++ between) ++ written bs) ++ (101 ∷ []) ≡ textOf n bs
+joined : (n : ℕ) (bs : List ℕ) → (((opening ++ decimal n) ++ between) ++ writtenString bs) ++ (101 ∷ []) ≡ textOf n bs
 joined n bs =
-    append-assoc ((opening ++ decimal n) ++ between) (written bs) (101 ∷ [])
-    ∙ append-assoc (opening ++ decimal n) between (written bs ++ (101 ∷ []))
-    ∙ append-assoc opening (decimal n) (between ++ (written bs ++ (101 ∷ [])))
+    append-assoc ((opening ++ decimal n) ++ between) (writtenString bs) (101 ∷ [])
+    ∙ append-assoc (opening ++ decimal n) between (writtenString bs ++ (101 ∷ []))
+    ∙ append-assoc opening (decimal n) (between ++ (writtenString bs ++ (101 ∷ [])))
     ∙ sym (parts n bs)
 
 -- each part fits where the whole does
 module _ (o : List ℕ) (n : ℕ) (bs : List ℕ) (h : length (textOf n bs) ≤ length o) where
-  whole-size : length ((((opening ++ decimal n) ++ between) ++ written bs) ++ (101 ∷ [])) ≤ length o
+  whole-size : length ((((opening ++ decimal n) ++ between) ++ writtenString bs) ++ (101 ∷ [])) ≤ length o
   whole-size = omega (arith, ap length (joined n bs))
 
   pub put-parts : {a b c d e : ℕ} {o₁ o₂ o₃ o₄ o₅ : List ℕ} {r₁ r₂ r₃ r₄ r₅ : Outcome ℕ}
-      → left r₁ o₁ ≡ putOf opening 0 o → a ≡ endOf r₁ → left r₂ o₂ ≡ putOf (decimal n) a o₁ → b ≡ endOf r₂ → left r₃ o₃ ≡ putOf between b o₂ → c ≡ endOf r₃
-      → left r₄ o₄ ≡ putOf (written bs) c o₃ → d ≡ endOf r₄ → left r₅ o₅ ≡ putOf (101 ∷ []) d o₄ → e ≡ endOf r₅ → (e ≡ length (textOf n bs)) × (o₅ ≡ sets o 0 (textOf n bs))
+      → left r₁ o₁ ≡ putOf opening 0 o → a ≡ placePast r₁ → left r₂ o₂ ≡ putOf (decimal n) a o₁ → b ≡ placePast r₂ → left r₃ o₃ ≡ putOf between b o₂ → c ≡ placePast r₃
+      → left r₄ o₄ ≡ putOf (writtenString bs) c o₃ → d ≡ placePast r₄ → left r₅ o₅ ≡ putOf (101 ∷ []) d o₄ → e ≡ placePast r₅ → (e ≡ length (textOf n bs)) × (o₅ ≡ sets o 0 (textOf n bs))
   put-parts e₁ f₁ e₂ f₂ e₃ f₃ e₄ f₄ e₅ f₅ =
       let l = whole-size in
-      let l₄ = length-append (((opening ++ decimal n) ++ between) ++ written bs) (101 ∷ []) in
-      let l₃ = length-append ((opening ++ decimal n) ++ between) (written bs) in
+      let l₄ = length-append (((opening ++ decimal n) ++ between) ++ writtenString bs) (101 ∷ []) in
+      let l₃ = length-append ((opening ++ decimal n) ++ between) (writtenString bs) in
       let l₂ = length-append (opening ++ decimal n) between in
       let l₁ = length-append opening (decimal n) in
       let r₁ = put-ran opening 0 o (omega arith) e₁ f₁ in
       let r₂ = ran-put r₁ (decimal n) (omega arith) e₂ f₂ in
       let r₃ = ran-put r₂ between (omega arith) e₃ f₃ in
-      let r₄ = ran-put r₃ (written bs) (omega arith) e₄ f₄ in
+      let r₄ = ran-put r₃ (writtenString bs) (omega arith) e₄ f₄ in
       let r₅ = ran-as (ran-put r₄ (101 ∷ []) (omega arith) e₅ f₅) (joined n bs) in
       (omega (arith, r₅ .place), r₅ .out)
 
 -- the digits of a number, from the room that they take
-pub counted-digits : (n : ℕ) (room : List ℕ) {r : Outcome ℕ} {out : List ℕ} {at : ℕ} → n < 2 ^ 64 → length room ≡ 20 → left r out ≡ putOf (decimal n) 0 room → at ≡ endOf r → (at ≡ length (decimal n)) × (at ≤ 20)
+pub counted-digits : (n : ℕ) (room : List ℕ) {r : Outcome ℕ} {out : List ℕ} {at : ℕ} → n < 2 ^ 64 → length room ≡ 20 → left r out ≡ putOf (decimal n) 0 room → at ≡ placePast r → (at ≡ length (decimal n)) × (at ≤ 20)
 counted-digits n room {at = at} h l e f =
     let m : length (decimal n) ≤ 20 = length-most 19 n (omega arith) in
     let g = e ∙ put-whole (decimal n) 0 room (omega arith) in
-    let k : at ≡ length (decimal n) = f ∙ ap (λ (x : Left). endOf (x .answer)) g ∙ omega arith in
+    let k : at ≡ length (decimal n) = f ∙ ap (λ (x : Left). placePast (x .answer)) g ∙ omega arith in
     (k, omega arith)
 
 -- what the code answers, test by test

@@ -5,7 +5,7 @@ ghost use lib.ListN.{length};
 ghost use lib.Seq.{sets};
 ghost use Rattle.scalar.specs.Written.{decimal};
 ghost use Rattle.writer.specs.Put.{paper, left};
-ghost use Rattle.tracker.specs.Writing.{textOf, writeOf, endOf};
+ghost use Rattle.tracker.specs.Writing.{textOf, writeOf, placePast};
 use refusal::Refusal;
 use refusal::limit;
 use refusal::number;
@@ -55,7 +55,7 @@ fn digits(n: u64) -> usize
 
 // The place past what was put.
 fn end(put: Put) -> usize
-    ensures { λ r. ⌜ r ≡ endOf (paper put) ⌝ }
+    ensures { λ r. ⌜ r ≡ placePast (paper put) ⌝ }
 {
     match put {
         Put::To(at) => at,

@@ -4,7 +4,7 @@ use mathlib.Core.List.{List}
 use Prim.Native.Nat.{ℕ, _+_, min}
 use lib.ListN.{length, take, drop}
 use Rattle.refusal.specs.Paper.{Outcome, taken, refused}
-use Rattle.walk.specs.Walk.{Head, string, integer, long, list, dictionary, end, paper, lookOf, Due, key, close, entryPaper, entryOf, pastPaper, skipOf, Hit, found, missing, seekPaper, seekOf}
+use Rattle.walk.specs.Walk.{Head, string, integer, long, list, dictionary, end, paper, lookOf, NextEntry, key, close, entryPaper, entryOf, pastPaper, skipOf, Hit, found, missing, seekPaper, seekOf}
 use Rattle.walk.specs.declared.Seen.{Seen}
 use Rattle.walk.specs.declared.Seen.the-variants.{String, Integer, Long, List as ListSeen, Dictionary, End, Refused}
 use Rattle.walk.specs.declared.Next.{Next}
@@ -33,7 +33,7 @@ seen-again (Dictionary q) = refl
 seen-again (End q) = refl
 seen-again (Refused r) = refl
 
-abbrev nextAs : Outcome Due → Next
+abbrev nextAs : Outcome NextEntry → Next
 nextAs (taken (key a m q)) = Key (record { from = a; len = m }) q
 nextAs (taken (close q)) = Close q
 nextAs (refused n p) = Not (record { number = n; place = p })

@@ -9,10 +9,10 @@ use lib.ListN.{length, take, drop, length-append}
 use borrow.Author.Tests.{eq-eqb, eqb-true}
 use Rattle.refusal.specs.Paper.{Outcome, taken, refused, then}
 use Rattle.refusal.proofs.Cases.{no-way}
-use Rattle.scalar.specs.Written.{written, keyLt}
+use Rattle.scalar.specs.Written.{writtenString, keyLt}
 use Rattle.scalar.proofs.Ordering.{key-same, key-irreflexive, key-less, key-not}
 use Rattle.bencode.specs.Value.{Value, Entries, empty, entry, encode, encodeEntries, KeepsEntries, Prev, start, last, follows}
-use Rattle.walk.specs.Walk.{Due, key, close, entryOf, skipOf, Hit, found, missing, seekBy, seekOf}
+use Rattle.walk.specs.Walk.{NextEntry, key, close, entryOf, skipOf, Hit, found, missing, seekBy, seekOf}
 use Rattle.walk.specs.Stands.{Stands, StandEntries}
 use Rattle.walk.specs.Lookup.{sameKey, Under, nothing, under, lookup}
 use Rattle.walk.proofs.Standing.{room, skip-past, entries-end, entries-next, Entered}
@@ -22,27 +22,27 @@ use Rattle.walk.proofs.Seeking.{key-further}
 unfoldable pub soughtOf : ℕ → Entries → List ℕ → Hit
 soughtOf p empty k = missing p
 soughtOf p (entry j v es) k =
-    let r : Hit = soughtOf (p + length (written j) + length (encode v)) es k in
-    cond (keyLt j k) r (cond (keyLt k j) (missing p) (found p (p + length (written j))))
+    let r : Hit = soughtOf (p + length (writtenString j) + length (encode v)) es k in
+    cond (keyLt j k) r (cond (keyLt k j) (missing p) (found p (p + length (writtenString j))))
 
 module _ (s k : List ℕ) (d : ℕ) (levels : d ≤ 32) where
   seek-by : (f p : ℕ) (before : Prev) (es : Entries) → StandEntries s d p before es → length s < p + f → seekOf f s p k ≡ taken (soughtOf p es k)
   unfolding seekOf soughtOf encodeEntries
   seek-by zero p before empty t h = absurd (omega (arith, room s p (101 ∷ []) (t .rest) (t .inside) (t .text)))
   seek-by zero p before (entry j v es) t h = absurd (omega (arith, t .inside))
-  seek-by (suc f) p before empty t h = ap (λ (o : Outcome Due). then o (seekBy s p k (λ q. seekOf f s q k))) (entries-end s d p before t)
+  seek-by (suc f) p before empty t h = ap (λ (o : Outcome NextEntry). then o (seekBy s p k (λ q. seekOf f s q k))) (entries-end s d p before t)
   seek-by (suc f) p before (entry j v es) t h =
       let n = entries-next s d p before j v es t in
-      let x = key-further s p (n .from) (length j) (p + length (written j)) (n .seen) in
-      ap (λ (o : Outcome Due). then o (seekBy s p k (λ q. seekOf f s q k))) (n .seen)
-      ∙ ap (λ (i : List ℕ). cond (keyLt i k) (then (skipOf s (p + length (written j))) (λ q. seekOf f s q k)) (taken (cond (keyLt k i) (missing p) (found p (p + length (written j)))))) (n .bytes)
-      ∙ ap (λ (o : Outcome ℕ). cond (keyLt j k) (then o (λ q. seekOf f s q k)) (taken (cond (keyLt k j) (missing p) (found p (p + length (written j)))))) (skip-past s d (p + length (written j)) v levels (n .value))
-      ∙ ap (λ (o : Outcome Hit). cond (keyLt j k) o (taken (cond (keyLt k j) (missing p) (found p (p + length (written j))))))
-      (seek-by f (p + length (written j) + length (encode v)) (last j) es (n .others) (omega arith))
+      let x = key-further s p (n .from) (length j) (p + length (writtenString j)) (n .seen) in
+      ap (λ (o : Outcome NextEntry). then o (seekBy s p k (λ q. seekOf f s q k))) (n .seen)
+      ∙ ap (λ (i : List ℕ). cond (keyLt i k) (then (skipOf s (p + length (writtenString j))) (λ q. seekOf f s q k)) (taken (cond (keyLt k i) (missing p) (found p (p + length (writtenString j)))))) (n .bytes)
+      ∙ ap (λ (o : Outcome ℕ). cond (keyLt j k) (then o (λ q. seekOf f s q k)) (taken (cond (keyLt k j) (missing p) (found p (p + length (writtenString j)))))) (skip-past s d (p + length (writtenString j)) v levels (n .value))
+      ∙ ap (λ (o : Outcome Hit). cond (keyLt j k) o (taken (cond (keyLt k j) (missing p) (found p (p + length (writtenString j))))))
+      (seek-by f (p + length (writtenString j) + length (encode v)) (last j) es (n .others) (omega arith))
       ∙ go (keyLt j k)
     where
-      go : (b : Bool) → cond b (taken (soughtOf (p + length (written j) + length (encode v)) es k)) (taken (cond (keyLt k j) (missing p) (found p (p + length (written j)))))
-          ≡ taken (cond b (soughtOf (p + length (written j) + length (encode v)) es k) (cond (keyLt k j) (missing p) (found p (p + length (written j)))))
+      go : (b : Bool) → cond b (taken (soughtOf (p + length (writtenString j) + length (encode v)) es k)) (taken (cond (keyLt k j) (missing p) (found p (p + length (writtenString j)))))
+          ≡ taken (cond b (soughtOf (p + length (writtenString j) + length (encode v)) es k) (cond (keyLt k j) (missing p) (found p (p + length (writtenString j)))))
       go true = refl
       go false = refl
 
@@ -87,7 +87,7 @@ unfolding lookup KeepsEntries
 lookup-none p empty j k d h o = refl
 lookup-none p (entry i v es) j k d h o =
     let x : keyLt k i ≡ true = key-less k j i o (h .0) in
-    rw (same-not-too i k x) (lookup-none (p + length (written i) + length (encode v)) es i k d (h .2) x)
+    rw (same-not-too i k x) (lookup-none (p + length (writtenString i) + length (encode v)) es i k d (h .2) x)
 
 -- what the search says of the value under the key
 pub data Says : Under → Hit → Type 0 where
@@ -97,14 +97,14 @@ pub data Says : Under → Hit → Type 0 where
 pub says : (p : ℕ) (es : Entries) (k : List ℕ) (d : ℕ) (before : Prev) → KeepsEntries es d before → Says (lookup p es k) (soughtOf p es k)
 unfolding lookup soughtOf KeepsEntries
 says p empty k d before h = it-is-not p
-says p (entry j v es) k d before h = go (says (p + length (written j) + length (encode v)) es k d (last j) (h .2)) (keyLt j k) refl (keyLt k j) refl
+says p (entry j v es) k d before h = go (says (p + length (writtenString j) + length (encode v)) es k d (last j) (h .2)) (keyLt j k) refl (keyLt k j) refl
   where
-    go : Says (lookup (p + length (written j) + length (encode v)) es k) (soughtOf (p + length (written j) + length (encode v)) es k) → (a : Bool) → keyLt j k ≡ a → (b : Bool) → keyLt k j ≡ b
-        → Says (cond (sameKey j k) (under (p + length (written j)) v) (lookup (p + length (written j) + length (encode v)) es k))
-        (cond (keyLt j k) (soughtOf (p + length (written j) + length (encode v)) es k) (cond (keyLt k j) (missing p) (found p (p + length (written j)))))
+    go : Says (lookup (p + length (writtenString j) + length (encode v)) es k) (soughtOf (p + length (writtenString j) + length (encode v)) es k) → (a : Bool) → keyLt j k ≡ a → (b : Bool) → keyLt k j ≡ b
+        → Says (cond (sameKey j k) (under (p + length (writtenString j)) v) (lookup (p + length (writtenString j) + length (encode v)) es k))
+        (cond (keyLt j k) (soughtOf (p + length (writtenString j) + length (encode v)) es k) (cond (keyLt k j) (missing p) (found p (p + length (writtenString j)))))
     go g true x b y = rw (x, same-not j k x) g
-    go g false x true y = rw (x, y, same-not-too j k y, lookup-none (p + length (written j) + length (encode v)) es j k d (h .2) y) (it-is-not p)
-    go g false x false y = let e = key-same j k x y in let f : sameKey j k ≡ true = (rw e (same-refl k)) in rw (x, y, f) (it-is p (p + length (written j)) v)
+    go g false x true y = rw (x, y, same-not-too j k y, lookup-none (p + length (writtenString j) + length (encode v)) es j k d (h .2) y) (it-is-not p)
+    go g false x false y = let e = key-same j k x y in let f : sameKey j k ≡ true = (rw e (same-refl k)) in rw (x, y, f) (it-is p (p + length (writtenString j)) v)
 
 -- what is found stands there
 pub found-stands : (s : List ℕ) (d p : ℕ) (before : Prev) (es : Entries) (k : List ℕ) → StandEntries s d p before es → (q : ℕ) (v : Value) → lookup p es k ≡ under q v → Stands s d q v
@@ -112,11 +112,11 @@ unfolding lookup
 found-stands s d p before empty k t q v e = no-way (cc)
 found-stands s d p before (entry j w es) k t q v e =
     let n = entries-next s d p before j w es t in
-    go (sameKey j k) e (n .value) (λ f. found-stands s d (p + length (written j) + length (encode w)) (last j) es k (n .others) q v f)
+    go (sameKey j k) e (n .value) (λ f. found-stands s d (p + length (writtenString j) + length (encode w)) (last j) es k (n .others) q v f)
   where
-    go : (b : Bool) → cond b (under (p + length (written j)) w) (lookup (p + length (written j) + length (encode w)) es k) ≡ under q v → Stands s d (p + length (written j)) w
-        → (lookup (p + length (written j) + length (encode w)) es k ≡ under q v → Stands s d q v) → Stands s d q v
-    go true f x y = let g : p + length (written j) ≡ q = cc in let h : w ≡ v = cc in (rw (g, h) at x)
+    go : (b : Bool) → cond b (under (p + length (writtenString j)) w) (lookup (p + length (writtenString j) + length (encode w)) es k) ≡ under q v → Stands s d (p + length (writtenString j)) w
+        → (lookup (p + length (writtenString j) + length (encode w)) es k ≡ under q v → Stands s d q v) → Stands s d q v
+    go true f x y = let g : p + length (writtenString j) ≡ q = cc in let h : w ≡ v = cc in (rw (g, h) at x)
     go false f x y = y f
 
 abbrev pub placeOf : Hit → ℕ
@@ -133,19 +133,19 @@ pub record Resumes (s : List ℕ) (d : ℕ) (k : List ℕ) (p : ℕ) (es : Entri
 pub resumes : (s : List ℕ) (d p : ℕ) (before : Prev) (es : Entries) (k : List ℕ) → StandEntries s d p before es → Resumes s d k p es (placeOf (soughtOf p es k))
 unfolding lookup soughtOf
 resumes s d p before empty k t = record { before = before; left = empty; stands = t; same = λ later h. refl }
-resumes s d p before (entry j v es) k t = go (resumes s d (p + length (written j) + length (encode v)) (last j) es k (entries-next s d p before j v es t .others)) (keyLt j k) refl (keyLt k j) refl
+resumes s d p before (entry j v es) k t = go (resumes s d (p + length (writtenString j) + length (encode v)) (last j) es k (entries-next s d p before j v es t .others)) (keyLt j k) refl (keyLt k j) refl
   where
-    go : Resumes s d k (p + length (written j) + length (encode v)) es (placeOf (soughtOf (p + length (written j) + length (encode v)) es k)) → (a : Bool) → keyLt j k ≡ a → (b : Bool) → keyLt k j ≡ b
-        → Resumes s d k p (entry j v es) (placeOf (cond (keyLt j k) (soughtOf (p + length (written j) + length (encode v)) es k) (cond (keyLt k j) (missing p) (found p (p + length (written j))))))
+    go : Resumes s d k (p + length (writtenString j) + length (encode v)) es (placeOf (soughtOf (p + length (writtenString j) + length (encode v)) es k)) → (a : Bool) → keyLt j k ≡ a → (b : Bool) → keyLt k j ≡ b
+        → Resumes s d k p (entry j v es) (placeOf (cond (keyLt j k) (soughtOf (p + length (writtenString j) + length (encode v)) es k) (cond (keyLt k j) (missing p) (found p (p + length (writtenString j))))))
     go r true x b y = rw x (record { before = r .before; left = r .left; stands = r .stands; same = λ later h. r .same later h ∙ (let z = same-not j later (key-less j k later x h) in rw z) })
     go r false x true y = rw (x, y) (record { before = before; left = entry j v es; stands = t; same = λ later h. refl })
     go r false x false y = rw (x, y) (record { before = before; left = entry j v es; stands = t; same = λ later h. refl })
 
 -- ---- past a value that was found
 
-pub entry-length : (j : List ℕ) (v : Value) (es : Entries) → length (encodeEntries (entry j v es)) ≡ length (written j) + (length (encode v) + length (encodeEntries es))
+pub entry-length : (j : List ℕ) (v : Value) (es : Entries) → length (encodeEntries (entry j v es)) ≡ length (writtenString j) + (length (encode v) + length (encodeEntries es))
 unfolding encode
-entry-length j v es = length-append (written j) (encode v ++ encodeEntries es) ∙ ap (λ (n : ℕ). length (written j) + n) (length-append (encode v) (encodeEntries es))
+entry-length j v es = length-append (writtenString j) (encode v ++ encodeEntries es) ∙ ap (λ (n : ℕ). length (writtenString j) + n) (length-append (encode v) (encodeEntries es))
 
 -- what is left past v, which stands at q under k: all later keys, up to the same end
 pub record Beyond (s : List ℕ) (d p : ℕ) (es : Entries) (k : List ℕ) (q : ℕ) (v : Value) : Type 0 where
@@ -159,22 +159,22 @@ unfolding lookup
 beyond s d p before empty k t q v e = no-way (cc)
 beyond s d p before (entry j w es) k t q v e =
     let n = entries-next s d p before j w es t in
-    go (sameKey j k) refl e (n .others) (λ f. beyond s d (p + length (written j) + length (encode w)) (last j) es k (n .others) q v f)
+    go (sameKey j k) refl e (n .others) (λ f. beyond s d (p + length (writtenString j) + length (encode w)) (last j) es k (n .others) q v f)
   where
     -- a key that is found after j is not before it
-    not-here : lookup (p + length (written j) + length (encode w)) es k ≡ under q v → KeepsEntries es d (last j) → (later : List ℕ) → keyLt k later ≡ true → (b : Bool) → sameKey j later ≡ b → b ≡ false
+    not-here : lookup (p + length (writtenString j) + length (encode w)) es k ≡ under q v → KeepsEntries es d (last j) → (later : List ℕ) → keyLt k later ≡ true → (b : Bool) → sameKey j later ≡ b → b ≡ false
     not-here f h later i true g =
         let x = same-true j later g in
         let y : keyLt k j ≡ true = rw x i in
-        let z = lookup-none (p + length (written j) + length (encode w)) es j k d h y in
+        let z = lookup-none (p + length (writtenString j) + length (encode w)) es j k d h y in
         no-way (cc)
     not-here f h later i false g = refl
 
-    go : (b : Bool) → sameKey j k ≡ b → cond b (under (p + length (written j)) w) (lookup (p + length (written j) + length (encode w)) es k) ≡ under q v
-        → StandEntries s d (p + length (written j) + length (encode w)) (last j) es
-        → (lookup (p + length (written j) + length (encode w)) es k ≡ under q v → Beyond s d (p + length (written j) + length (encode w)) es k q v) → Beyond s d p (entry j w es) k q v
+    go : (b : Bool) → sameKey j k ≡ b → cond b (under (p + length (writtenString j)) w) (lookup (p + length (writtenString j) + length (encode w)) es k) ≡ under q v
+        → StandEntries s d (p + length (writtenString j) + length (encode w)) (last j) es
+        → (lookup (p + length (writtenString j) + length (encode w)) es k ≡ under q v → Beyond s d (p + length (writtenString j) + length (encode w)) es k q v) → Beyond s d p (entry j w es) k q v
     go true g f o r =
-        let x : p + length (written j) ≡ q = cc in
+        let x : p + length (writtenString j) ≡ q = cc in
         let y : w ≡ v = cc in
         let z : j ≡ k = same-true j k g in
         rw (← x, ← y, ← z) (record {

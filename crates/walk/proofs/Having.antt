@@ -6,7 +6,7 @@ use Prim.Native.Nat.{ℕ, _+_}
 use native.Mathlib.Omega.{arith}
 use lib.ListN.{length}
 use Rattle.refusal.proofs.Cases.{no-way}
-use Rattle.scalar.specs.Written.{written, keyLt}
+use Rattle.scalar.specs.Written.{writtenString, keyLt}
 use Rattle.scalar.proofs.Ordering.{key-less}
 use Rattle.bencode.specs.Value.{Value, Entries, empty, entry, encode, KeepsEntries, Prev, last}
 use Rattle.walk.specs.Has.{Has, here, there}
@@ -17,10 +17,10 @@ use Rattle.walk.proofs.Finding.{same-refl, same-true, same-not}
 pub found-has : (p : ℕ) (es : Entries) (k : List ℕ) (q : ℕ) (v : Value) → lookup p es k ≡ under q v → Has es k v
 unfolding lookup
 found-has p empty k q v e = no-way (cc)
-found-has p (entry j w es) k q v e = go (found-has (p + length (written j) + length (encode w)) es k q v) (sameKey j k) refl e
+found-has p (entry j w es) k q v e = go (found-has (p + length (writtenString j) + length (encode w)) es k q v) (sameKey j k) refl e
   where
-    go : (lookup (p + length (written j) + length (encode w)) es k ≡ under q v → Has es k v) → (b : Bool) → sameKey j k ≡ b
-        → cond b (under (p + length (written j)) w) (lookup (p + length (written j) + length (encode w)) es k) ≡ under q v → Has (entry j w es) k v
+    go : (lookup (p + length (writtenString j) + length (encode w)) es k ≡ under q v → Has es k v) → (b : Bool) → sameKey j k ≡ b
+        → cond b (under (p + length (writtenString j)) w) (lookup (p + length (writtenString j) + length (encode w)) es k) ≡ under q v → Has (entry j w es) k v
     go more true s f =
         let x = same-true j k s in
         let y : w ≡ v = cc in
@@ -36,9 +36,9 @@ later es k v d j (there i w ds l u x) h = key-less j i l (h .0) (later ds l u d 
 -- what is there is found
 pub has-found : (p : ℕ) (es : Entries) (k : List ℕ) (v : Value) (d : ℕ) (before : Prev) → Has es k v → KeepsEntries es d before → (q : ℕ) × (lookup p es k ≡ under q v)
 unfolding lookup KeepsEntries
-has-found p es k v d before (here j w ds) h = (p + length (written j), rw (same-refl j))
+has-found p es k v d before (here j w ds) h = (p + length (writtenString j), rw (same-refl j))
 has-found p es k v d before (there j w ds l u x) h =
-    let r = has-found (p + length (written j) + length (encode w)) ds l u d (last j) x (h .2) in
+    let r = has-found (p + length (writtenString j) + length (encode w)) ds l u d (last j) x (h .2) in
     (r .0, rw (same-not j l (later ds l u d j x (h .2))) (r .1))
 
 pub none-has : (p : ℕ) (es : Entries) (k : List ℕ) (d : ℕ) (before : Prev) → KeepsEntries es d before → lookup p es k ≡ nothing → (v : Value) → Has es k v → ⊥

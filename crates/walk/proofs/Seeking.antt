@@ -13,14 +13,14 @@ use Rattle.refusal.specs.Numbers.{cut}
 use Rattle.refusal.specs.declared.Refusal.{Refusal}
 use Rattle.refusal.specs.declared.Part.{Part}
 use Rattle.refusal.proofs.Cases.{by-test}
-use Rattle.scalar.specs.Written.{decimal, written, inRange, keyLt}
+use Rattle.scalar.specs.Written.{decimal, writtenString, inRange, keyLt}
 use Rattle.scalar.specs.Reading.{Got, got, bad, onHead, stringAt, integerAt}
 use Rattle.scalar.proofs.Sound.{Holds, at-left, TextP, string-at-sound}
 use Rattle.bencode.proofs.Complete.{encode-pos}
 use Rattle.bencode.specs.Value.{encode}
 use Rattle.scalar.proofs.Keys.{Comparing, comparing-less, comparing-greater, comparing-long, comparing-short}
 use Rattle.scalar.proofs.Ordering.{key-same}
-use Rattle.walk.specs.Walk.{Head, string, integer, long, list, dictionary, end, stringHead, integerHead, stringSeen, integerSeen, lookAt, lookOf, Due, key, close, dueOf, entryPaper, entryOf, pastPaper, skipOf, Hit, found, missing, orderOf, seekBy, seekOf}
+use Rattle.walk.specs.Walk.{Head, string, integer, long, list, dictionary, end, stringHead, integerHead, stringSeen, integerSeen, lookAt, lookOf, NextEntry, key, close, asEntry, entryPaper, entryOf, pastPaper, skipOf, Hit, found, missing, orderOf, seekBy, seekOf}
 use Rattle.walk.specs.declared.Next.{Next}
 use Rattle.walk.specs.declared.Next.the-variants.{Key, Close, Not}
 use Rattle.walk.specs.declared.Order.{Order}
@@ -64,9 +64,9 @@ head-further s p h (b ∷ t) = look-further s p b h
 -- past the end nothing is due
 entry-out : (s : List ℕ) (p : ℕ) → length s ≤ p → entryOf s p ≡ refused cut (length s)
 unfolding lookOf
-entry-out s p h = ap (λ (l : List ℕ). then (onHead l (refused cut (length s)) (λ b t. lookAt s p b)) (dueOf p)) (drop-of-length-le s h)
+entry-out s p h = ap (λ (l : List ℕ). then (onHead l (refused cut (length s)) (λ b t. lookAt s p b)) (asEntry p)) (drop-of-length-le s h)
 
-key-by : (s : List ℕ) (p : ℕ) (o : Outcome Head) → Further s p o → (a m q : ℕ) → then o (dueOf p) ≡ taken (key a m q) → (p < q) × (q ≤ length s)
+key-by : (s : List ℕ) (p : ℕ) (o : Outcome Head) → Further s p o → (a m q : ℕ) → then o (asEntry p) ≡ taken (key a m q) → (p < q) × (q ≤ length s)
 key-by s p (taken (string b n r)) h a m q e = let x : r ≡ q = cc in (omega arith, omega arith)
 key-by s p (taken (integer z r)) h a m q e = absurd (let z : _≡_ {A = ℕ} 0 1 = cc in omega arith)
 key-by s p (taken (long b n r)) h a m q e = absurd (let z : _≡_ {A = ℕ} 0 1 = cc in omega arith)
@@ -151,7 +151,7 @@ module _ (s k : List ℕ) where
   -- one turn of the search
   seek-open : (f p : ℕ) → length s < p + f → seekOf f s p k ≡ then (entryOf s p) (seekBy s p k (λ q. seekOf (pred f) s q k))
   unfolding seekOf
-  seek-open zero p h = sym (ap (λ (o : Outcome Due). then o (seekBy s p k (λ q. seekOf 0 s q k))) (entry-out s p (omega arith)))
+  seek-open zero p h = sym (ap (λ (o : Outcome NextEntry). then o (seekBy s p k (λ q. seekOf 0 s q k))) (entry-out s p (omega arith)))
   seek-open (suc f) p h = refl
 
   -- the search that began at `at` goes on at p
@@ -164,8 +164,8 @@ module _ (s k : List ℕ) where
   seeking-start at = record { left = suc (length s); enough = omega arith; same = refl }
 
   module _ (at p : ℕ) (t : Seeking at p) where
-    turn : (d : Outcome Due) → d ≡ entryOf s p → then d (seekBy s p k (λ q. seekOf (pred (t .left)) s q k)) ≡ seekOf (suc (length s)) s at k
-    turn d e = ap (λ (o : Outcome Due). then o (seekBy s p k (λ q. seekOf (pred (t .left)) s q k))) e ∙ sym (seek-open (t .left) p (t .enough)) ∙ t .same
+    turn : (d : Outcome NextEntry) → d ≡ entryOf s p → then d (seekBy s p k (λ q. seekOf (pred (t .left)) s q k)) ≡ seekOf (suc (length s)) s at k
+    turn d e = ap (λ (o : Outcome NextEntry). then o (seekBy s p k (λ q. seekOf (pred (t .left)) s q k))) e ∙ sym (seek-open (t .left) p (t .enough)) ∙ t .same
 
     pub seek-close : (q : ℕ) → entryPaper (Close q) ≡ entryOf s p → taken (missing p) ≡ seekOf (suc (length s)) s at k
     seek-close q e = turn (entryPaper (Close q)) e

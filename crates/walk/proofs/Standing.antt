@@ -10,17 +10,17 @@ use lib.ListN.{length, getD, take, drop, length-append, length-drop, drop-of-len
 use lib.Seq.{drop-drop, drop-append-seam, take-append-seam}
 use borrow.Author.Tests.{ne-eqb, ltb-true, ltb-false}
 use Rattle.refusal.specs.Paper.{Outcome, taken, refused, then}
-use Rattle.scalar.specs.Written.{decimal, written, signed, writtenInt, inRange}
+use Rattle.scalar.specs.Written.{decimal, writtenString, signed, writtenInt, inRange}
 use Rattle.scalar.specs.Reading.{Got, got, bad, onHead, isDigit, stringOf, integerOf}
 use Rattle.scalar.proofs.Decimal.{digit-range}
 use Rattle.scalar.proofs.Sound.{Holds, At}
 use Rattle.scalar.proofs.Complete.{string-complete, int-complete}
 use Rattle.bencode.specs.Value.{Value, Items, Entries, str, int, list, dict, none, item, empty, entry, encode, encodeItems, encodeEntries, count, countItems, countEntries, Keeps, KeepsItems, KeepsEntries, Prev, start, last, follows}
-use Rattle.bencode.specs.Decode.{closes, valueOf}
+use Rattle.bencode.specs.Decode.{closes, valueFrom}
 use Rattle.bencode.specs.Exact.{Fine}
 use Rattle.bencode.proofs.Sound.{Took, value-sound}
 use Rattle.bencode.proofs.Complete.{complete, first-byte}
-use Rattle.walk.specs.Walk.{Head, string, integer, long, dictionary, end, stringHead, integerHead, lookAt, lookOf, dueOf, key, close, entryOf, pastOf, skipOf}
+use Rattle.walk.specs.Walk.{Head, string, integer, long, dictionary, end, stringHead, integerHead, lookAt, lookOf, asEntry, key, close, entryOf, pastOf, skipOf}
 use Rattle.walk.specs.Walk as walk
 use Rattle.walk.specs.Stands.{Stands, StandItems, StandEntries}
 
@@ -58,7 +58,7 @@ fine-stands s v f = record { rest = []; text = f .text ∙ sym (append-nil (enco
 -- skip goes past the value that stands there, and what it goes past stands there
 pub skip-past : (s : List ℕ) (d p : ℕ) (v : Value) → d ≤ 32 → Stands s d p v → skipOf s p ≡ taken (p + length (encode v))
 skip-past s d p v h t =
-    ap (λ (l : List ℕ). pastOf (valueOf 32 (length s) l p 0)) (t .text)
+    ap (λ (l : List ℕ). pastOf (valueFrom 32 (length s) l p 0)) (t .text)
     ∙ ap pastOf (complete v 32 (length s) (t .rest) p 0 (keeps-more v d 32 h (t .keeps)) (omega (arith, length-drop p s, ap length (t .text), t .inside)) (omega (arith, t .few)))
 
 abbrev Passed : List ℕ → ℕ → Outcome ℕ → Type 0
@@ -70,13 +70,13 @@ passed-by s p h (got v r q m) t = (v, record { rest = r; text = t .at .text; ins
 passed-by s p h (bad r q) t = tt
 
 nothing-past : (s : List ℕ) (p : ℕ) → length s ≤ p → Passed s p (skipOf s p)
-unfolding valueOf
-nothing-past s p h = subst (λ (l : List ℕ). Passed s p (pastOf (valueOf 32 (length s) l p 0))) (sym (drop-of-length-le s h)) tt
+unfolding valueFrom
+nothing-past s p h = subst (λ (l : List ℕ). Passed s p (pastOf (valueFrom 32 (length s) l p 0))) (sym (drop-of-length-le s h)) tt
 
 skip-passed : (s : List ℕ) (p : ℕ) (t : Bool) → ltb p (length s) ≡ t → Passed s p (skipOf s p)
 skip-passed s p true e =
     let h = ltb-true p (length s) e in
-    passed-by s p (omega arith) (valueOf 32 (length s) (drop p s) p 0) (value-sound 32 (length s) (drop p s) p 0 (omega (arith, length-drop p s)))
+    passed-by s p (omega arith) (valueFrom 32 (length s) (drop p s) p 0) (value-sound 32 (length s) (drop p s) p 0 (omega (arith, length-drop p s)))
 skip-passed s p false e = nothing-past s p (ltb-false p (length s) e)
 
 pub skip-stands : (s : List ℕ) (p q : ℕ) → skipOf s p ≡ taken q → (v : Value) × Stands s 32 p v × (q ≡ p + length (encode v))
@@ -90,19 +90,19 @@ look-by s p b t e = ap (λ (l : List ℕ). onHead l (refused 1 (length s)) (λ c
 -- a string's bytes
 pub record Bytes (s : List ℕ) (p : ℕ) (bs : List ℕ) : Type 0 where
   pub from : ℕ
-  pub seen : lookOf s p ≡ taken (string from (length bs) (p + length (written bs)))
+  pub seen : lookOf s p ≡ taken (string from (length bs) (p + length (writtenString bs)))
   pub bytes : take (length bs) (drop from s) ≡ bs
 
-look-written : (s : List ℕ) (p : ℕ) (bs r : List ℕ) → p ≤ length s → drop p s ≡ written bs ++ r → Bytes s p bs
+look-written : (s : List ℕ) (p : ℕ) (bs r : List ℕ) → p ≤ length s → drop p s ≡ writtenString bs ++ r → Bytes s p bs
 look-written s p bs r h e =
     let y = string-complete (length s) bs r p (omega (arith, length-drop p s, ap length e)) in
     let f : drop p s ≡ y .first ∷ y .rest = e ∙ y .text in
     let d = digit-range (y .first) (y .starts) in
-    let k : length (written bs) ≡ length (decimal (length bs)) + suc (length bs) = length-append (decimal (length bs)) (58 ∷ bs) in
-    let a : p + length (written bs) - length bs ≡ p + length (decimal (length bs) ++ 58 ∷ []) = omega (arith, length-append (decimal (length bs)) (58 ∷ [])) in
+    let k : length (writtenString bs) ≡ length (decimal (length bs)) + suc (length bs) = length-append (decimal (length bs)) (58 ∷ bs) in
+    let a : p + length (writtenString bs) - length bs ≡ p + length (decimal (length bs) ++ 58 ∷ []) = omega (arith, length-append (decimal (length bs)) (58 ∷ [])) in
     let g : drop p s ≡ (decimal (length bs) ++ 58 ∷ []) ++ (bs ++ r) = e ∙ append-assoc (decimal (length bs)) (58 ∷ bs) r ∙ sym (append-assoc (decimal (length bs)) (58 ∷ []) (bs ++ r)) in
     record {
-      from = p + length (written bs) - length bs;
+      from = p + length (writtenString bs) - length bs;
       seen = look-by s p (y .first) (y .rest) f ∙ rw (ne-eqb (y .first) 105 (omega arith), ne-eqb (y .first) 108 (omega arith), ne-eqb (y .first) 100 (omega arith), ne-eqb (y .first) 101 (omega arith), f, y .starts, y .reads 0);
       bytes = ap (λ (i : ℕ). take (length bs) (drop i s)) a ∙ ap (take (length bs)) (past s p (decimal (length bs) ++ 58 ∷ []) (bs ++ r) g) ∙ take-append-seam bs r;
     }
@@ -158,35 +158,35 @@ module _ (s : List ℕ) (d p : ℕ) where
 
   pub entries-end : (before : Prev) → StandEntries s d p before empty → entryOf s p ≡ taken (close (p + 1))
   unfolding encode
-  entries-end before t = ap (λ (o : Outcome Head). then o (dueOf p)) (look-by s p 101 (t .rest) (t .text))
+  entries-end before t = ap (λ (o : Outcome Head). then o (asEntry p)) (look-by s p 101 (t .rest) (t .text))
 
   -- the next entry: its key's bytes, its value at the place past the key, and the entries after it
   pub record Entered (before : Prev) (k : List ℕ) (v : Value) (es : Entries) : Type 0 where
     pub from : ℕ
-    pub seen : entryOf s p ≡ taken (key from (length k) (p + length (written k)))
+    pub seen : entryOf s p ≡ taken (key from (length k) (p + length (writtenString k)))
     pub bytes : take (length k) (drop from s) ≡ k
     pub greater : follows before k ≡ true
-    pub value : Stands s d (p + length (written k)) v
-    pub others : StandEntries s d (p + length (written k) + length (encode v)) (last k) es
+    pub value : Stands s d (p + length (writtenString k)) v
+    pub others : StandEntries s d (p + length (writtenString k) + length (encode v)) (last k) es
 
   pub entries-next : (before : Prev) (k : List ℕ) (v : Value) (es : Entries) → StandEntries s d p before (entry k v es) → Entered before k v es
   unfolding encode Keeps count
   entries-next before k v es t =
-      let e : drop p s ≡ written k ++ (encode v ++ (encodeEntries es ++ t .rest)) =
-      t .text ∙ append-assoc (written k) (encode v ++ encodeEntries es) (t .rest) ∙ ap (λ (l : List ℕ). written k ++ l) (append-assoc (encode v) (encodeEntries es) (t .rest)) in
-      let f = past s p (written k) (encode v ++ (encodeEntries es ++ t .rest)) e in
-      let i = room s p (written k) (encode v ++ (encodeEntries es ++ t .rest)) (t .inside) e in
+      let e : drop p s ≡ writtenString k ++ (encode v ++ (encodeEntries es ++ t .rest)) =
+      t .text ∙ append-assoc (writtenString k) (encode v ++ encodeEntries es) (t .rest) ∙ ap (λ (l : List ℕ). writtenString k ++ l) (append-assoc (encode v) (encodeEntries es) (t .rest)) in
+      let f = past s p (writtenString k) (encode v ++ (encodeEntries es ++ t .rest)) e in
+      let i = room s p (writtenString k) (encode v ++ (encodeEntries es ++ t .rest)) (t .inside) e in
       let b = look-written s p k (encode v ++ (encodeEntries es ++ t .rest)) (t .inside) e in
       record {
         from = b .from;
-        seen = ap (λ (o : Outcome Head). then o (dueOf p)) (b .seen);
+        seen = ap (λ (o : Outcome Head). then o (asEntry p)) (b .seen);
         bytes = b .bytes;
         greater = t .keeps .0;
         value = record { rest = encodeEntries es ++ t .rest; text = f; inside = i; keeps = t .keeps .1; few = omega (arith, t .few) };
         others = record {
           rest = t .rest;
-          text = past s (p + length (written k)) (encode v) (encodeEntries es ++ t .rest) f;
-          inside = room s (p + length (written k)) (encode v) (encodeEntries es ++ t .rest) i f;
+          text = past s (p + length (writtenString k)) (encode v) (encodeEntries es ++ t .rest) f;
+          inside = room s (p + length (writtenString k)) (encode v) (encodeEntries es ++ t .rest) i f;
           keeps = t .keeps .2;
           few = omega (arith, t .few);
         };

@@ -4,7 +4,7 @@ use mathlib.Core.List.{List, [], _∷_}
 use Prim.Native.Nat.{ℕ, _+_}
 use lib.Dec.{eqb}
 use lib.ListN.{length}
-use Rattle.scalar.specs.Written.{written}
+use Rattle.scalar.specs.Written.{writtenString}
 use Rattle.bencode.specs.Value.{Value, Entries, empty, entry, encode}
 
 -- the same bytes
@@ -23,5 +23,5 @@ pub data Under : Type 0 where
 unfoldable pub lookup : ℕ → Entries → List ℕ → Under
 lookup p empty k = nothing
 lookup p (entry j v es) k =
-    let r : Under = lookup (p + length (written j) + length (encode v)) es k in
-    cond (sameKey j k) (under (p + length (written j)) v) r
+    let r : Under = lookup (p + length (writtenString j) + length (encode v)) es k in
+    cond (sameKey j k) (under (p + length (writtenString j)) v) r

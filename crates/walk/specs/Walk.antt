@@ -12,7 +12,7 @@ use Rattle.refusal.specs.declared.Part.{Part}
 use Rattle.scalar.specs.Written.{inRange, keyLt}
 use Rattle.scalar.specs.Reading.{Got, got, bad, onHead, stringAt, integerAt}
 use Rattle.bencode.specs.Value.{Value}
-use Rattle.bencode.specs.Decode.{valueOf}
+use Rattle.bencode.specs.Decode.{valueFrom}
 use Rattle.walk.specs.declared.Seen.{Seen}
 use Rattle.walk.specs.declared.Seen.the-variants.{String, Integer, Long, List as ListSeen, Dictionary, End, Refused}
 use Rattle.walk.specs.declared.Next.{Next}
@@ -72,25 +72,25 @@ unfoldable pub lookOf : List ℕ → ℕ → Outcome Head
 lookOf s p = onHead (drop p s) (refused cut (length s)) (λ b t. lookAt s p b)
 
 -- what stands where an entry is due: a key's bytes and the place of its value, or the end and the place past it
-pub data Due : Type 0 where
-  key : ℕ → ℕ → ℕ → Due
-  close : ℕ → Due
+pub data NextEntry : Type 0 where
+  key : ℕ → ℕ → ℕ → NextEntry
+  close : ℕ → NextEntry
 
-abbrev pub entryPaper : Next → Outcome Due
+abbrev pub entryPaper : Next → Outcome NextEntry
 entryPaper (Key p q) = taken (key (p .from) (p .len) q)
 entryPaper (Close q) = taken (close q)
 entryPaper (Not r) = refusal r
 
-abbrev pub dueOf : ℕ → Head → Outcome Due
-dueOf at (string p n q) = taken (key p n q)
-dueOf at (integer z q) = refused byte at
-dueOf at (long p n q) = refused byte at
-dueOf at (list q) = refused byte at
-dueOf at (dictionary q) = refused byte at
-dueOf at (end q) = taken (close q)
+abbrev pub asEntry : ℕ → Head → Outcome NextEntry
+asEntry at (string p n q) = taken (key p n q)
+asEntry at (integer z q) = refused byte at
+asEntry at (long p n q) = refused byte at
+asEntry at (list q) = refused byte at
+asEntry at (dictionary q) = refused byte at
+asEntry at (end q) = taken (close q)
 
-abbrev pub entryOf : List ℕ → ℕ → Outcome Due
-entryOf s p = then (lookOf s p) (dueOf p)
+abbrev pub entryOf : List ℕ → ℕ → Outcome NextEntry
+entryOf s p = then (lookOf s p) (asEntry p)
 
 -- the place past the value that stands at p
 abbrev pub pastPaper : Past → Outcome ℕ
@@ -102,7 +102,7 @@ pastOf (got v l q n) = taken q
 pastOf (bad r p) = refused r p
 
 abbrev pub skipOf : List ℕ → ℕ → Outcome ℕ
-skipOf s p = pastOf (valueOf mostLevels (length s) (drop p s) p 0)
+skipOf s p = pastOf (valueFrom mostLevels (length s) (drop p s) p 0)
 
 -- where a key was found, by the places of its entry and its value; or where it would stand
 pub data Hit : Type 0 where
@@ -119,7 +119,7 @@ abbrev pub orderOf : List ℕ → List ℕ → Order
 orderOf j k = cond (keyLt j k) Before (cond (keyLt k j) After Same)
 
 -- the search for k at the entry that stands at p, with `on` for the search from a later place
-abbrev pub seekBy : List ℕ → ℕ → List ℕ → (ℕ → Outcome Hit) → Due → Outcome Hit
+abbrev pub seekBy : List ℕ → ℕ → List ℕ → (ℕ → Outcome Hit) → NextEntry → Outcome Hit
 seekBy s p k on (key a m q) =
     let r : Outcome Hit = then (skipOf s q) on in
     cond (keyLt (take m (drop a s)) k) r (taken (cond (keyLt k (take m (drop a s))) (missing p) (found p q)))

@@ -1,6 +1,6 @@
 // Where blocks fall, for C.
-ghost use Rattle.blocks.specs.Spans.{joined};
-ghost use Rattle.blocks.specs.Answers.{blockOf, byteOf, sizeOf, written};
+ghost use Rattle.blocks.specs.Spans.{joinedFiles};
+ghost use Rattle.blocks.specs.Answers.{blockOf, byteOf, sizeOf, partsWritten};
 ghost use Rattle.rows.specs.Said.{detailOf, Tells};
 ghost use Rattle.rows.specs.Mapping.{spotDetail, Parted};
 use blocks::PieceNumber;
@@ -19,7 +19,7 @@ pub extern "C" fn wardrail_block(
     out: &mut [u64],
     detail: &mut u64,
 ) -> u64
-    ensures { λ r. ⌜ Parted (written (blockOf (joined (now (lengths .entry))) «piece_length» piece offset count) (now (out .entry))) r (now (detail .exit)) (now (out .exit)) ⌝ }
+    ensures { λ r. ⌜ Parted (partsWritten (blockOf (joinedFiles (now (lengths .entry))) «piece_length» piece offset count) (now (out .entry))) r (now (detail .exit)) (now (out .exit)) ⌝ }
 {
     let parts = blocks::block(
         lengths,
@@ -42,7 +42,7 @@ pub extern "C" fn wardrail_byte(
     offset: u64,
     detail: &mut [u64; 2],
 ) -> u64
-    ensures { λ r. ⌜ Tells spotDetail (byteOf (joined (now (lengths .entry))) «piece_length» file offset) r (now (detail .exit)) ⌝ }
+    ensures { λ r. ⌜ Tells spotDetail (byteOf (joinedFiles (now (lengths .entry))) «piece_length» file offset) r (now (detail .exit)) ⌝ }
 {
     let place = blocks::byte(lengths, piece_length, file, offset);
     let d = mapping::place_detail(place);
@@ -58,7 +58,7 @@ pub extern "C" fn wardrail_piece_size(
     piece: u32,
     detail: &mut u64,
 ) -> u64
-    ensures { λ r. ⌜ Tells detailOf (sizeOf (joined (now (lengths .entry))) «piece_length» piece) r (now (detail .exit)) ⌝ }
+    ensures { λ r. ⌜ Tells detailOf (sizeOf (joinedFiles (now (lengths .entry))) «piece_length» piece) r (now (detail .exit)) ⌝ }
 {
     let size = blocks::piece_size(lengths, piece_length, PieceNumber(piece));
     *detail = mapping::size_detail(size);

@@ -3,9 +3,9 @@ use mathlib.Core.Bool.{Bool}
 use mathlib.Core.List.{List}
 use mathlib.Core.Path.{_≡_, sym, _∙_}
 use Prim.Native.Nat.{ℕ, _+_, min}
-use Rattle.blocks.specs.Answers.{partsPaper, blockOf, left, written, placePaper, byteOf, sizePaper, sizeOf}
+use Rattle.blocks.specs.Answers.{partsPaper, blockOf, left, partsWritten, placePaper, byteOf, sizePaper, sizeOf}
 use Rattle.blocks.specs.Rules.{pieceLength, fileLength, fileCount, largest, piecesOf, totalAnd}
-use Rattle.blocks.specs.Spans.{joined}
+use Rattle.blocks.specs.Spans.{joinedFiles}
 use Rattle.blocks.specs.declared.Parts.{Parts}
 use Rattle.blocks.specs.declared.PieceNumber.{PieceNumber}
 use Rattle.blocks.specs.declared.PieceOffset.{PieceOffset}
@@ -18,7 +18,7 @@ use Rattle.demands.specs.One.{Lent, now, Determined1, Keeps1, Refused, D
 -- blocks::block
 abbrev block-ensures : (lengths : Lent (List ℕ)) («piece_length» : ℕ) (piece : PieceNumber) (offset : PieceOffset) (count : ℕ) → Parts → Lent (List ℕ) → Type 0
 block-ensures lengths «piece_length» piece offset count r out =
-    left (partsPaper r) (now (out .exit)) ≡ written (blockOf (joined (now (lengths .entry))) «piece_length» (piece .0) (offset .0) count) (now (out .entry))
+    left (partsPaper r) (now (out .exit)) ≡ partsWritten (blockOf (joinedFiles (now (lengths .entry))) «piece_length» (piece .0) (offset .0) count) (now (out .entry))
 
 pub block-determined : (lengths : Lent (List ℕ)) («piece_length» : ℕ) (piece : PieceNumber) (offset : PieceOffset) (count : ℕ) → Determined1 (block-ensures lengths «piece_length» piece offset count)
 block-determined lengths «piece_length» piece offset count out r r′ out₁ out₂ e f = laws.block-determined _ _ _ _ _ _ r _ e r′ _ f
@@ -28,14 +28,14 @@ block-keeps lengths «piece_length» piece offset count r out e k = laws.block-r
 
 -- blocks::byte
 abbrev byte-ensures : (lengths : Lent (List ℕ)) («piece_length» file offset : ℕ) → Place → Type 0
-byte-ensures lengths «piece_length» file offset r = placePaper r ≡ byteOf (joined (now (lengths .entry))) «piece_length» file offset
+byte-ensures lengths «piece_length» file offset r = placePaper r ≡ byteOf (joinedFiles (now (lengths .entry))) «piece_length» file offset
 
 pub byte-determined : (lengths : Lent (List ℕ)) («piece_length» file offset : ℕ) → Determined (byte-ensures lengths «piece_length» file offset)
 byte-determined lengths «piece_length» file offset r r′ e f = laws.byte-determined _ _ _ _ r r′ e f
 
 -- blocks::piece_size
 abbrev piece-size-ensures : (lengths : Lent (List ℕ)) («piece_length» : ℕ) (piece : PieceNumber) → Size → Type 0
-piece-size-ensures lengths «piece_length» piece r = sizePaper r ≡ sizeOf (joined (now (lengths .entry))) «piece_length» (piece .0)
+piece-size-ensures lengths «piece_length» piece r = sizePaper r ≡ sizeOf (joinedFiles (now (lengths .entry))) «piece_length» (piece .0)
 
 pub piece-size-determined : (lengths : Lent (List ℕ)) («piece_length» : ℕ) (piece : PieceNumber) → Determined (piece-size-ensures lengths «piece_length» piece)
 piece-size-determined lengths «piece_length» piece r r′ e f = laws.size-determined _ _ _ r r′ e f

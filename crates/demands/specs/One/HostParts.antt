@@ -4,8 +4,8 @@ use mathlib.Core.Path.{_≡_, sym, _∙_}
 use Prim.Native.Nat.{ℕ}
 use Rattle.wire.specs.Frames.{readOf}
 use Rattle.wire.specs.Handshake.{shakeOf}
-use Rattle.blocks.specs.Answers.{blockOf, written, byteOf, sizeOf}
-use Rattle.blocks.specs.Spans.{joined}
+use Rattle.blocks.specs.Answers.{blockOf, partsWritten, byteOf, sizeOf}
+use Rattle.blocks.specs.Spans.{joinedFiles}
 use Rattle.metainfo.specs.Reading.{fileAt}
 use Rattle.contents.specs.Files.{entryOf}
 use Rattle.contents.specs.Paths.{elementOf}
@@ -76,7 +76,7 @@ handshake-determined bytes info detail r r′ detail₁ detail₂ e f = (e .0 �
 -- wardrail::mapping::wardrail_block
 abbrev block-ensures : (lengths : Lent (List ℕ)) («piece_length» piece offset count : ℕ) → ℕ → Lent (List ℕ) → Lent ℕ → Type 0
 block-ensures lengths «piece_length» piece offset count r out detail =
-    Parted (written (blockOf (joined (now (lengths .entry))) «piece_length» piece offset count) (now (out .entry))) r (now (detail .exit)) (now (out .exit))
+    Parted (partsWritten (blockOf (joinedFiles (now (lengths .entry))) «piece_length» piece offset count) (now (out .entry))) r (now (detail .exit)) (now (out .exit))
 
 pub block-determined : (lengths : Lent (List ℕ)) («piece_length» piece offset count : ℕ) → Determined2 (block-ensures lengths «piece_length» piece offset count)
 block-determined lengths «piece_length» piece offset count out detail r r′ out₁ out₂ detail₁ detail₂ e f = (e .0 ∙ sym (f .0), e .2 ∙ sym (f .2), e .1 ∙ sym (f .1))
@@ -87,7 +87,7 @@ block-keeps lengths «piece_length» piece offset count r out detail e k = laws.
 -- wardrail::mapping::wardrail_byte
 abbrev byte-ensures : (lengths : Lent (List ℕ)) («piece_length» file offset : ℕ) → ℕ → Lent (List ℕ) → Type 0
 byte-ensures lengths «piece_length» file offset r detail =
-    Tells spotDetail (byteOf (joined (now (lengths .entry))) «piece_length» file offset) r (now (detail .exit))
+    Tells spotDetail (byteOf (joinedFiles (now (lengths .entry))) «piece_length» file offset) r (now (detail .exit))
 
 pub byte-determined : (lengths : Lent (List ℕ)) («piece_length» file offset : ℕ) → Determined1 (byte-ensures lengths «piece_length» file offset)
 byte-determined lengths «piece_length» file offset detail r r′ detail₁ detail₂ e f = (e .0 ∙ sym (f .0), e .1 ∙ sym (f .1))
@@ -95,7 +95,7 @@ byte-determined lengths «piece_length» file offset detail r r′ detail₁ det
 -- wardrail::mapping::wardrail_piece_size
 abbrev piece-size-ensures : (lengths : Lent (List ℕ)) («piece_length» piece : ℕ) → ℕ → Lent ℕ → Type 0
 piece-size-ensures lengths «piece_length» piece r detail =
-    Tells detailOf (sizeOf (joined (now (lengths .entry))) «piece_length» piece) r (now (detail .exit))
+    Tells detailOf (sizeOf (joinedFiles (now (lengths .entry))) «piece_length» piece) r (now (detail .exit))
 
 pub piece-size-determined : (lengths : Lent (List ℕ)) («piece_length» piece : ℕ) → Determined1 (piece-size-ensures lengths «piece_length» piece)
 piece-size-determined lengths «piece_length» piece detail r r′ detail₁ detail₂ e f = (e .0 ∙ sym (f .0), e .1 ∙ sym (f .1))

@@ -22,7 +22,7 @@ use Rattle.sha1.specs.Digest.{digestOf, agreementOf}
 use Rattle.sha1.specs.Parts.{finishOf}
 use Rattle.sha1.specs.declared.stream.Stream.{Stream}
 use Rattle.blocks.specs.Spans.{Span}
-use Rattle.blocks.specs.Answers.{Left, written, blockOf, byteOf, sizeOf}
+use Rattle.blocks.specs.Answers.{Left, partsWritten, blockOf, byteOf, sizeOf}
 use Rattle.blocks.specs.Covers.{BlockCause, ByteCause, SizeCause}
 use Rattle.blocks.proofs.Causes as blocks
 use Rattle.wire.specs.Frames as frames
@@ -246,7 +246,7 @@ pub reply-11 : (s : List ℕ) (p : ℕ) → map counted (replyOf s) ≡ refused 
 reply-11 s p = cited.reply-own s 11 p (omega arith)
 
 -- given by blocks::block
-pub block-11 : (files : List Span) (pl p o n : ℕ) (out : List ℕ) (q : ℕ) → written (blockOf files pl p o n) out .answer ≡ refused 11 q ↔ (BlockCause files pl p o n (length out) 11 × (q ≡ 0))
+pub block-11 : (files : List Span) (pl p o n : ℕ) (out : List ℕ) (q : ℕ) → partsWritten (blockOf files pl p o n) out .answer ≡ refused 11 q ↔ (BlockCause files pl p o n (length out) 11 × (q ≡ 0))
 block-11 files pl p o n out q =
     (blocks.block-refused-only files pl p o n out 11 q, λ h. ap (λ (l : Left). l .answer) (blocks.block-refused-every files pl p o n out 11 (h .0)) ∙ at-place (h .1))
 
@@ -368,7 +368,7 @@ pub yard-31 : (lent : Yard) (h : History) (y : Yard) → Made lent h y → (c : 
 yard-31 lent h y m c place = both-ways (reasons.made-fair lent h y m c 31 place) (reasons.cause-31 (length (lent .seats)) h c place)
 
 -- given by blocks::block
-pub block-31 : (files : List Span) (pl p o n : ℕ) (out : List ℕ) (q : ℕ) → written (blockOf files pl p o n) out .answer ≡ refused 31 q ↔ (BlockCause files pl p o n (length out) 31 × (q ≡ 0))
+pub block-31 : (files : List Span) (pl p o n : ℕ) (out : List ℕ) (q : ℕ) → partsWritten (blockOf files pl p o n) out .answer ≡ refused 31 q ↔ (BlockCause files pl p o n (length out) 31 × (q ≡ 0))
 block-31 files pl p o n out q =
     (blocks.block-refused-only files pl p o n out 31 q, λ h. ap (λ (l : Left). l .answer) (blocks.block-refused-every files pl p o n out 31 (h .0)) ∙ at-place (h .1))
 
@@ -418,7 +418,7 @@ pub yard-34 : (lent : Yard) (h : History) (y : Yard) → Made lent h y → (c : 
 yard-34 lent h y m c place = both-ways (reasons.made-fair lent h y m c 34 place) (reasons.cause-34 (length (lent .seats)) h c place)
 
 -- given by blocks::block
-pub block-34 : (files : List Span) (pl p o n : ℕ) (out : List ℕ) (q : ℕ) → written (blockOf files pl p o n) out .answer ≡ refused 34 q ↔ (BlockCause files pl p o n (length out) 34 × (q ≡ 0))
+pub block-34 : (files : List Span) (pl p o n : ℕ) (out : List ℕ) (q : ℕ) → partsWritten (blockOf files pl p o n) out .answer ≡ refused 34 q ↔ (BlockCause files pl p o n (length out) 34 × (q ≡ 0))
 block-34 files pl p o n out q =
     (blocks.block-refused-only files pl p o n out 34 q, λ h. ap (λ (l : Left). l .answer) (blocks.block-refused-every files pl p o n out 34 (h .0)) ∙ at-place (h .1))
 
@@ -455,7 +455,7 @@ pub yard-37 : (lent : Yard) (h : History) (y : Yard) → Made lent h y → (c : 
 yard-37 lent h y m c place = both-ways (reasons.made-fair lent h y m c 37 place) (reasons.cause-37 (length (lent .seats)) h c place)
 
 -- given by blocks::block
-pub block-37 : (files : List Span) (pl p o n : ℕ) (out : List ℕ) (q : ℕ) → written (blockOf files pl p o n) out .answer ≡ refused 37 q ↔ (BlockCause files pl p o n (length out) 37 × (q ≡ 0))
+pub block-37 : (files : List Span) (pl p o n : ℕ) (out : List ℕ) (q : ℕ) → partsWritten (blockOf files pl p o n) out .answer ≡ refused 37 q ↔ (BlockCause files pl p o n (length out) 37 × (q ≡ 0))
 block-37 files pl p o n out q =
     (blocks.block-refused-only files pl p o n out 37 q, λ h. ap (λ (l : Left). l .answer) (blocks.block-refused-every files pl p o n out 37 (h .0)) ∙ at-place (h .1))
 

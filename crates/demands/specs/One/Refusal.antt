@@ -3,7 +3,7 @@ use mathlib.Core.Bool.{Bool, false}
 use mathlib.Core.List.{List}
 use mathlib.Core.Path.{_≡_, _∙_, sym}
 use Prim.Native.Nat.{ℕ}
-use Rattle.refusal.specs.BigEndian.{numberAt, fits, written}
+use Rattle.refusal.specs.BigEndian.{numberAt, fits, numberWritten}
 use Rattle.refusal.specs.declared.big_endian.Number.{Number}
 use Rattle.refusal.proofs.Places as laws
 use Rattle.demands.specs.One.{Lent, now, Determined, Determined1, Keeps1}
@@ -31,7 +31,7 @@ read8-determined text at r r′ e f = laws.read-determined 8 at (now (text .entr
 
 -- refusal::big_endian::write2
 abbrev write2-ensures : (at x : ℕ) → Bool → Lent (List ℕ) → Type 0
-write2-ensures at x r out = (r ≡ fits 2 (now (out .entry)) at) × (now (out .exit) ≡ written 2 (now (out .entry)) at x)
+write2-ensures at x r out = (r ≡ fits 2 (now (out .entry)) at) × (now (out .exit) ≡ numberWritten 2 (now (out .entry)) at x)
 
 pub write2-determined : (at x : ℕ) → Determined1 (write2-ensures at x)
 write2-determined at x out r r′ out₁ out₂ e f = laws.write-determined 2 at x (now out) r r′ (now out₁) (now out₂) (e .0) (e .1) (f .0) (f .1)
@@ -41,7 +41,7 @@ write2-keeps at x r out e k = e .1 ∙ laws.write-keeps 2 at x (now (out .entry)
 
 -- refusal::big_endian::write4
 abbrev write4-ensures : (at x : ℕ) → Bool → Lent (List ℕ) → Type 0
-write4-ensures at x r out = (r ≡ fits 4 (now (out .entry)) at) × (now (out .exit) ≡ written 4 (now (out .entry)) at x)
+write4-ensures at x r out = (r ≡ fits 4 (now (out .entry)) at) × (now (out .exit) ≡ numberWritten 4 (now (out .entry)) at x)
 
 pub write4-determined : (at x : ℕ) → Determined1 (write4-ensures at x)
 write4-determined at x out r r′ out₁ out₂ e f = laws.write-determined 4 at x (now out) r r′ (now out₁) (now out₂) (e .0) (e .1) (f .0) (f .1)
@@ -51,7 +51,7 @@ write4-keeps at x r out e k = e .1 ∙ laws.write-keeps 4 at x (now (out .entry)
 
 -- refusal::big_endian::write8
 abbrev write8-ensures : (at x : ℕ) → Bool → Lent (List ℕ) → Type 0
-write8-ensures at x r out = (r ≡ fits 8 (now (out .entry)) at) × (now (out .exit) ≡ written 8 (now (out .entry)) at x)
+write8-ensures at x r out = (r ≡ fits 8 (now (out .entry)) at) × (now (out .exit) ≡ numberWritten 8 (now (out .entry)) at x)
 
 pub write8-determined : (at x : ℕ) → Determined1 (write8-ensures at x)
 write8-determined at x out r r′ out₁ out₂ e f = laws.write-determined 8 at x (now out) r r′ (now out₁) (now out₂) (e .0) (e .1) (f .0) (f .1)

@@ -4,8 +4,8 @@ use mathlib.Core.Path.{_≡_, sym, _∙_}
 use Prim.Native.Nat.{ℕ, _≤_}
 use lib.IntN.{ℤ}
 use lib.ListN.{length}
-use Rattle.scalar.specs.Written.{decimal, written, writtenInt}
-use Rattle.writer.specs.Put.{paper, left, putOf, endOf}
+use Rattle.scalar.specs.Written.{decimal, writtenString, writtenInt}
+use Rattle.writer.specs.Put.{paper, left, putOf, placePast}
 use Rattle.writer.specs.declared.Put.{Put}
 use Rattle.writer.proofs.Laws as laws
 use Rattle.demands.specs.One.{Lent, now, Determined, Determined1, Keeps1, Refused}
@@ -32,7 +32,7 @@ decimal-keeps at n r out e k = laws.refusal-keeps _ _ _ r e (k .2) .1
 
 -- writer::string
 abbrev string-ensures : (at : ℕ) (bytes : Lent (List ℕ)) → Put → Lent (List ℕ) → Type 0
-string-ensures at bytes r out = left (paper r) (now (out .exit)) ≡ putOf (written (now (bytes .entry))) at (now (out .entry))
+string-ensures at bytes r out = left (paper r) (now (out .exit)) ≡ putOf (writtenString (now (bytes .entry))) at (now (out .entry))
 
 pub string-determined : (at : ℕ) (bytes : Lent (List ℕ)) → Determined1 (string-ensures at bytes)
 string-determined at bytes out r r′ out₁ out₂ e f = laws.determined _ _ _ r e r′ f
@@ -59,7 +59,7 @@ digits-determined n r r′ e f = e .0 ∙ sym (f .0)
 
 -- writer::end
 abbrev end-ensures : (put : Put) → ℕ → Type 0
-end-ensures put r = r ≡ endOf (paper put)
+end-ensures put r = r ≡ placePast (paper put)
 
 pub end-determined : (put : Put) → Determined (end-ensures put)
 end-determined put r r′ e f = e ∙ sym f

@@ -23,9 +23,9 @@ use Rattle.writer.specs.Put.{putOf}
 use Rattle.sha1.specs.Sha1.{sha1}
 use Rattle.sha1.specs.Digest.{same}
 use Rattle.blocks.specs.Rules.{sum, Lawful, piecesOf, lawful}
-use Rattle.blocks.specs.Spans.{Span, FilePart, joined, lengths, heldIn, partsOf, part, nowhere, endOf}
+use Rattle.blocks.specs.Spans.{Span, FilePart, joinedFiles, lengths, heldIn, partsOf, part, nowhere, endOf}
 use Rattle.blocks.specs.Answers.{Spot, spotAt, pieces, keeps, lies, blockOf, byteOf, flat}
-use Rattle.blocks.specs.Answers.{written as partsIn, left as parting, Left as Parting}
+use Rattle.blocks.specs.Answers.{partsWritten, left as parting, Left as Parting}
 use Rattle.blocks.specs.Covers.{Block}
 use Rattle.blocks.proofs.Legal.{is-lawful, lawful-is, piece-bounds}
 use Rattle.blocks.proofs.Whole.{byte-finds-piece, is-lies, lies-is}
@@ -191,7 +191,7 @@ reply-again s v w f n p l e =
 
 module _ (ns : List ℕ) (pl : ℕ) where
   abbrev ss : List Span
-  ss = joined ns
+  ss = joinedFiles ns
 
   count-is : pieces ss pl ≡ piecesOf (sum ns) pl
   count-is = let e : endOf ss ≡ sum ns = omega (arith, joined-end 0 ns) in ap (λ (k : ℕ). piecesOf k pl) e
@@ -200,9 +200,9 @@ module _ (ns : List ℕ) (pl : ℕ) where
   keeps-is = joined-keeps ns pl
 
   module _ (p q n : ℕ) (o : List ℕ) where
-    parts-go : (b : Outcome (List FilePart)) (a : Outcome ℕ) (out : List ℕ) → parting a out ≡ partsIn b o → (k : ℕ) → a ≡ taken k
+    parts-go : (b : Outcome (List FilePart)) (a : Outcome ℕ) (out : List ℕ) → parting a out ≡ partsWritten b o → (k : ℕ) → a ≡ taken k
         → (ps : List FilePart) × (b ≡ taken ps) × (k ≡ length ps) × (out ≡ flat ps ++ drop (3 * k) o) × (3 * length ps ≤ length o)
-    unfolding partsIn
+    unfolding partsWritten
     parts-go (refused x y) a out c k t = let d : refused x y ≡ taken k = sym (ap (λ (l : Parting). l .answer) c) ∙ t in no-way (cc)
     parts-go (taken ps) a out c k t = by (leb (3 * length ps) (length o)) refl c
       where
@@ -214,14 +214,14 @@ module _ (ns : List ℕ) (pl : ℕ) where
             (ps, refl, g, ap (λ (l : Parting). l .out) d ∙ ap (λ (i : ℕ). flat ps ++ drop (3 * i) o) (sym g), leb-true (3 * length ps) (length o) h)
         by false h d = let f : refused 37 0 ≡ taken k = sym (ap (λ (l : Parting). l .answer) d) ∙ t in no-way (cc)
 
-    pub block-parts : (a : Outcome ℕ) (out : List ℕ) → parting a out ≡ partsIn (blockOf ss pl p q n) o → (k : ℕ) → a ≡ taken k
+    pub block-parts : (a : Outcome ℕ) (out : List ℕ) → parting a out ≡ partsWritten (blockOf ss pl p q n) o → (k : ℕ) → a ≡ taken k
         → (ps : List FilePart) × (blockOf ss pl p q n ≡ taken ps) × (k ≡ length ps) × (out ≡ flat ps ++ drop (3 * k) o) × (3 * length ps ≤ length o)
     block-parts = parts-go (blockOf ss pl p q n)
 
     abbrev Taken : Type 0
     Taken = Lawful pl ns (piecesOf (sum ns) pl) × (p < piecesOf (sum ns) pl) × (1 ≤ n) × (n ≤ 16384) × (q + n ≤ min pl (sum ns - p * pl)) × (3 * length (partsOf ss (p * pl + q) n) ≤ length o)
 
-    pub block-taken : (a : Outcome ℕ) (out : List ℕ) → parting a out ≡ partsIn (blockOf ss pl p q n) o → (k : ℕ) → a ≡ taken k → Taken
+    pub block-taken : (a : Outcome ℕ) (out : List ℕ) → parting a out ≡ partsWritten (blockOf ss pl p q n) o → (k : ℕ) → a ≡ taken k → Taken
     unfolding blockOf
     block-taken a out c k t =
         let b = block-parts a out c k t in
@@ -236,8 +236,8 @@ module _ (ns : List ℕ) (pl : ℕ) where
           subst (λ (x : List FilePart). 3 * length x ≤ length o) (sym (h .3)) (b .4),
         )
 
-    pub block-takes : Taken → (k : ℕ) × (partsIn (blockOf ss pl p q n) o .answer ≡ taken k)
-    unfolding blockOf partsIn
+    pub block-takes : Taken → (k : ℕ) × (partsWritten (blockOf ss pl p q n) o .answer ≡ taken k)
+    unfolding blockOf partsWritten
     block-takes (f, h, a, b, e, g) =
         let i : p < pieces ss pl = omega (arith, h, count-is) in
         let l : Block (heldIn ss pl p) q n = record { some = a; most = b; ends = omega (arith, e, joined-held ns pl p) } in

@@ -1,5 +1,5 @@
 use borrow.Author.Needs.{needs}
-use Rattle.walk.specs.Walk.{Head, paper, dueOf, entryPaper}
+use Rattle.walk.specs.Walk.{Head, paper, asEntry, entryPaper}
 use Rattle.refusal.specs.Paper.{Outcome, then}
 use mathlib.Core.Path.{_≡_, refl, sym, ap, _∙_, subst}
 use Rattle.walk.proofs.entry.Statement.{statement}
@@ -59,31 +59,31 @@ no-key-requires-4 c κs = search needs
 
 -- src/lib.rt:72:1
 returns : tie.Need-returns
-returns c = ap (λ (o : Outcome Head). then o (dueOf (c .before .before .before .before .before .args .at))) (ap paper (sym (c .before .key .given .1)) ∙ c .before .before .before .look .ensures)
+returns c = ap (λ (o : Outcome Head). then o (asEntry (c .before .before .before .before .before .args .at))) (ap paper (sym (c .before .key .given .1)) ∙ c .before .before .before .look .ensures)
 
 -- src/lib.rt:72:1
 returns-2 : tie.Need-returns-2
-returns-2 c = ap (λ (o : Outcome Head). then o (dueOf (c .before .before .before .before .before .args .at))) (ap paper (sym (c .before .past .given .1)) ∙ c .before .before .before .look .ensures)
+returns-2 c = ap (λ (o : Outcome Head). then o (asEntry (c .before .before .before .before .before .args .at))) (ap paper (sym (c .before .past .given .1)) ∙ c .before .before .before .look .ensures)
 
 -- src/lib.rt:72:1
 returns-3 : tie.Need-returns-3
-returns-3 c = ap (λ (o : Outcome Head). then o (dueOf (c .before .before .before .before .before .args .at))) (ap paper (sym (c .before .r .given .1)) ∙ c .before .before .before .look .ensures)
+returns-3 c = ap (λ (o : Outcome Head). then o (asEntry (c .before .before .before .before .before .args .at))) (ap paper (sym (c .before .r .given .1)) ∙ c .before .before .before .look .ensures)
 
 -- src/lib.rt:72:1
 returns-4 : tie.Need-returns-4
-returns-4 c = ap entryPaper (c .no-key .ensures) ∙ ap (λ (o : Outcome Head). then o (dueOf (c .before .before .before .before .before .args .at))) (ap paper (sym (c .before .enum-told .given .1)) ∙ c .before .before .before .look .ensures)
+returns-4 c = ap entryPaper (c .no-key .ensures) ∙ ap (λ (o : Outcome Head). then o (asEntry (c .before .before .before .before .before .args .at))) (ap paper (sym (c .before .enum-told .given .1)) ∙ c .before .before .before .look .ensures)
 
 -- src/lib.rt:72:1
 returns-5 : tie.Need-returns-5
-returns-5 c = ap entryPaper (c .no-key2 .ensures) ∙ ap (λ (o : Outcome Head). then o (dueOf (c .before .before .before .before .before .args .at))) (ap paper (sym (c .before .enum-told2 .given .1)) ∙ c .before .before .before .look .ensures)
+returns-5 c = ap entryPaper (c .no-key2 .ensures) ∙ ap (λ (o : Outcome Head). then o (asEntry (c .before .before .before .before .before .args .at))) (ap paper (sym (c .before .enum-told2 .given .1)) ∙ c .before .before .before .look .ensures)
 
 -- src/lib.rt:72:1
 returns-6 : tie.Need-returns-6
-returns-6 c = ap entryPaper (c .no-key3 .ensures) ∙ ap (λ (o : Outcome Head). then o (dueOf (c .before .before .before .before .before .args .at))) (ap paper (sym (c .before .enum-told3 .given .1)) ∙ c .before .before .before .look .ensures)
+returns-6 c = ap entryPaper (c .no-key3 .ensures) ∙ ap (λ (o : Outcome Head). then o (asEntry (c .before .before .before .before .before .args .at))) (ap paper (sym (c .before .enum-told3 .given .1)) ∙ c .before .before .before .look .ensures)
 
 -- src/lib.rt:72:1
 returns-7 : tie.Need-returns-7
-returns-7 c = ap entryPaper (c .no-key4 .ensures) ∙ ap (λ (o : Outcome Head). then o (dueOf (c .before .before .before .before .before .args .at))) (ap paper (sym (c .before .enum-told4 .given .1)) ∙ c .before .before .before .look .ensures)
+returns-7 c = ap entryPaper (c .no-key4 .ensures) ∙ ap (λ (o : Outcome Head). then o (asEntry (c .before .before .before .before .before .args .at))) (ap paper (sym (c .before .enum-told4 .given .1)) ∙ c .before .before .before .look .ensures)
 
 pub entry-spec : {M : Type 1} → statement M
 entry-spec =

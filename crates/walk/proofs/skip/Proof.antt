@@ -1,6 +1,6 @@
 use borrow.Author.Needs.{needs}
 use Rattle.walk.proofs.Seeing.{byStep, past-by}
-use Rattle.bencode.specs.Decode.{valueOf}
+use Rattle.bencode.specs.Decode.{valueFrom}
 use lib.ListN.{length, drop}
 use mathlib.Core.Path.{_≡_, refl, sym, ap, _∙_, subst}
 use Rattle.walk.proofs.skip.Statement.{statement}
@@ -23,11 +23,11 @@ enum-known-r c = search needs
 
 -- src/lib.rt:87:1
 returns : tie.Need-returns
-returns c = ap byStep (sym (c .before .c .given .1) ∙ c .before .before .before .value .ensures) ∙ past-by (valueOf 32 (length (c .before .before .before .before .before .args .text .now)) (drop (c .before .before .before .before .before .args .at) (c .before .before .before .before .before .args .text .now)) (c .before .before .before .before .before .args .at) 0)
+returns c = ap byStep (sym (c .before .c .given .1) ∙ c .before .before .before .value .ensures) ∙ past-by (valueFrom 32 (length (c .before .before .before .before .before .args .text .now)) (drop (c .before .before .before .before .before .args .at) (c .before .before .before .before .before .args .text .now)) (c .before .before .before .before .before .args .at) 0)
 
 -- src/lib.rt:87:1
 returns-2 : tie.Need-returns-2
-returns-2 c = ap byStep (sym (c .before .r .given .1) ∙ c .before .before .before .value .ensures) ∙ past-by (valueOf 32 (length (c .before .before .before .before .before .args .text .now)) (drop (c .before .before .before .before .before .args .at) (c .before .before .before .before .before .args .text .now)) (c .before .before .before .before .before .args .at) 0)
+returns-2 c = ap byStep (sym (c .before .r .given .1) ∙ c .before .before .before .value .ensures) ∙ past-by (valueFrom 32 (length (c .before .before .before .before .before .args .text .now)) (drop (c .before .before .before .before .before .args .at) (c .before .before .before .before .before .args .text .now)) (c .before .before .before .before .before .args .at) 0)
 
 pub skip-spec : {M : Type 1} → statement M
 skip-spec = tie.close (tie.spec value-requires enum-known-c enum-known-r returns returns-2)
