@@ -1,4 +1,5 @@
 -- What the code's answers say in the paper's words. Assumes nothing: these are definitions.
+-- From `prevIs` on they serve inner contracts alone and need not be believed: the contracts of `check` and `value` speak of those before and of Decode.antt.
 use mathlib.Core.Bool.{Bool, true, false}
 use mathlib.Core.List.{List}
 use Prim.Native.Nat.{ℕ, _+_}
