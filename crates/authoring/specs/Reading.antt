@@ -5,14 +5,15 @@ use mathlib.Core.List.{List}
 use Prim.Native.Nat.{ℕ}
 use lib.ListN.{take, drop}
 use Rattle.refusal.specs.Paper.{taken}
+use Rattle.refusal.specs.Parts.{bytesAt}
 use Rattle.bencode.specs.Value.{Value}
-use Rattle.metainfo.specs.Reading.{bytesOf, readOf}
+use Rattle.metainfo.specs.Reading.{readOf}
 use Rattle.metainfo.specs.declared.Torrent.{Torrent}
 use Rattle.authoring.specs.Writing.{Fields, fields, topWith, infoWith, textOf}
 
 -- the fields of the torrent t that the text s was read as
 abbrev pub fieldsOf : List ℕ → Torrent → Fields
-fieldsOf s t = fields (bytesOf s (t .announce)) (bytesOf s (t .name)) (t .«piece_length») (bytesOf s (t .pieces)) (t .content .total)
+fieldsOf s t = fields (bytesAt s (t .announce)) (bytesAt s (t .name)) (t .«piece_length») (bytesAt s (t .pieces)) (t .content .total)
 
 -- t has one file and the fields f
 pub record Gives (s : List ℕ) (t : Torrent) (f : Fields) : Type 0 where

@@ -10,6 +10,7 @@ use lib.Seq.{drop-drop, take-append-le, drop-append-le}
 use borrow.Author.Tests.{lt-ltb, le-ltb, ltb-true, le-leb, lt-leb, eq-eqb, ne-eqb, eqb-true}
 use Rattle.refusal.specs.Paper.{Outcome, taken, refused, then}
 use Rattle.refusal.specs.Limits.{mostText, longestPiece}
+use Rattle.refusal.specs.Parts.{bytesAt}
 use Rattle.refusal.specs.declared.Part.{Part}
 use Rattle.refusal.proofs.Outcomes.{then-taken}
 use Rattle.scalar.specs.Written.{decimal}
@@ -23,7 +24,7 @@ use Rattle.sha1.specs.Sha1.{sha1}
 use Rattle.sha1.specs.Digest.{same, agreementOf}
 use Rattle.sha1.proofs.Same.{same-refl, same-equal, same-test}
 use Rattle.metainfo.specs.Keys.{piecesKey}
-use Rattle.metainfo.specs.Reading.{bytesOf, readOf}
+use Rattle.metainfo.specs.Reading.{readOf}
 use Rattle.metainfo.specs.declared.Torrent.{Torrent}
 use Rattle.metainfo.proofs.Naming.{no-way}
 use Rattle.contents.specs.Files.{inInfo}
@@ -55,7 +56,7 @@ module _ (s : List ℕ) (v : Value) (t : Torrent) (f : Facts s v t) where
       let r = room s (f .place) head (f .bytes ++ f .pieces-stand .rest) (f .pieces-stand .inside) split in
       omega (arith, as-many, from-is, ap length begins, length-append (f .bytes) (f .pieces-stand .rest), length-drop (t .pieces .from) s, f .short)
 
-  hash-bytes : (n : ℕ) → n < t .«piece_count» → bytesOf s (hashPart n (t .pieces)) ≡ take 20 (drop (20 * n) (f .bytes))
+  hash-bytes : (n : ℕ) → n < t .«piece_count» → bytesAt s (hashPart n (t .pieces)) ≡ take 20 (drop (20 * n) (f .bytes))
   hash-bytes n h =
       let a : 20 * n ≤ length (f .bytes) = omega (arith, as-many) in
       let b : 20 ≤ length (drop (20 * n) (f .bytes)) = omega (arith, as-many, length-drop (20 * n) (f .bytes)) in
@@ -77,7 +78,7 @@ pub record Hashed (s : List ℕ) (t : Torrent) (n : ℕ) : Type 0 where
   pub place : ℕ
   pub bytes : List ℕ
   pub found : inInfo value piecesKey ≡ under place (str bytes)
-  pub hash : bytesOf s (hashPart n (t .pieces)) ≡ take 20 (drop (20 * n) bytes)
+  pub hash : bytesAt s (hashPart n (t .pieces)) ≡ take 20 (drop (20 * n) bytes)
   pub all : length bytes ≡ 20 * t .«piece_count»
 
 pub piece-hash : (s : List ℕ) (t : Torrent) (n : ℕ) → readOf s ≡ taken t → n < t .«piece_count» → Hashed s t n
@@ -113,7 +114,7 @@ module _ (s : List ℕ) (n : ℕ) (m : List ℕ) (t : Torrent) where
       pub check-outside : (k : ℕ) → k ≡ pieceBytes (t .content .total) (t .«piece_length») n → (length m ≡ k → ⊥) → refused 34 0 ≡ checkIn s n m t
       check-outside k i g = sym (rw (le-leb (length m) longestPiece h, ne-eqb (length m) (pieceBytes (t .content .total) (t .«piece_length») n) (λ j. g (j ∙ sym i)))) ∙ against
 
-      pub check-agreed : (k : ℕ) → k ≡ pieceBytes (t .content .total) (t .«piece_length») n → length m ≡ k → (l : List ℕ) → l ≡ bytesOf s x → agreementOf m l ≡ checkIn s n m t
+      pub check-agreed : (k : ℕ) → k ≡ pieceBytes (t .content .total) (t .«piece_length») n → length m ≡ k → (l : List ℕ) → l ≡ bytesAt s x → agreementOf m l ≡ checkIn s n m t
       unfolding agreementOf
       check-agreed k i g l j =
           rw (le-leb (length m) longestPiece h)
@@ -137,7 +138,7 @@ module _ (s : List ℕ) (n : ℕ) (m : List ℕ) where
   abbrev held : Torrent → ℕ
   held t = pieceBytes (t .content .total) (t .«piece_length») n
 
-  answers : (t : Torrent) → readOf s ≡ taken t → n < t .«piece_count» → length m ≡ held t → checkOf s n m ≡ taken (same (sha1 m) (bytesOf s (hashPart n (t .pieces))))
+  answers : (t : Torrent) → readOf s ≡ taken t → n < t .«piece_count» → length m ≡ held t → checkOf s n m ≡ taken (same (sha1 m) (bytesAt s (hashPart n (t .pieces))))
   answers t e h l =
       let p = piece-fits s t e in
       let b : length m ≤ longestPiece = omega arith in
@@ -146,15 +147,15 @@ module _ (s : List ℕ) (n : ℕ) (m : List ℕ) where
   no-same : (x y : List ℕ) → (x ≡ y → ⊥) → same x y ≡ false
   no-same x y h = sym (same-test x y false (λ e. no-way (cc)) (λ e. absurd (h e)))
 
-  only : checkOf s n m ≡ taken true → (t : Torrent) × (readOf s ≡ taken t) × (n < t .«piece_count») × (length m ≡ held t) × (sha1 m ≡ bytesOf s (hashPart n (t .pieces)))
+  only : checkOf s n m ≡ taken true → (t : Torrent) × (readOf s ≡ taken t) × (n < t .«piece_count») × (length m ≡ held t) × (sha1 m ≡ bytesAt s (hashPart n (t .pieces)))
   only e =
       let x = then-taken (readOf s) (checkIn s n m) true e in
       let t = x .0 in
       let y = tested (ltb n (t .«piece_count»)) (taken (hashPart n (t .pieces))) 31 (checkAgainst s n m t) (x .2) in
-      let z = provided (leb (length m) longestPiece) 8 (cond (eqb (length m) (held t)) (taken (same (sha1 m) (bytesOf s (hashPart n (t .pieces))))) (refused 34 0)) (y .1) in
-      let w = provided (eqb (length m) (held t)) 34 (taken (same (sha1 m) (bytesOf s (hashPart n (t .pieces))))) (z .1) in
-      let g : same (sha1 m) (bytesOf s (hashPart n (t .pieces))) ≡ true = cc in
-      (t, x .1, ltb-true n (t .«piece_count») (y .0), eqb-true (length m) (held t) (w .0), same-equal (sha1 m) (bytesOf s (hashPart n (t .pieces))) g)
+      let z = provided (leb (length m) longestPiece) 8 (cond (eqb (length m) (held t)) (taken (same (sha1 m) (bytesAt s (hashPart n (t .pieces))))) (refused 34 0)) (y .1) in
+      let w = provided (eqb (length m) (held t)) 34 (taken (same (sha1 m) (bytesAt s (hashPart n (t .pieces))))) (z .1) in
+      let g : same (sha1 m) (bytesAt s (hashPart n (t .pieces))) ≡ true = cc in
+      (t, x .1, ltb-true n (t .«piece_count») (y .0), eqb-true (length m) (held t) (w .0), same-equal (sha1 m) (bytesAt s (hashPart n (t .pieces))) g)
     where
       provided : (b : Bool) (r : ℕ) (o : Outcome Bool) → cond b o (refused r 0) ≡ taken true → (b ≡ true) × (o ≡ taken true)
       provided true r o e = (refl, e)
@@ -168,5 +169,5 @@ module _ (s : List ℕ) (n : ℕ) (m : List ℕ) where
   piece-check = record {
     only = only;
     every = λ t e h l d. answers t e h l ∙ ap taken (ap (same (sha1 m)) (sym d) ∙ same-refl (sha1 m));
-    other = λ t e h l d. answers t e h l ∙ ap taken (no-same (sha1 m) (bytesOf s (hashPart n (t .pieces))) d);
+    other = λ t e h l d. answers t e h l ∙ ap taken (no-same (sha1 m) (bytesAt s (hashPart n (t .pieces))) d);
   }

@@ -7,6 +7,7 @@ use native.Mathlib.Omega.{arith}
 use lib.ListN.{length, take, drop}
 use Rattle.refusal.specs.Paper.{Outcome, taken, refused, then, map}
 use Rattle.refusal.specs.Limits.{longestFile}
+use Rattle.refusal.specs.Parts.{bytesAt}
 use Rattle.refusal.specs.declared.Part.{Part}
 use Rattle.refusal.proofs.Outcomes.{then-taken}
 use Rattle.scalar.specs.Written.{writtenString}
@@ -20,7 +21,7 @@ use Rattle.walk.proofs.Finding.{found-stands}
 use Rattle.fields.specs.Values.{partOf, naturalAt, must}
 use Rattle.metainfo.specs.Keys.{lengthKey, pathKey}
 use Rattle.metainfo.specs.Rules.{goodName, elementsOf, pathAt, fileOf, lengthsOf}
-use Rattle.metainfo.specs.Reading.{valueIn, fileAt, bytesOf, readOf}
+use Rattle.metainfo.specs.Reading.{valueIn, fileAt, readOf}
 use Rattle.metainfo.specs.declared.File.{File}
 use Rattle.metainfo.specs.declared.Torrent.{Torrent}
 use Rattle.metainfo.proofs.Naming.{no-way}
@@ -57,10 +58,10 @@ module _ (s : List ℕ) (d : ℕ) where
   elements-walk (item (dict es) vs) p q t e = no-way (cc)
 
 -- an element by its name's rule
-pub element-good : (s : List ℕ) (p : ℕ) (x : Part) (q : ℕ) → taken (string (x .from) (x .len) q) ≡ lookOf s p → goodName (bytesOf s x) ≡ true → taken (element x q) ≡ elementOf s p
+pub element-good : (s : List ℕ) (p : ℕ) (x : Part) (q : ℕ) → taken (string (x .from) (x .len) q) ≡ lookOf s p → goodName (bytesAt s x) ≡ true → taken (element x q) ≡ elementOf s p
 element-good s p x q e g = sym (rw g) ∙ ap (λ (o : Outcome Head). then o (elementIn s p)) e
 
-pub element-bad : (s : List ℕ) (p : ℕ) (x : Part) (q : ℕ) → taken (string (x .from) (x .len) q) ≡ lookOf s p → goodName (bytesOf s x) ≡ false → refused 13 p ≡ elementOf s p
+pub element-bad : (s : List ℕ) (p : ℕ) (x : Part) (q : ℕ) → taken (string (x .from) (x .len) q) ≡ lookOf s p → goodName (bytesAt s x) ≡ false → refused 13 p ≡ elementOf s p
 element-bad s p x q e g = sym (rw g) ∙ ap (λ (o : Outcome Head). then o (elementIn s p)) e
 
 -- the path of a file

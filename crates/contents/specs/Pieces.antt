@@ -8,10 +8,11 @@ use lib.ListN.{length}
 use Rattle.refusal.specs.Paper.{Outcome, taken, refused, refusal, then}
 use Rattle.refusal.specs.Numbers.{long, beyond, outside}
 use Rattle.refusal.specs.Limits.{longestPiece}
+use Rattle.refusal.specs.Parts.{bytesAt}
 use Rattle.refusal.specs.declared.Part.{Part}
 use Rattle.sha1.specs.Sha1.{sha1}
 use Rattle.sha1.specs.Digest.{same}
-use Rattle.metainfo.specs.Reading.{readOf, bytesOf}
+use Rattle.metainfo.specs.Reading.{readOf}
 use Rattle.metainfo.specs.declared.Torrent.{Torrent}
 use Rattle.contents.specs.declared.Hash.{Hash}
 use Rattle.contents.specs.declared.Hash.the-variants.{Stands, None}
@@ -46,7 +47,7 @@ pieceBytes total pl n = min pl (total - n * pl)
 abbrev pub checkAgainst : List ℕ → ℕ → List ℕ → Torrent → Part → Outcome Bool
 checkAgainst s n m t x =
     cond (leb (length m) longestPiece)
-    (cond (eqb (length m) (pieceBytes (t .content .total) (t .«piece_length») n)) (taken (same (sha1 m) (bytesOf s x))) (refused outside 0))
+    (cond (eqb (length m) (pieceBytes (t .content .total) (t .«piece_length») n)) (taken (same (sha1 m) (bytesAt s x))) (refused outside 0))
     (refused long 0)
 
 abbrev pub checkIn : List ℕ → ℕ → List ℕ → Torrent → Outcome Bool
@@ -58,6 +59,6 @@ checkOf s n m = then (readOf s) (checkIn s n m)
 
 -- the answer is yes exactly when m's digest is the hash of piece n, of which m has the length
 pub record PieceCheck (s : List ℕ) (n : ℕ) (m : List ℕ) (o : Outcome Bool) : Type 0 where
-  pub only : o ≡ taken true → (t : Torrent) × (readOf s ≡ taken t) × (n < t .«piece_count») × (length m ≡ pieceBytes (t .content .total) (t .«piece_length») n) × (sha1 m ≡ bytesOf s (hashPart n (t .pieces)))
-  pub every : (t : Torrent) → readOf s ≡ taken t → n < t .«piece_count» → length m ≡ pieceBytes (t .content .total) (t .«piece_length») n → sha1 m ≡ bytesOf s (hashPart n (t .pieces)) → o ≡ taken true
-  pub other : (t : Torrent) → readOf s ≡ taken t → n < t .«piece_count» → length m ≡ pieceBytes (t .content .total) (t .«piece_length») n → (sha1 m ≡ bytesOf s (hashPart n (t .pieces)) → ⊥) → o ≡ taken false
+  pub only : o ≡ taken true → (t : Torrent) × (readOf s ≡ taken t) × (n < t .«piece_count») × (length m ≡ pieceBytes (t .content .total) (t .«piece_length») n) × (sha1 m ≡ bytesAt s (hashPart n (t .pieces)))
+  pub every : (t : Torrent) → readOf s ≡ taken t → n < t .«piece_count» → length m ≡ pieceBytes (t .content .total) (t .«piece_length») n → sha1 m ≡ bytesAt s (hashPart n (t .pieces)) → o ≡ taken true
+  pub other : (t : Torrent) → readOf s ≡ taken t → n < t .«piece_count» → length m ≡ pieceBytes (t .content .total) (t .«piece_length») n → (sha1 m ≡ bytesAt s (hashPart n (t .pieces)) → ⊥) → o ≡ taken false

@@ -5,12 +5,13 @@ use Prim.Native.Nat.{ℕ, _+_}
 use lib.ListN.{length}
 use Rattle.refusal.specs.Paper.{taken, refused}
 use Rattle.refusal.specs.Numbers.{byte}
+use Rattle.refusal.specs.Parts.{bytesAt}
 use Rattle.refusal.specs.declared.Part.{Part}
 use Rattle.bencode.specs.Value.{Value, Items, str, int, list, dict, none, item}
 use Rattle.walk.specs.Lookup.{Under, nothing, under}
 use Rattle.bencode.specs.Decode.{decode}
 use Rattle.metainfo.specs.Keys.{pathKey, filesKey}
-use Rattle.metainfo.specs.Reading.{fileAt, bytesOf}
+use Rattle.metainfo.specs.Reading.{fileAt}
 use Rattle.metainfo.specs.declared.File.{File}
 use Rattle.metainfo.specs.declared.Torrent.{Torrent}
 use Rattle.contents.specs.declared.Entry.{Entry}
@@ -42,7 +43,7 @@ pathOf p v = stringsUnder (inside p v pathKey)
 -- from p on, `element_at` gives these elements in order, and then the end
 pub data Elements (s : List ℕ) : ℕ → List (List ℕ) → Type 0 where
   ends : (p : ℕ) → elementOf s p ≡ taken (done (p + 1)) → Elements s p []
-  goes : (p : ℕ) (x : Part) (q : ℕ) (l : List (List ℕ)) → elementOf s p ≡ taken (element x q) → Elements s q l → Elements s p (bytesOf s x ∷ l)
+  goes : (p : ℕ) (x : Part) (q : ℕ) (l : List (List ℕ)) → elementOf s p ≡ taken (element x q) → Elements s q l → Elements s p (bytesAt s x ∷ l)
 
 -- from p on, and from o of the content on, `metainfo::file_at` gives the files that these values are, with their entries, and each one's path
 -- its elements; then it refuses the list's e

@@ -9,13 +9,13 @@ use lib.Dec.{ltb, leb}
 use lib.ListN.{length, getD, replicate}
 use lib.Seq.{sets}
 use Rattle.refusal.specs.Paper.{Outcome, taken, refused}
+use Rattle.refusal.specs.Parts.{bytesAt}
 use Rattle.refusal.proofs.Cases.{by-test}
 use Rattle.sha1.specs.Digest.{Left, left}
 use Rattle.sha1.specs.Digest.{paper as hashPaper}
 use Rattle.sha1.specs.declared.Hashed.{Hashed}
 use Rattle.sha1.specs.declared.Hashed.the-variants as hashed
 use Rattle.sha1.proofs.Determined.{digest-refusal-keeps}
-use Rattle.metainfo.specs.Reading.{bytesOf}
 use Rattle.metainfo.specs.Hashes.{hashedIn}
 use Rattle.metainfo.specs.declared.Torrent.{Torrent}
 use Rattle.tables.specs.Seats.{cleared, weChoke, weWant}
@@ -51,7 +51,7 @@ one-part {A} {r} {s} (e, f, g) =
 
 -- where the torrent is refused its digest is not written, and a digest that is refused leaves the 20 bytes
 pub hash-kept : (s o : List ℕ) (x : Outcome Torrent) (r : Hashed) {out : List ℕ} {n p : ℕ} → left (hashPaper r) out ≡ hashedIn s o x → hashPaper r ≡ refused n p → out ≡ o
-hash-kept s o (taken t) r e h = digest-refusal-keeps (bytesOf s (t .info)) o r e h .1
+hash-kept s o (taken t) r e h = digest-refusal-keeps (bytesAt s (t .info)) o r e h .1
 hash-kept s o (refused n p) r e h = ap (λ (l : Left). l .out) e
 
 -- ---- the yard's steps and calls

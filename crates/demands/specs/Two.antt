@@ -46,7 +46,7 @@ use Rattle.wire.proofs.Exact as frames
 use Rattle.wire.proofs.Written as framing
 use Rattle.wire.proofs.Shaking as shaking
 use Rattle.metainfo.specs.Keys.{announceKey, infoKey, lengthKey, nameKey, pieceLengthKey, piecesKey}
-use Rattle.metainfo.specs.Reading.{bytesOf, announceIn, nameIn}
+use Rattle.metainfo.specs.Reading.{announceIn, nameIn}
 use Rattle.metainfo.specs.Reading.{paper as torrentPaper, readOf as torrentRead}
 use Rattle.metainfo.specs.Hashes.{infoHashOf}
 use Rattle.metainfo.specs.declared.Torrent.{Torrent}
@@ -129,10 +129,10 @@ module _ (s : List ℕ) (r : Reading) (c : torrentPaper r ≡ torrentRead s) whe
 
   -- and the fields handed back are that value's: strings as the very part of the text, info as its dictionary is written, and the files one by one
   pub torrent-fields : (x : Torrent) → torrentPaper r ≡ taken x → (v : Value) (t : Said) → Encodes s v → IsTorrent v t
-      → (bytesOf s (x .announce) ≡ t .announce)
-      × (bytesOf s (x .info) ≡ encode (dict (t .info)))
-      × (bytesOf s (x .name) ≡ t .name)
-      × (bytesOf s (x .pieces) ≡ t .pieces)
+      → (bytesAt s (x .announce) ≡ t .announce)
+      × (bytesAt s (x .info) ≡ encode (dict (t .info)))
+      × (bytesAt s (x .name) ≡ t .name)
+      × (bytesAt s (x .pieces) ≡ t .pieces)
       × (x .«piece_length» ≡ t .piece-length)
       × (x .«piece_count» ≡ t .count)
       × (x .content .single ≡ isSingle (t .files))
@@ -149,10 +149,10 @@ module _ (s : List ℕ) (r : Reading) (c : torrentPaper r ≡ torrentRead s) whe
       (w .announce, w .info, w .name, w .pieces, w .piece-length, w .count, f .one, f .files, f .total, f .place, f .each)
 
 -- of metainfo::announce and metainfo::name: what they hand back
-pub announce-said : (s r : List ℕ) → r ≡ bytesOf s (announceIn (torrentRead s)) → (v : Value) (t : Said) → Encodes s v → IsTorrent v t → r ≡ t .announce
+pub announce-said : (s r : List ℕ) → r ≡ bytesAt s (announceIn (torrentRead s)) → (v : Value) (t : Said) → Encodes s v → IsTorrent v t → r ≡ t .announce
 announce-said s r c v t e i = c ∙ torrents.announce-said s v t (fine e) i
 
-pub name-said : (s r : List ℕ) → r ≡ bytesOf s (nameIn (torrentRead s)) → (v : Value) (t : Said) → Encodes s v → IsTorrent v t → r ≡ t .name
+pub name-said : (s r : List ℕ) → r ≡ bytesAt s (nameIn (torrentRead s)) → (v : Value) (t : Said) → Encodes s v → IsTorrent v t → r ≡ t .name
 name-said s r c v t e i = c ∙ torrents.name-said s v t (fine e) i
 
 -- of contents::file: file number n of a torrent of many files has its length and path, and starts where those before it end; beyond the last it is 31
@@ -292,7 +292,7 @@ pub torrent-reads-back : (f : Torrents) (o out : List ℕ) (r : Put) → left (p
     (entry pieceLengthKey (int (pos (f .pieceLength))) (entry piecesKey (str (f .pieces)) empty))))) empty))))
     × (drop q out ≡ drop q o)
     × ((x : Torrent) × (torrentRead (take q out) ≡ taken x) × (x .content .single ≡ true)
-    × (fields (bytesOf (take q out) (x .announce)) (bytesOf (take q out) (x .name)) (x .«piece_length») (bytesOf (take q out) (x .pieces)) (x .content .total) ≡ f))
+    × (fields (bytesAt (take q out) (x .announce)) (bytesAt (take q out) (x .name)) (x .«piece_length») (bytesAt (take q out) (x .pieces)) (x .content .total) ≡ f))
 torrent-reads-back f o out r c q t =
     let b = authored.torrent-reads-back f o r c q t in
     (b .text, b .past, (b .torrent, b .read, b .gives .single, b .gives .same))
@@ -302,7 +302,7 @@ pub torrent-rewrite : (s : List ℕ) (a l n pl ps : Value)
     → Encodes s (dict (entry announceKey a (entry infoKey (dict (entry lengthKey l (entry nameKey n (entry pieceLengthKey pl (entry piecesKey ps empty))))) empty)))
     → (x : Torrent) → torrentRead s ≡ taken x
     → (x .content .single ≡ true)
-    × ((o : List ℕ) → authorOf (fields (bytesOf s (x .announce)) (bytesOf s (x .name)) (x .«piece_length») (bytesOf s (x .pieces)) (x .content .total)) o ≡ putOf s 0 o)
+    × ((o : List ℕ) → authorOf (fields (bytesAt s (x .announce)) (bytesAt s (x .name)) (x .«piece_length») (bytesAt s (x .pieces)) (x .content .total)) o ≡ putOf s 0 o)
 torrent-rewrite s a l n pl ps e x d = let b = again.rewrite s (topWith a (infoWith l n pl ps)) (fine e) (only a l n pl ps) x d in (b .0, b .2)
 
 -- ---- 8. "The info hash is SHA-1 (FIPS 180-4) of info's bytes as they stand. A piece check answers yes exactly when the digests agree."
@@ -316,7 +316,7 @@ info-hash s o out r c v t e i =
 
 -- of contents::piece_hash: the hash of piece n is the n-th 20 bytes of pieces; beyond the last it is 31
 pub piece-hash : (s : List ℕ) (n : ℕ) (r : hash.Hash) → pieceHashPaper r ≡ pieceHashOf s n → (v : Value) (t : Said) → Encodes s v → IsTorrent v t
-    → (n < t .count → (x : Part) × (pieceHashPaper r ≡ taken x) × (bytesOf s x ≡ take 20 (drop (20 * n) (t .pieces)))) × (t .count ≤ n → pieceHashPaper r ≡ refused 31 0)
+    → (n < t .count → (x : Part) × (pieceHashPaper r ≡ taken x) × (bytesAt s x ≡ take 20 (drop (20 * n) (t .pieces)))) × (t .count ≤ n → pieceHashPaper r ≡ refused 31 0)
 piece-hash s n r c v t e i = let h = piece-hashed s n v t (fine e) i in (λ l. let x = h .0 l in (x .0, c ∙ x .1, x .2), λ l. c ∙ h .1 l)
 
 -- of contents::check_piece: yes exactly when the text is a torrent that has piece n, m is as long as that piece, and its digest is the n-th 20 bytes of pieces;

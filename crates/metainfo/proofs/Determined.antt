@@ -4,6 +4,7 @@ use mathlib.Core.List.{List}
 use Prim.Native.Nat.{ℕ, _+_, min}
 use lib.ListN.{length}
 use Rattle.refusal.specs.Paper.{Outcome, taken, refused}
+use Rattle.refusal.specs.Parts.{bytesAt}
 use Rattle.refusal.specs.declared.Part.{Part}
 use Rattle.metainfo.specs.declared.Torrent.{Torrent}
 use Rattle.metainfo.specs.declared.File.{File}
@@ -12,7 +13,7 @@ use Rattle.metainfo.specs.declared.Reading.the-variants.{Read, Refused}
 use Rattle.metainfo.specs.declared.Filed.{Filed}
 use Rattle.metainfo.specs.declared.Filed.the-variants.{Is, Not}
 use Rattle.walk.proofs.Determined.{bytes-determined}
-use Rattle.metainfo.specs.Reading.{paper, readOf, filePaper, fileAt, bytesOf, announceIn, nameIn}
+use Rattle.metainfo.specs.Reading.{paper, readOf, filePaper, fileAt, announceIn, nameIn}
 
 -- the way back
 abbrev readingAs : Outcome Torrent → Reading
@@ -43,10 +44,10 @@ file-determined s p r t e f = sym (filed-again r) ∙ ap filedAs (e ∙ sym f) �
 abbrev Lies : List ℕ → Part → ℕ → ℕ → ℕ → ℕ → Type 0
 Lies s p block offset b o = (b ≡ block) × (o ≡ offset + min (p .from) (length s))
 
-pub announce-determined : (s l m : List ℕ) (block offset b c o q : ℕ) → l ≡ bytesOf s (announceIn (readOf s)) → m ≡ bytesOf s (announceIn (readOf s))
+pub announce-determined : (s l m : List ℕ) (block offset b c o q : ℕ) → l ≡ bytesAt s (announceIn (readOf s)) → m ≡ bytesAt s (announceIn (readOf s))
     → Lies s (announceIn (readOf s)) block offset b o → Lies s (announceIn (readOf s)) block offset c q → (l ≡ m) × (b ≡ c) × (o ≡ q)
 announce-determined s l m block offset b c o q = bytes-determined s l m (announceIn (readOf s) .from) (announceIn (readOf s) .len) block offset b c o q
 
-pub name-determined : (s l m : List ℕ) (block offset b c o q : ℕ) → l ≡ bytesOf s (nameIn (readOf s)) → m ≡ bytesOf s (nameIn (readOf s))
+pub name-determined : (s l m : List ℕ) (block offset b c o q : ℕ) → l ≡ bytesAt s (nameIn (readOf s)) → m ≡ bytesAt s (nameIn (readOf s))
     → Lies s (nameIn (readOf s)) block offset b o → Lies s (nameIn (readOf s)) block offset c q → (l ≡ m) × (b ≡ c) × (o ≡ q)
 name-determined s l m block offset b c o q = bytes-determined s l m (nameIn (readOf s) .from) (nameIn (readOf s) .len) block offset b c o q

@@ -7,13 +7,14 @@ use lib.Dec.{leb}
 use lib.ListN.{length, take, drop, length-take, length-drop}
 use borrow.Author.Tests.{le-leb}
 use Rattle.refusal.specs.Paper.{Outcome, taken, refused}
+use Rattle.refusal.specs.Parts.{bytesAt}
 use Rattle.sha1.specs.Sha1.{sha1}
 use Rattle.sha1.specs.Digest.{Left, left, digestOf}
 use Rattle.sha1.specs.Digest.{paper as hashPaper}
 use Rattle.sha1.specs.declared.Hashed.{Hashed}
 use Rattle.sha1.specs.declared.Hashed.the-variants.{Written, Refused}
 use Rattle.metainfo.specs.declared.Torrent.{Torrent}
-use Rattle.metainfo.specs.Reading.{bytesOf, readOf}
+use Rattle.metainfo.specs.Reading.{readOf}
 use Rattle.metainfo.specs.Hashes.{hashedIn, infoHashOf}
 use Rattle.metainfo.proofs.Exact.{torrent-exact}
 
@@ -29,9 +30,9 @@ pub info-hash-determined : (s o : List ℕ) (r t : Hashed) (x y : List ℕ) → 
 info-hash-determined s o r t x y e f = (sym (again r) ∙ ap (λ (l : Left). hashedAs (l .answer)) (e ∙ sym f) ∙ again t, ap (λ (l : Left). l .out) (e ∙ sym f))
 
 -- of a text that is a torrent
-pub info-hash : (s o : List ℕ) (t : Torrent) → readOf s ≡ taken t → infoHashOf s o ≡ left (taken tt) (sha1 (bytesOf s (t .info)))
+pub info-hash : (s o : List ℕ) (t : Torrent) → readOf s ≡ taken t → infoHashOf s o ≡ left (taken tt) (sha1 (bytesAt s (t .info)))
 unfolding digestOf
 info-hash s o t e =
     let f = torrent-exact s .only t e .1 in
-    let h : length (bytesOf s (t .info)) ≤ 16777216 = simp (length-take, length-drop) (omega (arith, f .short)) in
-    ap (hashedIn s o) e ∙ rw (le-leb (length (bytesOf s (t .info))) 16777216 h)
+    let h : length (bytesAt s (t .info)) ≤ 16777216 = simp (length-take, length-drop) (omega (arith, f .short)) in
+    ap (hashedIn s o) e ∙ rw (le-leb (length (bytesAt s (t .info))) 16777216 h)

@@ -2,13 +2,14 @@
 use mathlib.Core.List.{List}
 use Prim.Native.Nat.{ℕ}
 use Rattle.refusal.specs.Paper.{Outcome, taken, refused}
+use Rattle.refusal.specs.Parts.{bytesAt}
 use Rattle.sha1.specs.Digest.{Left, left, digestOf}
 use Rattle.metainfo.specs.declared.Torrent.{Torrent}
-use Rattle.metainfo.specs.Reading.{bytesOf, readOf}
+use Rattle.metainfo.specs.Reading.{readOf}
 
 -- the digest of info's bytes as they stand, written over o; or the torrent's refusal, and o as it was
 abbrev pub hashedIn : List ℕ → List ℕ → Outcome Torrent → Left
-hashedIn s o (taken t) = digestOf (bytesOf s (t .info)) o
+hashedIn s o (taken t) = digestOf (bytesAt s (t .info)) o
 hashedIn s o (refused n p) = left (refused n p) o
 
 abbrev pub infoHashOf : List ℕ → List ℕ → Left

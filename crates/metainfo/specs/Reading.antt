@@ -3,7 +3,7 @@ use mathlib.Core.List.{List}
 use Prim.Native.Nat.{ℕ, _+_, min}
 use mathlib.Core.Bool.{false}
 use Rattle.blocks.specs.Rules.{sum, largest}
-use lib.ListN.{length, take, drop}
+use lib.ListN.{length, drop}
 use Rattle.refusal.specs.Paper.{Outcome, taken, refused, refusal, map, then}
 use Rattle.refusal.specs.Limits.{mostLevels}
 use Rattle.refusal.specs.declared.Part.{Part}
@@ -79,10 +79,6 @@ filesAt p v = then (listAt p v) (λ vs. map (λ ns. listedTo (p + length (encode
 -- a running total stops at the largest number of 64 bits
 abbrev pub stopped : Content → Content
 stopped c = record { single = c .single; place = c .place; files = c .files; total = min (c .total) largest }
-
--- the bytes of a part
-abbrev pub bytesOf : List ℕ → Part → List ℕ
-bytesOf s p = take (p .len) (drop (p .from) s)
 
 -- where announce and the name stand; of a text that is refused, the empty part at its start
 abbrev pub announceIn : Outcome Torrent → Part

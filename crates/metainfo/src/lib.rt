@@ -5,13 +5,14 @@ mod keys;
 mod names;
 
 ghost use mathlib.Core.Path.{_≡_};
+ghost use Rattle.refusal.specs.Parts.{bytesAt};
 ghost use Rattle.bencode.specs.Value.{Value, Entries, Prev};
 ghost use Rattle.bencode.specs.Exact.{Fine};
 ghost use Rattle.walk.specs.Stands.{StandEntries};
 ghost use Prim.Native.Nat.{ℕ, _+_, _≤_, min};
 ghost use lib.ListN.{length};
 ghost use Rattle.metainfo.specs.Rules.{torrentOf, topOf, goodName};
-ghost use Rattle.metainfo.specs.Reading.{paper, readOf, filePaper, fileAt, bytesOf, announceIn, nameIn};
+ghost use Rattle.metainfo.specs.Reading.{paper, readOf, filePaper, fileAt, announceIn, nameIn};
 ghost use Rattle.sha1.specs.Digest.{left};
 ghost use Rattle.sha1.specs.Digest.{paper as hashPaper};
 ghost use Rattle.metainfo.specs.Hashes.{infoHashOf};
@@ -99,7 +100,7 @@ pub fn read(text: &[u8]) -> Reading
 
 // The bytes of announce, as the part of the text where they stand; none where the torrent is refused.
 pub fn announce(text: &[u8]) -> &[u8]
-    ensures same { λ r. ⌜ now r ≡ bytesOf (now (text .entry)) (announceIn (readOf (now (text .entry)))) ⌝ }
+    ensures same { λ r. ⌜ now r ≡ bytesAt (now (text .entry)) (announceIn (readOf (now (text .entry)))) ⌝ }
     ensures there { λ r. ⌜ (r .ptr .0 ≡ text .entry .ptr .0) × (r .ptr .1 ≡ text .entry .ptr .1 + min (announceIn (readOf (now (text .entry))) .from) (length (now (text .entry)))) ⌝ }
 {
     walk::bytes(text, announce_part(read(text)))
@@ -107,7 +108,7 @@ pub fn announce(text: &[u8]) -> &[u8]
 
 // The bytes of the name, in the same way.
 pub fn name(text: &[u8]) -> &[u8]
-    ensures same { λ r. ⌜ now r ≡ bytesOf (now (text .entry)) (nameIn (readOf (now (text .entry)))) ⌝ }
+    ensures same { λ r. ⌜ now r ≡ bytesAt (now (text .entry)) (nameIn (readOf (now (text .entry)))) ⌝ }
     ensures there { λ r. ⌜ (r .ptr .0 ≡ text .entry .ptr .0) × (r .ptr .1 ≡ text .entry .ptr .1 + min (nameIn (readOf (now (text .entry))) .from) (length (now (text .entry)))) ⌝ }
 {
     walk::bytes(text, name_part(read(text)))

@@ -3,6 +3,7 @@ use mathlib.Core.Path.{_≡_, refl, sym, ap, _∙_}
 use mathlib.Core.List.{List}
 use Prim.Native.Nat.{ℕ}
 use Rattle.refusal.specs.Paper.{Outcome, taken, refused}
+use Rattle.refusal.specs.Parts.{bytesAt}
 use Rattle.blocks.specs.Spans.{joinedFiles}
 use Rattle.blocks.specs.Answers.{Left as Laid, left as laid, blockOf, partsWritten}
 use Rattle.blocks.specs.declared.Parts.the-variants.{Refused as Unlaid}
@@ -12,7 +13,7 @@ use Rattle.sha1.specs.Parts.{finishOf}
 use Rattle.sha1.specs.declared.Hashed.the-variants.{Refused as Unhashed}
 use Rattle.sha1.specs.declared.stream.Stream.{Stream}
 use Rattle.sha1.proofs.Determined.{digest-refusal-keeps, finish-refusal-keeps}
-use Rattle.metainfo.specs.Reading.{bytesOf, readOf}
+use Rattle.metainfo.specs.Reading.{readOf}
 use Rattle.metainfo.specs.Hashes.{hashedIn, infoHashOf}
 use Rattle.metainfo.specs.declared.Torrent.{Torrent}
 use Rattle.writer.specs.Put.{Left, left, putOf}
@@ -94,5 +95,5 @@ pub info-hash-leaves : (s o : List ℕ) → Leaves (infoHashOf s o) o
 info-hash-leaves s o = go (readOf s)
   where
     go : (x : Outcome Torrent) → Leaves (hashedIn s o x) o
-    go (taken t) = digest-leaves (bytesOf s (t .info)) o
+    go (taken t) = digest-leaves (bytesAt s (t .info)) o
     go (refused n p) = leaves (hash (refused n p) o) o (λ m q e. refl)

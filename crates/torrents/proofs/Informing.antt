@@ -7,6 +7,7 @@ use native.Mathlib.Omega.{arith}
 use lib.IntN.{pos}
 use lib.ListN.{length}
 use Rattle.refusal.specs.Paper.{Outcome, refused, then}
+use Rattle.refusal.specs.Parts.{bytesAt}
 use Rattle.refusal.specs.declared.Part.{Part}
 use Rattle.bencode.specs.Value.{Value, Entries, str, int, list, dict, encode, start}
 use Rattle.walk.specs.Stands.{Stands, StandEntries}
@@ -17,7 +18,6 @@ use Rattle.fields.specs.Values.{stringAt, must}
 use Rattle.blocks.specs.Rules.{PieceLength}
 use Rattle.metainfo.specs.Keys.{announceKey, infoKey, filesKey, lengthKey, nameKey, pieceLengthKey, piecesKey}
 use Rattle.metainfo.specs.Rules.{nameAt, pieceLengthAt, contentOf, placeUnder, sizedOf, infoOf, infoAt, topOf, torrentOf}
-use Rattle.metainfo.specs.Reading.{bytesOf}
 use Rattle.metainfo.specs.declared.Content.{Content}
 use Rattle.metainfo.specs.declared.Torrent.{Torrent}
 use Rattle.torrents.specs.Torrent.{Files, Said, lengthsIn, HasName, HasPieceLength, HasFiles, Sized, IsInfo, IsTorrent, is-torrent}
@@ -53,7 +53,7 @@ module _ (s : List ℕ) (e p d : ℕ) (es : Entries) (t : StandEntries s e p sta
 
 -- ---- info, whose dictionary stands at p; the part a is announce
 
-module _ (s : List ℕ) (e p : ℕ) (es : Entries) (t : StandEntries s e (p + 1) start es) (low : e ≤ 32) (whole : bytesOf s (record { from = p; len = length (encode (dict es)) }) ≡ encode (dict es)) (a : Part) (an : List ℕ) (first : bytesOf s a ≡ an) where
+module _ (s : List ℕ) (e p : ℕ) (es : Entries) (t : StandEntries s e (p + 1) start es) (low : e ≤ 32) (whole : bytesAt s (record { from = p; len = length (encode (dict es)) }) ≡ encode (dict es)) (a : Part) (an : List ℕ) (first : bytesAt s a ≡ an) where
   abbrev Sizes : ℕ → List ℕ → Files → ℕ → ℕ → Type 0
   Sizes m hs fs = BadSizes (lengthsIn fs) m hs (placeUnder (lookup (p + 1) es (filesUnder fs))) (placeUnder (lookup (p + 1) es piecesKey))
 
@@ -159,7 +159,7 @@ module _ (s : List ℕ) (e p : ℕ) (es : Entries) (t : StandEntries s e (p + 1)
 abbrev InfoIs : List ℕ → Value → Said → Type 0
 InfoIs an v x = (v ≡ dict (x .info)) × (x .announce ≡ an) × IsInfo (x .info) x
 
-module _ (s : List ℕ) (a : Part) (an : List ℕ) (first : bytesOf s a ≡ an) where
+module _ (s : List ℕ) (a : Part) (an : List ℕ) (first : bytesAt s a ≡ an) where
   not-info : (q : ℕ) (v : Value) → ((es : Entries) → v ≡ dict es → ⊥) → Checks (refused 10 q) (InfoIs an v) (Shows s) (NoInfoAt q v)
   not-info q v h = checks-refused 10 q (InfoIs an v) (Shows s) (NoInfoAt q v) (λ x i. h (x .info) (i .0)) (no-info-dictionary v h) (only-kind v h)
     where

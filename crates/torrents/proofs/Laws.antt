@@ -8,6 +8,7 @@ use lib.ListN.{length}
 use Rattle.refusal.specs.Paper.{Outcome, taken, refused, then}
 use Rattle.refusal.specs.Numbers.{cut, byte, order, integer, deep, many, after, long, kind, range, name, pieces}
 use Rattle.refusal.specs.Limits.{mostText}
+use Rattle.refusal.specs.Parts.{bytesAt}
 use Rattle.bencode.specs.Value.{Value, dict, encode}
 use Rattle.bencode.specs.Decode.{decode}
 use Rattle.bencode.specs.Exact.{Fine}
@@ -18,7 +19,7 @@ use Rattle.walk.proofs.Standing.{fine-stands}
 use Rattle.sha1.specs.Sha1.{sha1}
 use Rattle.sha1.specs.Digest.{left}
 use Rattle.metainfo.specs.Rules.{torrentOf}
-use Rattle.metainfo.specs.Reading.{bytesOf, readOf, announceIn, nameIn}
+use Rattle.metainfo.specs.Reading.{readOf, announceIn, nameIn}
 use Rattle.metainfo.specs.Hashes.{infoHashOf}
 use Rattle.metainfo.specs.declared.Torrent.{Torrent}
 use Rattle.metainfo.proofs.Exact as rules
@@ -43,11 +44,11 @@ info-hash s o v t f i =
     hashing.info-hash s o (h .0) (h .1) ∙ ap (λ (bs : List ℕ). left (taken tt) (sha1 bs)) (h .2 .info)
 
 -- the calls for announce and the name hand back what is said
-pub announce-said : (s : List ℕ) (v : Value) (t : Said) → Fine s v → IsTorrent v t → bytesOf s (announceIn (readOf s)) ≡ t .announce
-announce-said s v t f i = let h = torrent-exact s .every v t f i in ap (λ (o : Outcome Torrent). bytesOf s (announceIn o)) (h .1) ∙ h .2 .announce
+pub announce-said : (s : List ℕ) (v : Value) (t : Said) → Fine s v → IsTorrent v t → bytesAt s (announceIn (readOf s)) ≡ t .announce
+announce-said s v t f i = let h = torrent-exact s .every v t f i in ap (λ (o : Outcome Torrent). bytesAt s (announceIn o)) (h .1) ∙ h .2 .announce
 
-pub name-said : (s : List ℕ) (v : Value) (t : Said) → Fine s v → IsTorrent v t → bytesOf s (nameIn (readOf s)) ≡ t .name
-name-said s v t f i = let h = torrent-exact s .every v t f i in ap (λ (o : Outcome Torrent). bytesOf s (nameIn o)) (h .1) ∙ h .2 .name
+pub name-said : (s : List ℕ) (v : Value) (t : Said) → Fine s v → IsTorrent v t → bytesAt s (nameIn (readOf s)) ≡ t .name
+name-said s v t f i = let h = torrent-exact s .every v t f i in ap (λ (o : Outcome Torrent). bytesAt s (nameIn o)) (h .1) ∙ h .2 .name
 
 -- ---- refusals
 

@@ -10,6 +10,7 @@ use lib.ListN.{length}
 use borrow.Author.Tests.{leb-true, leb-false}
 use Rattle.refusal.specs.Paper.{taken, refused, then}
 use Rattle.refusal.specs.Limits.{longestPiece}
+use Rattle.refusal.specs.Parts.{bytesAt}
 use Rattle.refusal.specs.declared.Part.{Part}
 use Rattle.bencode.specs.Value.{Value, str, int, list, dict}
 use Rattle.walk.specs.Stands.{Stands}
@@ -18,7 +19,6 @@ use Rattle.fields.proofs.Standing.{part-bytes}
 use Rattle.blocks.specs.Rules.{pieceLength, PieceLength}
 use Rattle.blocks.proofs.Legal.{piece-length-is, is-piece-length, piece-bounds}
 use Rattle.metainfo.specs.Rules.{goodName, nameAt, pieceLengthAt}
-use Rattle.metainfo.specs.Reading.{bytesOf}
 use Rattle.torrents.specs.Torrent.{GoodName, strings}
 use Rattle.torrents.specs.Causes.{NoString, no-string, NoNumber, no-integer, out-of-range, NoName, no-name, bad-name}
 use Rattle.torrents.proofs.Names.{no-way, good-is, is-good}
@@ -26,7 +26,7 @@ use Rattle.torrents.proofs.Checks.{Checks, checks-refused, checks-taken
 
 -- a part of the text that is these bytes
 abbrev pub Shown : List ℕ → Part → List ℕ → Type 0
-Shown s x bs = (bytesOf s x ≡ bs) × (x .len ≡ length bs)
+Shown s x bs = (bytesAt s x ≡ bs) × (x .len ≡ length bs)
 
 -- ---- strings
 

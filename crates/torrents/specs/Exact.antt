@@ -5,12 +5,13 @@ use mathlib.Core.List.{List, [], _∷_}
 use Prim.Native.Nat.{ℕ, _+_}
 use lib.ListN.{length, take, drop}
 use Rattle.refusal.specs.Paper.{taken}
+use Rattle.refusal.specs.Parts.{bytesAt}
 use Rattle.bencode.specs.Value.{Value, Entries, dict, encode, encodeItems}
 use Rattle.bencode.specs.Exact.{Fine}
 use Rattle.walk.specs.Has.{Has}
 use Rattle.blocks.specs.Rules.{sum}
 use Rattle.metainfo.specs.Keys.{filesKey, lengthKey}
-use Rattle.metainfo.specs.Reading.{bytesOf, readOf, fileAt}
+use Rattle.metainfo.specs.Reading.{readOf, fileAt}
 use Rattle.metainfo.specs.declared.File.{File}
 use Rattle.metainfo.specs.declared.Content.{Content}
 use Rattle.metainfo.specs.declared.Torrent.{Torrent}
@@ -53,10 +54,10 @@ pub record ShowsFiles (s : List ℕ) (info : Entries) (c : Content) (fs : Files)
 
 -- an answer's fields are what is said: parts of the text by their bytes, and info's as its dictionary is written
 pub record Shows (s : List ℕ) (x : Torrent) (t : Said) : Type 0 where
-  pub announce : bytesOf s (x .announce) ≡ t .announce
-  pub info : bytesOf s (x .info) ≡ encode (dict (t .info))
-  pub name : bytesOf s (x .name) ≡ t .name
-  pub pieces : bytesOf s (x .pieces) ≡ t .pieces
+  pub announce : bytesAt s (x .announce) ≡ t .announce
+  pub info : bytesAt s (x .info) ≡ encode (dict (t .info))
+  pub name : bytesAt s (x .name) ≡ t .name
+  pub pieces : bytesAt s (x .pieces) ≡ t .pieces
   pub piece-length : x .«piece_length» ≡ t .piece-length
   pub count : x .«piece_count» ≡ t .count
   pub files : ShowsFiles s (t .info) (x .content) (t .files)

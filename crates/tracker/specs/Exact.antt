@@ -6,6 +6,7 @@ use lib.IntN.{pos}
 use lib.ListN.{length, take, drop}
 use Rattle.refusal.specs.Limits.{longestInterval, largestPort}
 use Rattle.refusal.specs.Paper.{Outcome, taken}
+use Rattle.refusal.specs.Parts.{bytesAt}
 use Rattle.refusal.specs.declared.Part.{Part}
 use Rattle.bencode.specs.Value.{Value, Items, Entries, str, int, list, dict, none, item, empty}
 use Rattle.bencode.specs.Exact.{Fine}
@@ -59,7 +60,7 @@ pub data IsReply : Value → Said → Type 0 where
 
 -- a part of the text s is these bytes
 abbrev pub Is : List ℕ → Part → List ℕ → Type 0
-Is s p bs = take (p .len) (drop (p .from) s) ≡ bs
+Is s p bs = bytesAt s p ≡ bs
 
 -- entries that are handed back are those peers
 pub data ShowsPeers (s : List ℕ) : List Entry → List Peer → Type 0 where

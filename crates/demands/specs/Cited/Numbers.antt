@@ -10,6 +10,7 @@ use lib.Dec.{ltb, leb, eqb}
 use lib.ListN.{length, getD}
 use Rattle.refusal.specs.Paper.{Outcome, taken, refused, map, then}
 use Rattle.refusal.specs.Limits.{mostText, longestPiece, longestFrame, longestInterval}
+use Rattle.refusal.specs.Parts.{bytesAt}
 use Rattle.refusal.specs.declared.Part.{Part}
 use Rattle.writer.specs.Put.{Left, left, paper, putOf}
 use Rattle.writer.specs.declared.Put.{Put}
@@ -43,7 +44,7 @@ use Rattle.tracker.specs.Causes.{NoString, no-key, other, NoId, no-string, othe
 use Rattle.tracker.proofs.Causes.{reply-causes, reply-refused}
 use Rattle.tracker.proofs.Numbering.{entry-within, entry-beyond}
 use Rattle.tracker.proofs.Rewriting as replies
-use Rattle.metainfo.specs.Reading.{readOf, bytesOf}
+use Rattle.metainfo.specs.Reading.{readOf}
 use Rattle.metainfo.specs.Hashes.{hashedIn, infoHashOf}
 use Rattle.metainfo.proofs.Hashing.{info-hash}
 use Rattle.metainfo.specs.declared.Torrent.{Torrent}
@@ -317,7 +318,7 @@ hash-exactly s n p = both-ways (then-refused (readOf s) (hashIn n) 31 p) (
 module _ (s : List ℕ) (t : Torrent) (n : ℕ) (m : List ℕ) (k p : ℕ) where
   -- the piece is there: its bytes
   abbrev expected : List ℕ
-  expected = bytesOf s (hashPart n (t .pieces))
+  expected = bytesAt s (hashPart n (t .pieces))
 
   bytes-only : n < t .«piece_count» → checkIn s n m t ≡ refused k p → Unchecked t n m k × (p ≡ 0)
   bytes-only l e =

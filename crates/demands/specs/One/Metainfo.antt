@@ -4,11 +4,12 @@ use mathlib.Core.List.{List}
 use mathlib.Core.Path.{_≡_, sym, _∙_}
 use Prim.Native.Nat.{ℕ, _+_, min}
 use lib.ListN.{length}
+use Rattle.refusal.specs.Parts.{bytesAt}
 use Rattle.sha1.specs.Digest.{paper as hashPaper}
 use Rattle.sha1.specs.Digest.{left}
 use Rattle.sha1.specs.declared.Hashed.{Hashed}
 use Rattle.metainfo.specs.Hashes.{infoHashOf}
-use Rattle.metainfo.specs.Reading.{paper, readOf, bytesOf, announceIn, nameIn, filePaper, fileAt}
+use Rattle.metainfo.specs.Reading.{paper, readOf, announceIn, nameIn, filePaper, fileAt}
 use Rattle.metainfo.specs.Rules.{goodName}
 use Rattle.metainfo.specs.declared.Filed.{Filed}
 use Rattle.metainfo.specs.declared.Reading.{Reading}
@@ -27,7 +28,7 @@ read-determined text r r′ e f = laws.read-determined _ r r′ e f
 -- metainfo::announce
 abbrev announce-ensures : (text : Lent (List ℕ)) → Ref (List ℕ) → Type 0
 announce-ensures text r =
-    (now r ≡ bytesOf (now (text .entry)) (announceIn (readOf (now (text .entry)))))
+    (now r ≡ bytesAt (now (text .entry)) (announceIn (readOf (now (text .entry)))))
     × ((r .ptr .0 ≡ text .entry .ptr .0) × (r .ptr .1 ≡ text .entry .ptr .1 + min (announceIn (readOf (now (text .entry))) .from) (length (now (text .entry)))))
 
 pub announce-determined : (text : Lent (List ℕ)) → Determined (announce-ensures text)
@@ -37,7 +38,7 @@ announce-determined text r r′ e f =
 -- metainfo::name
 abbrev name-ensures : (text : Lent (List ℕ)) → Ref (List ℕ) → Type 0
 name-ensures text r =
-    (now r ≡ bytesOf (now (text .entry)) (nameIn (readOf (now (text .entry)))))
+    (now r ≡ bytesAt (now (text .entry)) (nameIn (readOf (now (text .entry)))))
     × ((r .ptr .0 ≡ text .entry .ptr .0) × (r .ptr .1 ≡ text .entry .ptr .1 + min (nameIn (readOf (now (text .entry))) .from) (length (now (text .entry)))))
 
 pub name-determined : (text : Lent (List ℕ)) → Determined (name-ensures text)

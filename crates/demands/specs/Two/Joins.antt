@@ -11,6 +11,7 @@ use lib.IntN.{pos}
 use lib.ListN.{length, getD, take, drop, length-drop, take-append-drop}
 use lib.Seq.{take-append-le, drop-append-le, drop-drop}
 use Rattle.refusal.specs.Paper.{Outcome, taken, refused, then}
+use Rattle.refusal.specs.Parts.{bytesAt}
 use Rattle.refusal.specs.declared.Part.{Part}
 use Rattle.refusal.proofs.Outcomes.{then-taken}
 use Rattle.scalar.specs.Written.{keyLt}
@@ -31,7 +32,7 @@ use Rattle.blocks.proofs.Legal.{is-lawful, lawful-is, piece-bounds}
 use Rattle.blocks.proofs.Whole.{byte-finds-piece, is-lies, lies-is}
 use Rattle.blocks.proofs.Whole.{passed as all-passed}
 use Rattle.blocks.proofs.Joined.{joined-laid, joined-start, joined-count, joined-size, joined-keeps, joined-held, joined-end}
-use Rattle.metainfo.specs.Reading.{bytesOf, readOf}
+use Rattle.metainfo.specs.Reading.{readOf}
 use Rattle.metainfo.specs.declared.Torrent.{Torrent}
 use Rattle.torrents.specs.Torrent.{Said, IsTorrent, is-torrent, lengthsIn}
 use Rattle.torrents.specs.Exact.{Shows}
@@ -54,8 +55,8 @@ no-way e = absurd (omega arith)
 -- ---- the check of a piece
 
 -- the n-th 20 bytes of pieces, in the text and in what the torrent says
-hash-bytes : (s : List ℕ) (x : Torrent) (t : Said) (n : ℕ) → bytesOf s (x .pieces) ≡ t .pieces → length (t .pieces) ≡ 20 * t .count → n < t .count
-    → bytesOf s (hashPart n (x .pieces)) ≡ take 20 (drop (20 * n) (t .pieces))
+hash-bytes : (s : List ℕ) (x : Torrent) (t : Said) (n : ℕ) → bytesAt s (x .pieces) ≡ t .pieces → length (t .pieces) ≡ 20 * t .count → n < t .count
+    → bytesAt s (hashPart n (x .pieces)) ≡ take 20 (drop (20 * n) (t .pieces))
 hash-bytes s x t n e l h =
     let rest = drop (x .pieces .from) s in
     let len = x .pieces .len in
@@ -78,7 +79,7 @@ module _ (s : List ℕ) (n : ℕ) (m : List ℕ) where
   passed x b = go (ltb n (x .«piece_count»)) refl (leb (length m) 16777216) (eqb (length m) (held x)) refl
     where
       go : (i : Bool) → ltb n (x .«piece_count») ≡ i → (j k : Bool) → eqb (length m) (held x) ≡ k
-          → then (cond i (taken (hashPart n (x .pieces))) (refused 31 0)) (λ y. cond j (cond k (taken (same (sha1 m) (bytesOf s y))) (refused 34 0)) (refused 8 0)) ≡ taken b
+          → then (cond i (taken (hashPart n (x .pieces))) (refused 31 0)) (λ y. cond j (cond k (taken (same (sha1 m) (bytesAt s y))) (refused 34 0)) (refused 8 0)) ≡ taken b
           → (n < x .«piece_count») × (length m ≡ held x)
       go true f true true g e = (ltb-true n (x .«piece_count») f, eqb-true (length m) (held x) g)
       go true f true false g e = no-way (cc)
@@ -96,7 +97,7 @@ module _ (s : List ℕ) (n : ℕ) (m : List ℕ) where
     as-long : held x ≡ min (t .piece-length) (sum (lengthsIn (t .files)) - n * t .piece-length)
     as-long = ap (λ (k : ℕ). pieceBytes k (x .«piece_length») n) (w .files .total) ∙ ap (λ (k : ℕ). pieceBytes (sum (lengthsIn (t .files))) k n) (w .piece-length)
 
-    as-hashed : n < t .count → bytesOf s (hashPart n (x .pieces)) ≡ take 20 (drop (20 * n) (t .pieces))
+    as-hashed : n < t .count → bytesAt s (hashPart n (x .pieces)) ≡ take 20 (drop (20 * n) (t .pieces))
     as-hashed h = hash-bytes s x t n (w .pieces) (hashes-of v t i) h
 
   pub piece-tells : (v : Value) (t : Said) → Fine s v → IsTorrent v t → n < t .count → Long t → (Agrees t → checkOf s n m ≡ taken true) × ((Agrees t → ⊥) → checkOf s n m ≡ taken false)
@@ -129,7 +130,7 @@ module _ (s : List ℕ) (n : ℕ) (m : List ℕ) where
 
 -- the hash of a piece by its number
 pub piece-hashed : (s : List ℕ) (n : ℕ) (v : Value) (t : Said) → Fine s v → IsTorrent v t
-    → (n < t .count → (x : Part) × (hashOf s n ≡ taken x) × (bytesOf s x ≡ take 20 (drop (20 * n) (t .pieces)))) × (t .count ≤ n → hashOf s n ≡ refused 31 0)
+    → (n < t .count → (x : Part) × (hashOf s n ≡ taken x) × (bytesAt s x ≡ take 20 (drop (20 * n) (t .pieces)))) × (t .count ≤ n → hashOf s n ≡ refused 31 0)
 piece-hashed s n v t f i =
     let y = torrent-exact s .every v t f i in
     let x = y .0 in

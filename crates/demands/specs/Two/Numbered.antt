@@ -7,13 +7,14 @@ use native.Mathlib.Omega.{arith}
 use lib.ListN.{length, getD, take, drop, take-append-drop}
 use lib.Seq.{take-append-seam}
 use Rattle.refusal.specs.Paper.{Outcome, taken, refused, then}
+use Rattle.refusal.specs.Parts.{bytesAt}
 use Rattle.refusal.specs.declared.Part.{Part}
 use Rattle.refusal.proofs.Outcomes.{then-taken}
 use Rattle.bencode.specs.Value.{Value, Items}
 use Rattle.bencode.specs.Decode.{decode}
 use Rattle.blocks.specs.Rules.{sum}
 use Rattle.metainfo.specs.Keys.{filesKey}
-use Rattle.metainfo.specs.Reading.{bytesOf, readOf, fileAt}
+use Rattle.metainfo.specs.Reading.{readOf, fileAt}
 use Rattle.metainfo.specs.Rules.{torrentOf}
 use Rattle.metainfo.specs.declared.File.{File}
 use Rattle.metainfo.specs.declared.Torrent.{Torrent}
@@ -100,7 +101,7 @@ module _ (s : List ℕ) (n : ℕ) (x : Torrent) (e : readOf s ≡ taken x) where
   one-beyond one l = one-file one ∙ beyond s n (oneEntry x ∷ []) l
 
 -- the bytes of a part, by how many they are
-pub part-bytes : (s : List ℕ) (p : Part) (bs : List ℕ) → bytesOf s p ≡ bs → take (length bs) (drop (p .from) s) ≡ bs
+pub part-bytes : (s : List ℕ) (p : Part) (bs : List ℕ) → bytesAt s p ≡ bs → take (length bs) (drop (p .from) s) ≡ bs
 part-bytes s p bs e =
     let rest = drop (p .from) s in
     ap (λ (l : List ℕ). take (length l) rest) (sym e) ∙ ap (take (length (take (p .len) rest))) (sym (take-append-drop (p .len) rest)) ∙ take-append-seam (take (p .len) rest) (drop (p .len) rest) ∙ e
