@@ -3,7 +3,7 @@ ghost use mathlib.Core.Path.{_≡_};
 ghost use mathlib.Core.List.{[], _∷_};
 ghost use Prim.Native.Nat.{_/_, _%_};
 ghost use Rattle.refusal.specs.BigEndian.{bigEndian};
-ghost use Rattle.digest.specs.Words.{add32, ch, maj, parity};
+ghost use Rattle.digest.specs.Words.{add32, ch, maj, parity, rotl};
 
 // The sum modulo 2^32.
 pub fn add(x: u32, y: u32) -> u32
@@ -31,6 +31,27 @@ pub fn most(x: u32, y: u32, z: u32) -> u32
     ensures { λ r. ⌜ r ≡ maj x y z ⌝ }
 {
     (x & y) | (z & (x | y))
+}
+
+// The word turned to the left by 1.
+pub fn rotl1(x: u32) -> u32
+    ensures { λ r. ⌜ r ≡ rotl 1 x ⌝ }
+{
+    (x << 1) | (x >> 31)
+}
+
+// By 5.
+pub fn rotl5(x: u32) -> u32
+    ensures { λ r. ⌜ r ≡ rotl 5 x ⌝ }
+{
+    (x << 5) | (x >> 27)
+}
+
+// By 30.
+pub fn rotl30(x: u32) -> u32
+    ensures { λ r. ⌜ r ≡ rotl 30 x ⌝ }
+{
+    (x << 30) | (x >> 2)
 }
 
 // The word of four bytes, the most significant first.

@@ -12,10 +12,11 @@ use lib.Dec.{ltb}
 use borrow.Author.Tests.{lt-ltb, le-ltb}
 use Rattle.refusal.specs.BigEndian.{bigEndian}
 use Rattle.refusal.proofs.Places.{four-there}
-use Rattle.digest.specs.Words.{ch, parity, maj, word}
-use Rattle.sha1.specs.Sha1.{mixed, schedule, rounds, step, f, k}
-use Rattle.sha1.specs.Rounds.{Made, Done, roundOf}
+use Rattle.digest.specs.Words.{add32, rotl, ch, parity, maj, word}
+use Rattle.sha1.specs.Sha1.{mixed, schedule, rounds, step, plus, f, k}
+use Rattle.sha1.specs.Rounds.{Made, Done, Five, wordOf, roundOf}
 use Rattle.sha1.specs.declared.block.Hash.{Hash}
+use Rattle.sha1.specs.declared.block.Words.{Words}
 
 -- a store at t makes the first t words of the schedule the first t + 1
 pub grow : (b w : List ℕ) (t v : ℕ) → t < length w → take t w ≡ schedule b t → v ≡ cond (ltb t 16) (word b t) (mixed (schedule b t) t)
@@ -52,6 +53,10 @@ pub made-late : (b w : List ℕ) (t u v : ℕ) → 16 ≤ t → t < 80 → u ≡
 made-late b w t u v h h' e q d =
     (length-set w t v ∙ d .0, ap (λ (i : ℕ). take i (set w t v)) e ∙ grow b w t v (omega arith) (d .1) (late b w t v h (d .1) q) ∙ ap (schedule b) (sym e))
 
+-- the last of some words
+pub filled-to : (b w : List ℕ) (t n : ℕ) → t ≡ n → Made b t w → Made b n w
+filled-to b w t n e d = subst (λ (i : ℕ). Made b i w) e d
+
 -- ---- the words that the rounds read
 
 length-schedule : (b : List ℕ) (n : ℕ) → length (schedule b n) ≡ n
@@ -71,10 +76,21 @@ kept b n (suc j) i h =
     ∙ kept b n j i h
 
 -- a word that has been written is the whole schedule's
-there : (b w : List ℕ) (n i : ℕ) → Made b n w → i < n → n ≤ 80 → getD w i 0 ≡ getD (schedule b 80) i 0
+there : (b w : List ℕ) (n i : ℕ) → Made b n w → i < n → n ≤ 80 → getD w i 0 ≡ wordOf b i
 there b w n i d h p =
     let e : n + (80 - n) ≡ 80 = omega arith in
     seen b w n i (d .1) h ∙ sym (kept b n (80 - n) i h) ∙ ap (λ (m : ℕ). getD (schedule b m) i 0) e
+
+-- and so are five
+pub five-there : (b w : List ℕ) (n t : ℕ) → Made b n w → t + 5 ≤ n → n ≤ 80
+    → Five b t (record { a = getD w t 0; b = getD w (t + 1) 0; c = getD w (t + 2) 0; d = getD w (t + 3) 0; e = getD w (t + 4) 0 })
+five-there b w n t d h p = (
+  there b w n t d (omega arith) p,
+  there b w n (t + 1) d (omega arith) p,
+  there b w n (t + 2) d (omega arith) p,
+  there b w n (t + 3) d (omega arith) p,
+  there b w n (t + 4) d (omega arith) p,
+)
 
 -- ---- the rounds
 
@@ -86,27 +102,40 @@ pub none : (h : Hash) (b : List ℕ) → Done h b 0 h
 unfolding rounds
 none h b = refl
 
-module _ (h : Hash) (b w : List ℕ) (n : ℕ) (d : Made b n w) (p : n ≤ 80) where
-  -- one more round
-  next : (g r : Hash) (t u : ℕ) → Done h b t g → t < n → u ≡ t + 1 → r ≡ roundOf t g (getD w t 0) → Done h b u r
-  next g r t u e q v s =
-      let x : getD w t 0 ≡ getD (schedule b 80) t 0 = there b w n t d q p in
-      onward h g r (schedule b 80) t e (s ∙ ap (roundOf t g) x) ∙ ap (rounds h (schedule b 80)) (sym v)
+-- one more
+next : (h : Hash) (b : List ℕ) (g r : Hash) (t u v : ℕ) → u ≡ t + 1 → Done h b t g → v ≡ wordOf b t → r ≡ roundOf t g v → Done h b u r
+next h b g r t u v q d x s = onward h g r (schedule b 80) t d (s ∙ ap (roundOf t g) x) ∙ ap (rounds h (schedule b 80)) (sym q)
 
-  -- five more
-  pub five : (g r₁ r₂ r₃ r₄ r₅ : Hash) (t : ℕ) → Done h b t g → t + 5 ≤ n → r₁ ≡ roundOf t g (getD w t 0) → r₂ ≡ roundOf (t + 1) r₁ (getD w (t + 1) 0)
-      → r₃ ≡ roundOf (t + 2) r₂ (getD w (t + 2) 0) → r₄ ≡ roundOf (t + 3) r₃ (getD w (t + 3) 0) → r₅ ≡ roundOf (t + 4) r₄ (getD w (t + 4) 0)
-      → Done h b (t + 5) r₅
-  five g r₁ r₂ r₃ r₄ r₅ t e q e₁ e₂ e₃ e₄ e₅ =
-      let d₁ : Done h b (t + 1) r₁ = next g r₁ t (t + 1) e (omega arith) (omega arith) e₁ in
-      let d₂ : Done h b (t + 2) r₂ = next r₁ r₂ (t + 1) (t + 2) d₁ (omega arith) (omega arith) e₂ in
-      let d₃ : Done h b (t + 3) r₃ = next r₂ r₃ (t + 2) (t + 3) d₂ (omega arith) (omega arith) e₃ in
-      let d₄ : Done h b (t + 4) r₄ = next r₃ r₄ (t + 3) (t + 4) d₃ (omega arith) (omega arith) e₄ in
-      next r₄ r₅ (t + 4) (t + 5) d₄ (omega arith) (omega arith) e₅
+-- five more
+pub five : (h : Hash) (b : List ℕ) (t : ℕ) (w : Words) (g r₁ r₂ r₃ r₄ r₅ : Hash) → Done h b t g → Five b t w → r₁ ≡ roundOf t g (w .a) → r₂ ≡ roundOf (t + 1) r₁ (w .b)
+    → r₃ ≡ roundOf (t + 2) r₂ (w .c) → r₄ ≡ roundOf (t + 3) r₃ (w .d) → r₅ ≡ roundOf (t + 4) r₄ (w .e) → Done h b (t + 5) r₅
+five h b t w g r₁ r₂ r₃ r₄ r₅ d x e₁ e₂ e₃ e₄ e₅ =
+    let d₁ : Done h b (t + 1) r₁ = next h b g r₁ t (t + 1) (w .a) refl d (x .0) e₁ in
+    let d₂ : Done h b (t + 2) r₂ = next h b r₁ r₂ (t + 1) (t + 2) (w .b) (omega arith) d₁ (x .1) e₂ in
+    let d₃ : Done h b (t + 3) r₃ = next h b r₂ r₃ (t + 2) (t + 3) (w .c) (omega arith) d₂ (x .2) e₃ in
+    let d₄ : Done h b (t + 4) r₄ = next h b r₃ r₄ (t + 3) (t + 4) (w .d) (omega arith) d₃ (x .3) e₄ in
+    next h b r₄ r₅ (t + 4) (t + 5) (w .e) (omega arith) d₄ (x .4) e₅
 
--- the last of some words
-pub filled-to : (b w : List ℕ) (t n : ℕ) → t ≡ n → Made b t w → Made b n w
-filled-to b w t n e d = subst (λ (i : ℕ). Made b i w) e d
+-- ---- numbers that follow t
+
+-- the numbers of five from t on, one by one
+pub spans : (a n t : ℕ) → a ≤ t → t + 5 ≤ n
+    → ((a ≤ t) × (t < n)) × ((a ≤ t + 1) × (t + 1 < n)) × ((a ≤ t + 2) × (t + 2 < n)) × ((a ≤ t + 3) × (t + 3 < n)) × ((a ≤ t + 4) × (t + 4 < n))
+spans a n t p q = ((p, omega arith), (omega arith, omega arith), (omega arith, omega arith), (omega arith, omega arith), (omega arith, omega arith))
+
+-- each is one more than the one before
+pub up : (t i : ℕ) → t + (i + 1) ≡ t + i + 1
+up t i = omega arith
+
+-- ---- the operations of one round and of the sum, joined
+
+pub stepped : (h : Hash) (f k w : ℕ) {x₀ x₁ x₂ x₃ x₄ y : ℕ} → x₀ ≡ rotl 5 (h .a) → x₁ ≡ add32 x₀ f → x₂ ≡ add32 x₁ (h .e) → x₃ ≡ add32 x₂ k → x₄ ≡ add32 x₃ w → y ≡ rotl 30 (h .b)
+    → _≡_ {A = Hash} (record { a = x₄; b = h .a; c = y; d = h .c; e = h .d }) (step h f k w)
+stepped h f k w p₀ p₁ p₂ p₃ p₄ q = rw (p₄, p₃, p₂, p₁, p₀, q)
+
+pub summed : (g h : Hash) {a b c d e : ℕ} → a ≡ add32 (g .a) (h .a) → b ≡ add32 (g .b) (h .b) → c ≡ add32 (g .c) (h .c) → d ≡ add32 (g .d) (h .d) → e ≡ add32 (g .e) (h .e)
+    → _≡_ {A = Hash} (record { a = a; b = b; c = c; d = d; e = e }) (plus g h)
+summed g h p q r s t = rw (p, q, r, s, t)
 
 -- the function and the constant of a round, by its number
 module _ (g r : Hash) (t u : ℕ) {v : ℕ} where

@@ -4,7 +4,8 @@ use mathlib.Core.List.{List, [], _∷_}
 use Prim.Native.Nat.{ℕ}
 use lib.Dec.{leb, eqb}
 use lib.ListN.{length}
-use Rattle.refusal.specs.Paper.{Outcome, taken, refused, refusal}
+use Rattle.refusal.specs.Paper.{Outcome, taken, refused, refusal, Left as Leaves}
+pub use Rattle.refusal.specs.Paper.{left}
 use Rattle.refusal.specs.Numbers.{long}
 use Rattle.refusal.specs.Limits.{longestPiece}
 use Rattle.sha1.specs.Sha1.{sha1}
@@ -23,13 +24,9 @@ agreementPaper Same = taken true
 agreementPaper Other = taken false
 agreementPaper (Unhashed r) = refusal r
 
--- what a call leaves: its answer, and what the lent 20 bytes hold then
-pub record Left : Type 0 where
-  pub answer : Outcome (Unit {0})
-  pub out : List ℕ
-
-abbrev pub left : Outcome (Unit {0}) → List ℕ → Left
-left a o = record { answer = a; out = o }
+-- what a call leaves: that answer, and what the lent 20 bytes hold then
+abbrev pub Left : Type 0
+Left = Leaves (Unit {0})
 
 -- the digest of m written over o; of more than 16,777,216 bytes none: 8 at 0, and o as it was
 unfoldable pub digestOf : List ℕ → List ℕ → Left

@@ -3,11 +3,10 @@ ghost use mathlib.Core.Path.{_≡_};
 ghost use Prim.Native.Nat.{ℕ, _+_, _<_, _≤_};
 ghost use mathlib.Core.List.{List};
 ghost use lib.ListN.{length};
-ghost use Rattle.digest.specs.Words.{rotl};
 ghost use Rattle.digest.specs.Message.{hashed};
 ghost use Rattle.sha1.specs.declared.block.Hash.{Hash};
 ghost use Rattle.sha1.specs.Sha1.{step, plus, mixed, compress, output};
-ghost use Rattle.sha1.specs.Rounds.{Made, Done, roundOf};
+ghost use Rattle.sha1.specs.Rounds.{Made, Done, Five, roundOf};
 use digest::word::add;
 use digest::word::byte0;
 use digest::word::byte1;
@@ -17,6 +16,9 @@ use digest::word::choose;
 use digest::word::joined;
 use digest::word::most;
 use digest::word::odd;
+use digest::word::rotl1;
+use digest::word::rotl5;
+use digest::word::rotl30;
 
 // A hash value, and the working variables of the rounds.
 pub struct Hash {
@@ -25,6 +27,15 @@ pub struct Hash {
     pub c: u32,
     pub d: u32,
     pub e: u32,
+}
+
+// Five words of the schedule, one after the other.
+struct Words {
+    a: u32,
+    b: u32,
+    c: u32,
+    d: u32,
+    e: u32,
 }
 
 // The hash value after the whole blocks of a message.
@@ -109,7 +120,7 @@ fn words_to_20(w: &mut [u32])
 {
     let mut t = 16;
     while t < 20 {
-        w[t] = mixed(w, t);
+        next_word(w, t);
         t += 1;
     }
 }
@@ -120,13 +131,13 @@ fn rounds_to_20(before: Hash, w: &mut [u32]) -> Hash
     ensures { λ r. ⌜ ((h : Hash) (b : List ℕ) → Done h b 0 before → Made b 20 (now (w .entry)) → Done h b 20 r × Made b 40 (now (w .exit))) ⌝ }
 {
     five_words(w, 20);
-    let one = five_first(before, w, 0);
+    let one = first_at(before, w, 0);
     five_words(w, 25);
-    let two = five_first(one, w, 5);
+    let two = first_at(one, w, 5);
     five_words(w, 30);
-    let three = five_first(two, w, 10);
+    let three = first_at(two, w, 10);
     five_words(w, 35);
-    five_first(three, w, 15)
+    first_at(three, w, 15)
 }
 
 fn rounds_to_40(before: Hash, w: &mut [u32]) -> Hash
@@ -134,13 +145,13 @@ fn rounds_to_40(before: Hash, w: &mut [u32]) -> Hash
     ensures { λ r. ⌜ ((h : Hash) (b : List ℕ) → Done h b 20 before → Made b 40 (now (w .entry)) → Done h b 40 r × Made b 60 (now (w .exit))) ⌝ }
 {
     five_words(w, 40);
-    let one = five_second(before, w, 20);
+    let one = second_at(before, w, 20);
     five_words(w, 45);
-    let two = five_second(one, w, 25);
+    let two = second_at(one, w, 25);
     five_words(w, 50);
-    let three = five_second(two, w, 30);
+    let three = second_at(two, w, 30);
     five_words(w, 55);
-    five_second(three, w, 35)
+    second_at(three, w, 35)
 }
 
 fn rounds_to_60(before: Hash, w: &mut [u32]) -> Hash
@@ -148,23 +159,52 @@ fn rounds_to_60(before: Hash, w: &mut [u32]) -> Hash
     ensures { λ r. ⌜ ((h : Hash) (b : List ℕ) → Done h b 40 before → Made b 60 (now (w .entry)) → Done h b 60 r × Made b 80 (now (w .exit))) ⌝ }
 {
     five_words(w, 60);
-    let one = five_third(before, w, 40);
+    let one = third_at(before, w, 40);
     five_words(w, 65);
-    let two = five_third(one, w, 45);
+    let two = third_at(one, w, 45);
     five_words(w, 70);
-    let three = five_third(two, w, 50);
+    let three = third_at(two, w, 50);
     five_words(w, 75);
-    five_third(three, w, 55)
+    third_at(three, w, 55)
 }
 
 fn rounds_to_80(before: Hash, w: &[u32]) -> Hash
     requires { ⌜ length (now w) ≡ 80 ⌝ }
     ensures { λ r. ⌜ ((h : Hash) (b : List ℕ) → Done h b 60 before → Made b 80 (now (w .entry)) → Done h b 80 r) ⌝ }
 {
-    let one = five_last(before, w, 60);
-    let two = five_last(one, w, 65);
-    let three = five_last(two, w, 70);
-    five_last(three, w, 75)
+    let one = last_at(before, w, 60);
+    let two = last_at(one, w, 65);
+    let three = last_at(two, w, 70);
+    last_at(three, w, 75)
+}
+
+// Five rounds from t on.
+fn first_at(g: Hash, w: &[u32], t: usize) -> Hash
+    requires { ⌜ (t + 5 ≤ 20) × (length (now w) ≡ 80) ⌝ }
+    ensures { λ r. ⌜ ((h : Hash) (b : List ℕ) (n : ℕ) → Done h b t g → Made b n (now (w .entry)) → t + 5 ≤ n → n ≤ 80 → Done h b (t + 5) r) ⌝ }
+{
+    five_first(g, words_at(w, t))
+}
+
+fn second_at(g: Hash, w: &[u32], t: usize) -> Hash
+    requires { ⌜ (20 ≤ t) × (t + 5 ≤ 40) × (length (now w) ≡ 80) ⌝ }
+    ensures { λ r. ⌜ ((h : Hash) (b : List ℕ) (n : ℕ) → Done h b t g → Made b n (now (w .entry)) → t + 5 ≤ n → n ≤ 80 → Done h b (t + 5) r) ⌝ }
+{
+    five_second(g, words_at(w, t))
+}
+
+fn third_at(g: Hash, w: &[u32], t: usize) -> Hash
+    requires { ⌜ (40 ≤ t) × (t + 5 ≤ 60) × (length (now w) ≡ 80) ⌝ }
+    ensures { λ r. ⌜ ((h : Hash) (b : List ℕ) (n : ℕ) → Done h b t g → Made b n (now (w .entry)) → t + 5 ≤ n → n ≤ 80 → Done h b (t + 5) r) ⌝ }
+{
+    five_third(g, words_at(w, t))
+}
+
+fn last_at(g: Hash, w: &[u32], t: usize) -> Hash
+    requires { ⌜ (60 ≤ t) × (t + 5 ≤ 80) × (length (now w) ≡ 80) ⌝ }
+    ensures { λ r. ⌜ ((h : Hash) (b : List ℕ) (n : ℕ) → Done h b t g → Made b n (now (w .entry)) → t + 5 ≤ n → n ≤ 80 → Done h b (t + 5) r) ⌝ }
+{
+    five_last(g, words_at(w, t))
 }
 
 // Step 1, five words from t on.
@@ -172,56 +212,73 @@ fn five_words(w: &mut [u32], t: usize)
     requires { ⌜ (16 ≤ t) × (t + 5 ≤ 80) × (length (now w) ≡ 80) ⌝ }
     ensures { λ _. ⌜ (length (now (w .exit)) ≡ 80) × ((b : List ℕ) → Made b t (now (w .entry)) → Made b (t + 5) (now (w .exit))) ⌝ }
 {
+    next_word(w, t);
+    next_word(w, t + 1);
+    next_word(w, t + 2);
+    next_word(w, t + 3);
+    next_word(w, t + 4);
+}
+
+fn next_word(w: &mut [u32], t: usize)
+    requires { ⌜ (16 ≤ t) × (t < 80) × (length (now w) ≡ 80) ⌝ }
+    ensures { λ _. ⌜ (length (now (w .exit)) ≡ 80) × ((b : List ℕ) (n : ℕ) → n ≡ t + 1 → Made b t (now (w .entry)) → Made b n (now (w .exit))) ⌝ }
+{
     w[t] = mixed(w, t);
-    w[t + 1] = mixed(w, t + 1);
-    w[t + 2] = mixed(w, t + 2);
-    w[t + 3] = mixed(w, t + 3);
-    w[t + 4] = mixed(w, t + 4);
 }
 
-// Step 3, five rounds from t on: after five each value stands where it stood, so that none is moved.
-fn five_first(g: Hash, w: &[u32], t: usize) -> Hash
-    requires { ⌜ (t + 5 ≤ 20) × (length (now w) ≡ 80) ⌝ }
-    ensures { λ r. ⌜ ((h : Hash) (b : List ℕ) (n : ℕ) → Done h b t g → Made b n (now (w .entry)) → t + 5 ≤ n → n ≤ 80 → Done h b (t + 5) r) ⌝ }
+// The five words from t on.
+fn words_at(w: &[u32], t: usize) -> Words
+    requires { ⌜ (t + 5 ≤ 80) × (length (now w) ≡ 80) ⌝ }
+    ensures { λ r. ⌜ ((b : List ℕ) (n : ℕ) → Made b n (now (w .entry)) → t + 5 ≤ n → n ≤ 80 → Five b t r) ⌝ }
 {
-    let one = first(g, w[t]);
-    let two = first(one, w[t + 1]);
-    let three = first(two, w[t + 2]);
-    let four = first(three, w[t + 3]);
-    first(four, w[t + 4])
+    Words {
+        a: w[t],
+        b: w[t + 1],
+        c: w[t + 2],
+        d: w[t + 3],
+        e: w[t + 4],
+    }
 }
 
-fn five_second(g: Hash, w: &[u32], t: usize) -> Hash
-    requires { ⌜ (20 ≤ t) × (t + 5 ≤ 40) × (length (now w) ≡ 80) ⌝ }
-    ensures { λ r. ⌜ ((h : Hash) (b : List ℕ) (n : ℕ) → Done h b t g → Made b n (now (w .entry)) → t + 5 ≤ n → n ≤ 80 → Done h b (t + 5) r) ⌝ }
+// Step 3, five rounds: after five each value stands where it stood, so that none is moved.
+fn five_first(g: Hash, w: Words) -> Hash
+    ensures { λ r. ⌜ ((h : Hash) (b : List ℕ) (t : ℕ) → t + 5 ≤ 20 → Done h b t g → Five b t w → Done h b (t + 5) r) ⌝ }
 {
-    let one = second(g, w[t]);
-    let two = second(one, w[t + 1]);
-    let three = second(two, w[t + 2]);
-    let four = second(three, w[t + 3]);
-    second(four, w[t + 4])
+    let one = first(g, w.a);
+    let two = first(one, w.b);
+    let three = first(two, w.c);
+    let four = first(three, w.d);
+    first(four, w.e)
 }
 
-fn five_third(g: Hash, w: &[u32], t: usize) -> Hash
-    requires { ⌜ (40 ≤ t) × (t + 5 ≤ 60) × (length (now w) ≡ 80) ⌝ }
-    ensures { λ r. ⌜ ((h : Hash) (b : List ℕ) (n : ℕ) → Done h b t g → Made b n (now (w .entry)) → t + 5 ≤ n → n ≤ 80 → Done h b (t + 5) r) ⌝ }
+fn five_second(g: Hash, w: Words) -> Hash
+    ensures { λ r. ⌜ ((h : Hash) (b : List ℕ) (t : ℕ) → 20 ≤ t → t + 5 ≤ 40 → Done h b t g → Five b t w → Done h b (t + 5) r) ⌝ }
 {
-    let one = third(g, w[t]);
-    let two = third(one, w[t + 1]);
-    let three = third(two, w[t + 2]);
-    let four = third(three, w[t + 3]);
-    third(four, w[t + 4])
+    let one = second(g, w.a);
+    let two = second(one, w.b);
+    let three = second(two, w.c);
+    let four = second(three, w.d);
+    second(four, w.e)
 }
 
-fn five_last(g: Hash, w: &[u32], t: usize) -> Hash
-    requires { ⌜ (60 ≤ t) × (t + 5 ≤ 80) × (length (now w) ≡ 80) ⌝ }
-    ensures { λ r. ⌜ ((h : Hash) (b : List ℕ) (n : ℕ) → Done h b t g → Made b n (now (w .entry)) → t + 5 ≤ n → n ≤ 80 → Done h b (t + 5) r) ⌝ }
+fn five_third(g: Hash, w: Words) -> Hash
+    ensures { λ r. ⌜ ((h : Hash) (b : List ℕ) (t : ℕ) → 40 ≤ t → t + 5 ≤ 60 → Done h b t g → Five b t w → Done h b (t + 5) r) ⌝ }
 {
-    let one = last(g, w[t]);
-    let two = last(one, w[t + 1]);
-    let three = last(two, w[t + 2]);
-    let four = last(three, w[t + 3]);
-    last(four, w[t + 4])
+    let one = third(g, w.a);
+    let two = third(one, w.b);
+    let three = third(two, w.c);
+    let four = third(three, w.d);
+    third(four, w.e)
+}
+
+fn five_last(g: Hash, w: Words) -> Hash
+    ensures { λ r. ⌜ ((h : Hash) (b : List ℕ) (t : ℕ) → 60 ≤ t → t + 5 ≤ 80 → Done h b t g → Five b t w → Done h b (t + 5) r) ⌝ }
+{
+    let one = last(g, w.a);
+    let two = last(one, w.b);
+    let three = last(two, w.c);
+    let four = last(three, w.d);
+    last(four, w.e)
 }
 
 fn first(g: Hash, w: u32) -> Hash
@@ -278,22 +335,4 @@ fn sum(g: Hash, h: Hash) -> Hash
         d: add(g.d, h.d),
         e: add(g.e, h.e),
     }
-}
-
-fn rotl1(x: u32) -> u32
-    ensures { λ r. ⌜ r ≡ rotl 1 x ⌝ }
-{
-    (x << 1) | (x >> 31)
-}
-
-fn rotl5(x: u32) -> u32
-    ensures { λ r. ⌜ r ≡ rotl 5 x ⌝ }
-{
-    (x << 5) | (x >> 27)
-}
-
-fn rotl30(x: u32) -> u32
-    ensures { λ r. ⌜ r ≡ rotl 30 x ⌝ }
-{
-    (x << 30) | (x >> 2)
 }

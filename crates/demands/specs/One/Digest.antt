@@ -5,7 +5,7 @@ use Prim.Native.Nat.{ℕ, _%_, _/_}
 use lib.ListN.{length, take}
 use Rattle.refusal.specs.BigEndian.{bigEndian}
 use Rattle.digest.specs.Message.{filled, padding}
-use Rattle.digest.specs.Words.{add32, ch, parity, maj}
+use Rattle.digest.specs.Words.{add32, ch, parity, maj, rotl}
 use Rattle.demands.specs.One.{Lent, now, Determined}
 
 -- digest::message::gathered
@@ -49,6 +49,27 @@ most-ensures x y z r = r ≡ maj x y z
 
 pub most-determined : (x y z : ℕ) → Determined (most-ensures x y z)
 most-determined x y z r r′ e f = e ∙ sym f
+
+-- digest::word::rotl1
+abbrev rotl1-ensures : (x : ℕ) → ℕ → Type 0
+rotl1-ensures x r = r ≡ rotl 1 x
+
+pub rotl1-determined : (x : ℕ) → Determined (rotl1-ensures x)
+rotl1-determined x r r′ e f = e ∙ sym f
+
+-- digest::word::rotl5
+abbrev rotl5-ensures : (x : ℕ) → ℕ → Type 0
+rotl5-ensures x r = r ≡ rotl 5 x
+
+pub rotl5-determined : (x : ℕ) → Determined (rotl5-ensures x)
+rotl5-determined x r r′ e f = e ∙ sym f
+
+-- digest::word::rotl30
+abbrev rotl30-ensures : (x : ℕ) → ℕ → Type 0
+rotl30-ensures x r = r ≡ rotl 30 x
+
+pub rotl30-determined : (x : ℕ) → Determined (rotl30-ensures x)
+rotl30-determined x r r′ e f = e ∙ sym f
 
 -- digest::word::joined
 abbrev joined-ensures : (a b c d : ℕ) → ℕ → Type 0

@@ -1,5 +1,6 @@
 -- `round` meets its contract: what the operations ensure, joined. Assumes nothing.
 use borrow.Author.Needs.{needs}
+use Rattle.sha1.proofs.Rounds.{stepped}
 use Rattle.sha1.proofs.block.round.Statement.{statement}
 use Rattle.sha1.proofs.block.round.Tie as tie
 
@@ -22,7 +23,7 @@ rotl30-requires : tie.Need-rotl30-requires
 rotl30-requires c κs = search needs
 
 returns : tie.Need-returns
-returns c = cc
+returns c = stepped (c .before .before .before .before .before .before .args .h) (c .before .before .before .before .before .before .args .f) (c .before .before .before .before .before .before .args .k) (c .before .before .before .before .before .before .args .w) (c .before .before .before .before .before .rotl5 .ensures) (c .before .before .before .before .add .ensures) (c .before .before .before .add2 .ensures) (c .before .before .add3 .ensures) (c .before .add4 .ensures) (c .rotl30 .ensures)
 
 pub round-spec : {M : Type 1} → statement M
 round-spec =

@@ -1,5 +1,6 @@
 -- `sum` meets its contract: what the five additions ensure, joined. Assumes nothing.
 use borrow.Author.Needs.{needs}
+use Rattle.sha1.proofs.Rounds.{summed}
 use Rattle.sha1.proofs.block.sum.Statement.{statement}
 use Rattle.sha1.proofs.block.sum.Tie as tie
 
@@ -19,9 +20,15 @@ add-requires-5 : tie.Need-add-requires-5
 add-requires-5 c κs = search needs
 
 returns : tie.Need-returns
-returns c = cc
+returns c = summed (c .before .before .before .before .before .args .g) (c .before .before .before .before .before .args .h) (c .before .before .before .before .add .ensures) (c .before .before .before .add2 .ensures) (c .before .before .add3 .ensures) (c .before .add4 .ensures) (c .add5 .ensures)
 
 pub sum-spec : {M : Type 1} → statement M
 sum-spec =
     tie.close
-    (tie.spec add-requires add-requires-2 add-requires-3 add-requires-4 add-requires-5 returns)
+    (tie.spec
+    add-requires
+    add-requires-2
+    add-requires-3
+    add-requires-4
+    add-requires-5
+    returns)

@@ -4,9 +4,9 @@ use mathlib.Core.List.{List}
 use Prim.Native.Nat.{ℕ, _+_, _-_, _≤_}
 use native.Mathlib.Omega.{arith}
 use borrow.Author.Needs.{needs}
-use lib.ListN.{length, length-set}
+use lib.ListN.{length}
 use Rattle.sha1.specs.Rounds.{Made}
-use Rattle.sha1.proofs.Rounds.{made-late, filled-to}
+use Rattle.sha1.proofs.Rounds.{filled-to}
 use Rattle.sha1.proofs.block.words_to_20.Statement.{statement}
 use Rattle.sha1.proofs.block.words_to_20.Tie as tie
 
@@ -19,14 +19,8 @@ abbrev μ-loop : tie.MeasureT-loop
 loop-holds : tie.Need-loop-holds Inv-loop μ-loop
 loop-holds c = (omega arith, omega arith, omega arith, λ b d. d)
 
-mixed-requires : tie.Need-mixed-requires Inv-loop μ-loop
-mixed-requires c κs = search needs
-
-mul-w : tie.Need-mul-w Inv-loop μ-loop
-mul-w c = omega arith
-
-slice-write-w : tie.Need-slice-write-w Inv-loop μ-loop
-slice-write-w c = omega arith
+next-word-requires : tie.Need-next-word-requires Inv-loop μ-loop
+next-word-requires c κs = search needs
 
 add-t : tie.Need-add-t Inv-loop μ-loop
 add-t c = omega arith
@@ -36,8 +30,9 @@ loop-less c = omega arith
 
 loop-again : tie.Need-loop-again Inv-loop μ-loop
 loop-again c =
-    let l = c .before .before .before .loop in
-    (omega arith, omega arith, simp length-set (omega arith), λ b d. made-late b (l .w) (l .t) (l .t + 1) (c .mixed .result) (omega arith) (omega arith) refl (c .mixed .ensures) (l .inv .3 b d))
+    let l = c .before .before .before .before .before .loop in
+    let e = c .before .before .next-word .ensures in
+    (omega arith, omega arith, e .0, λ b d. e .1 b (l .t + 1) refl (l .inv .3 b d))
 
 same-length : tie.Need-same-length Inv-loop μ-loop
 same-length c = search needs
@@ -54,9 +49,7 @@ words-to-20-spec =
     Inv-loop
     μ-loop
     loop-holds
-    mixed-requires
-    mul-w
-    slice-write-w
+    next-word-requires
     add-t
     loop-less
     loop-again
