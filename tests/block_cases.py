@@ -7,7 +7,7 @@ It has the cases of that crate in a table of its own, and shares no code with it
 
 import sys
 from bisect import bisect_right
-from itertools import accumulate
+from itertools import accumulate, groupby
 
 from cases import answered, blocks, refuse_unless
 
@@ -43,9 +43,9 @@ def size_of(lengths, piece_length, piece):
 
 
 def listed(lengths):
-    if len(lengths) > 8:
-        return "%d..%dx%d" % (lengths[0], lengths[-1], len(lengths))
-    return ",".join(map(str, lengths)) or "-"
+    """Lengths with commas between them; more than eight times the same is 1023*0, and none is 0*0."""
+    runs = [(len(list(run)), length) for length, run in groupby(lengths)] or [(0, 0)]
+    return ",".join(f"{count}*{length}" if count > 8 or count == 0 else ",".join([str(length)] * count) for count, length in runs)
 
 
 def show(name, call, lengths, piece_length, *numbers):
