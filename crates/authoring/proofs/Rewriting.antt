@@ -24,7 +24,7 @@ use Rattle.metainfo.specs.Reading.{readOf}
 use Rattle.metainfo.specs.declared.Content.{Content}
 use Rattle.metainfo.specs.declared.Torrent.{Torrent}
 use Rattle.metainfo.proofs.Exact.{torrent-exact}
-use Rattle.authoring.specs.Writing.{Fields, fields, topWith, infoWith, valueOf, textOf, puts, writeOf}
+use Rattle.authoring.specs.Writing.{Fields, fields, topWith, infoWith, torrentValue, textOf, puts, writeOf}
 use Rattle.authoring.specs.Rules.{Ruled}
 use Rattle.authoring.specs.Reading.{fieldsOf, OnlyThose, only}
 use Rattle.authoring.proofs.Ruling.{announcePlace, infoPlace, lengthPlace, namePlace, piecePlace, piecesPlace, infoPart, reading}
@@ -63,7 +63,7 @@ module _ {B : Type 0} (t : B) (p : ℕ) where
 
 -- ---- a torrent with only those keys has fields
 
-same-value : (a l n pl ps : Value) {A N S : List ℕ} {p m : ℕ} → a ≡ str A → n ≡ str N → pl ≡ int (pos p) → ps ≡ str S → l ≡ int (pos m) → topWith a (infoWith l n pl ps) ≡ valueOf (fields A N p S m)
+same-value : (a l n pl ps : Value) {A N S : List ℕ} {p m : ℕ} → a ≡ str A → n ≡ str N → pl ≡ int (pos p) → ps ≡ str S → l ≡ int (pos m) → topWith a (infoWith l n pl ps) ≡ torrentValue (fields A N p S m)
 same-value a l n pl ps e₁ e₂ e₃ e₄ e₅ = rw (e₁, e₂, e₃, e₄, e₅)
 
 module _ (a l n pl ps : Value) (t : Torrent) where
@@ -116,7 +116,7 @@ module _ (a l n pl ps : Value) (t : Torrent) where
       let r = number-only t (lengthPlace a) longestFile l (λ i. k₅ x y m z (oneFile (lengthPlace a) i)) (sym (map-then (naturalAt longestFile (lengthPlace a) l) (oneFile (lengthPlace a)) (k₅ x y m z)) ∙ e) in
       (r .0, r .1)
 
-  pub has-fields : torrentOf (topWith a (infoWith l n pl ps)) ≡ taken t → (f : Fields) × (topWith a (infoWith l n pl ps) ≡ valueOf f)
+  pub has-fields : torrentOf (topWith a (infoWith l n pl ps)) ≡ taken t → (f : Fields) × (topWith a (infoWith l n pl ps) ≡ torrentValue f)
   has-fields e =
       let r₁ = string-only t announcePlace a k₁ (sym in-steps ∙ e) in
       let r₂ = after-announce _ (r₁ .2) in
@@ -144,7 +144,7 @@ rewrite s v h k t e = go v k h (torrent-is (torrent-exact s .only t e))
         let c : v ≡ x .0 = cc in
         ap torrentOf c ∙ x .2
 
-    again : (f : Fields) → Fine s (valueOf f) → torrentOf (valueOf f) ≡ taken t → Again t
+    again : (f : Fields) → Fine s (torrentValue f) → torrentOf (torrentValue f) ≡ taken t → Again t
     again f b c =
         let r = taken-told f t c in
         let g = told-gives f s b in

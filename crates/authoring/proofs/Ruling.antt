@@ -19,7 +19,7 @@ use Rattle.blocks.specs.Rules.{pieceLength, fileLength, totalAnd}
 use Rattle.metainfo.specs.Keys.{announceKey, infoKey, lengthKey, nameKey, pieceLengthKey, piecesKey}
 use Rattle.metainfo.specs.Rules.{goodName, nameAt, pieceLengthAt, contentOf, oneFile, sizedOf, infoOf, topOf, torrentOf}
 use Rattle.metainfo.specs.declared.Torrent.{Torrent}
-use Rattle.authoring.specs.Writing.{Fields, topWith, infoWith, valueOf, textOf, atStart, sizeOf}
+use Rattle.authoring.specs.Writing.{Fields, topWith, infoWith, torrentValue, textOf, atStart, sizeOf}
 use Rattle.authoring.specs.Rules.{pieceCount, ruled, Ruled, Broken, bad-name, bad-piece, bad-file, bad-total, bad-pieces}
 
 -- ---- where the values stand
@@ -93,7 +93,7 @@ module _ (f : Fields) where
     broken : (n p : ℕ) → Broken f n → Judged (refused n p)
 
   abbrev Is : Outcome Torrent → Type 0
-  Is o = torrentOf (valueOf f) ≡ o
+  Is o = torrentOf (torrentValue f) ≡ o
 
   wrong-name : goodName (f .name) ≡ false → Is (refused 13 (namePlace A L))
   wrong-name h = reading A L N P S ∙ rw h
@@ -130,11 +130,11 @@ module _ (f : Fields) where
   pub kept-told : Ruled f → Is (taken told)
   kept-told h = right (h .name) (h .piece) (h .file) (h .total) (h .hashes)
 
-  pub judged : Judged (torrentOf (valueOf f))
+  pub judged : Judged (torrentOf (torrentValue f))
   judged = go (goodName (f .name)) refl (pieceLength (f .pieceLength)) refl (fileLength (f .length)) refl (totalAnd (f .length) (pieceCount f)) refl (eqb (length (f .pieces)) (20 * pieceCount f)) refl
     where
       go : (a : Bool) → goodName (f .name) ≡ a → (b : Bool) → pieceLength (f .pieceLength) ≡ b → (c : Bool) → fileLength (f .length) ≡ c
-          → (d : Bool) → totalAnd (f .length) (pieceCount f) ≡ d → (e : Bool) → eqb (length (f .pieces)) (20 * pieceCount f) ≡ e → Judged (torrentOf (valueOf f))
+          → (d : Bool) → totalAnd (f .length) (pieceCount f) ≡ d → (e : Bool) → eqb (length (f .pieces)) (20 * pieceCount f) ≡ e → Judged (torrentOf (torrentValue f))
       go false h₁ b h₂ c h₃ d h₄ e h₅ = rw (wrong-name h₁) (broken 13 (namePlace A L) (bad-name h₁))
       go true h₁ false h₂ c h₃ d h₄ e h₅ = rw (wrong-piece h₁ h₂) (broken 11 (piecePlace A L N) (bad-piece h₁ h₂))
       go true h₁ true h₂ false h₃ d h₄ e h₅ = rw (wrong-file h₁ h₂ h₃) (broken 11 (lengthPlace A) (bad-file h₁ h₂ h₃))
@@ -157,8 +157,8 @@ module _ (f : Fields) where
     ruled-kept h = rw (h .name, h .piece, h .file, h .total, h .hashes)
 
   -- the reader's rules on the torrent to be written, every place 0, are those rules
-  pub rules-are : atStart (torrentOf (valueOf f)) ≡ ruled f (taken told)
-  rules-are = go (torrentOf (valueOf f)) judged
+  pub rules-are : atStart (torrentOf (torrentValue f)) ≡ ruled f (taken told)
+  rules-are = go (torrentOf (torrentValue f)) judged
     where
       go : (o : Outcome Torrent) → Judged o → atStart o ≡ ruled f (taken told)
       go o (kept h) = sym (ruled-kept (taken told) h)
@@ -170,7 +170,7 @@ module _ (f : Fields) where
 
   pub size-ruled : sizeOf f ≡ ruled f limited
   unfolding sizeOf
-  size-ruled = go (torrentOf (valueOf f)) judged
+  size-ruled = go (torrentOf (torrentValue f)) judged
     where
       go : (o : Outcome Torrent) → Judged o → then (atStart o) (λ t. limited) ≡ ruled f limited
       go o (kept h) = sym (ruled-kept limited h)

@@ -18,7 +18,7 @@ use Rattle.writer.proofs.Laws.{put-none, put-done}
 use Rattle.metainfo.specs.Rules.{torrentOf}
 use Rattle.metainfo.specs.declared.Torrent.{Torrent}
 use Rattle.metainfo.proofs.Sizing.{few-pieces}
-use Rattle.authoring.specs.Writing.{Fields, valueOf, textOf, atStart, sizeOf, puts, writeOf, paper}
+use Rattle.authoring.specs.Writing.{Fields, torrentValue, textOf, atStart, sizeOf, puts, writeOf, paper}
 use Rattle.authoring.specs.Rules.{pieceCount, Ruled, Broken}
 use Rattle.authoring.specs.declared.Sized.{Sized}
 use Rattle.authoring.specs.declared.Sized.the-variants as sized
@@ -72,7 +72,7 @@ module _ (f : Fields) where
 
   pub size-cases : SizeCase (sizeOf f)
   unfolding sizeOf
-  size-cases = go (torrentOf (valueOf f)) (judged f)
+  size-cases = go (torrentOf (torrentValue f)) (judged f)
     where
       by : Ruled f → (b : Bool) → ltb 1048576 (length (textOf f)) ≡ b → SizeCase (cond b (refused 8 0) (taken (length (textOf f))))
       by h true e = size-over h (ltb-true 1048576 (length (textOf f)) e)

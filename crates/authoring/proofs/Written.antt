@@ -28,7 +28,7 @@ use Rattle.metainfo.specs.Rules.{torrentOf}
 use Rattle.metainfo.specs.Reading.{readOf}
 use Rattle.metainfo.specs.declared.Torrent.{Torrent}
 use Rattle.metainfo.proofs.Exact.{torrent-exact}
-use Rattle.authoring.specs.Writing.{Fields, infoWith, valueOf, textOf, sizeOf, puts, writeOf, paper}
+use Rattle.authoring.specs.Writing.{Fields, infoWith, torrentValue, textOf, sizeOf, puts, writeOf, paper}
 use Rattle.authoring.specs.Rules.{Ruled, NotWritten, broken, too-long, no-room}
 use Rattle.authoring.specs.Reading.{Gives, ReadsBack}
 use Rattle.authoring.specs.declared.Sized.{Sized}
@@ -44,7 +44,7 @@ unfolding keyLt
 ascending = (refl, refl, refl, refl)
 
 module _ (f : Fields) where
-  pub text-fine : Ruled f → length (textOf f) ≤ 1048576 → Fine (textOf f) (valueOf f)
+  pub text-fine : Ruled f → length (textOf f) ≤ 1048576 → Fine (textOf f) (torrentValue f)
   unfolding Keeps count
   text-fine h l =
       let b = piece-bounds (f .pieceLength) (piece-length-is (f .pieceLength) (h .piece)) in
@@ -59,7 +59,7 @@ module _ (f : Fields) where
 
   -- ---- and has the fields
 
-  module _ (s : List ℕ) (h : Fine s (valueOf f)) where
+  module _ (s : List ℕ) (h : Fine s (torrentValue f)) where
     abbrev A : Value
     A = str (f .announce)
 
@@ -77,7 +77,7 @@ module _ (f : Fields) where
 
     pub told-gives : Gives s (told f) f
     told-gives =
-        let top = dictionary-stands s 32 0 (entry announceKey A (entry infoKey (infoWith L N P S) empty)) (fine-stands s (valueOf f) h) .1 in
+        let top = dictionary-stands s 32 0 (entry announceKey A (entry infoKey (infoWith L N P S) empty)) (fine-stands s (torrentValue f) h) .1 in
         let d = top .0 in
         let x₁ = entries-next s d 1 start announceKey A (entry infoKey (infoWith L N P S) empty) (top .2) in
         let x₂ = entries-next s d (announcePlace + length (encode A)) (last announceKey) infoKey (infoWith L N P S) empty (x₁ .others) in
@@ -93,8 +93,8 @@ module _ (f : Fields) where
         record { same = rw (e₁, e₂, e₃); single = refl }
 
   -- a torrent that is taken keeps the rules, and is told as it stands
-  pub taken-told : (t : Torrent) → torrentOf (valueOf f) ≡ taken t → Ruled f × (told f ≡ t)
-  taken-told t e = go (torrentOf (valueOf f)) (judged f) e
+  pub taken-told : (t : Torrent) → torrentOf (torrentValue f) ≡ taken t → Ruled f × (told f ≡ t)
+  taken-told t e = go (torrentOf (torrentValue f)) (judged f) e
     where
       go : (o : Outcome Torrent) → Judged f o → o ≡ taken t → Ruled f × (told f ≡ t)
       go o (kept h) g = (h, cc)
@@ -102,7 +102,7 @@ module _ (f : Fields) where
 
   -- reading what is written
   pub text-read : Ruled f → length (textOf f) ≤ 1048576 → readOf (textOf f) ≡ taken (told f)
-  text-read h l = torrent-exact (textOf f) .every (valueOf f) (told f) (text-fine h l) (kept-told f h)
+  text-read h l = torrent-exact (textOf f) .every (torrentValue f) (told f) (text-fine h l) (kept-told f h)
 
 -- ---- what a call leaves, case by case
 

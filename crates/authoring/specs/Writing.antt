@@ -35,11 +35,11 @@ abbrev pub infoWith : Value → Value → Value → Value → Value
 infoWith l n pl ps = dict (entry lengthKey l (entry nameKey n (entry pieceLengthKey pl (entry piecesKey ps empty))))
 
 -- the torrent of one file with these fields
-abbrev pub valueOf : Fields → Value
-valueOf f = topWith (str (f .announce)) (infoWith (int (pos (f .length))) (str (f .name)) (int (pos (f .pieceLength))) (str (f .pieces)))
+abbrev pub torrentValue : Fields → Value
+torrentValue f = topWith (str (f .announce)) (infoWith (int (pos (f .length))) (str (f .name)) (int (pos (f .pieceLength))) (str (f .pieces)))
 
 abbrev pub textOf : Fields → List ℕ
-textOf f = encode (valueOf f)
+textOf f = encode (torrentValue f)
 
 -- a refusal's place becomes 0
 abbrev pub atStart : {A : Type 0} → Outcome A → Outcome A
@@ -48,7 +48,7 @@ atStart (refused n p) = refused n 0
 
 -- the reader's rules for that torrent, every place 0; then the limit of a text; then how many bytes it has
 unfoldable pub sizeOf : Fields → Outcome ℕ
-sizeOf f = then (atStart (torrentOf (valueOf f))) (λ t. cond (ltb mostText (seq.length (textOf f))) (refused long 0) (taken (seq.length (textOf f))))
+sizeOf f = then (atStart (torrentOf (torrentValue f))) (λ t. cond (ltb mostText (seq.length (textOf f))) (refused long 0) (taken (seq.length (textOf f))))
 
 -- then the room in the lent output o
 abbrev pub puts : List ℕ → List ℕ → Outcome ℕ → Left

@@ -14,8 +14,8 @@ use Rattle.contents.specs.declared.Hash.{Hash}
 use Rattle.contents.specs.declared.Hash.the-variants.{Stands, None}
 use Rattle.contents.specs.declared.Checked.{Checked}
 use Rattle.contents.specs.declared.Checked.the-variants.{Yes, No, Refused}
-use Rattle.contents.specs.Files.{filePaper, entryOf}
-use Rattle.contents.specs.Paths.{Step, element, done, elementPaper, elementOf}
+use Rattle.contents.specs.Files.{foundPaper, entryOf}
+use Rattle.contents.specs.Paths.{PathStep, element, done, elementPaper, elementOf}
 use Rattle.contents.specs.Pieces.{hashPaper, hashOf, checkPaper, checkOf}
 
 -- the way back
@@ -23,11 +23,11 @@ abbrev foundAs : Outcome Entry → Found
 foundAs (taken e) = Is e
 foundAs (refused n p) = Not (record { number = n; place = p })
 
-found-again : (r : Found) → foundAs (filePaper r) ≡ r
+found-again : (r : Found) → foundAs (foundPaper r) ≡ r
 found-again (Is e) = refl
 found-again (Not r) = refl
 
-abbrev elementAs : Outcome Step → Element
+abbrev elementAs : Outcome PathStep → Element
 elementAs (taken (element x q)) = ElementIs x q
 elementAs (taken (done q)) = End q
 elementAs (refused n p) = NoElement (record { number = n; place = p })
@@ -56,7 +56,7 @@ checked-again No = refl
 checked-again (Refused r) = refl
 
 module _ (s : List ℕ) where
-  pub file-determined : (n : ℕ) (r t : Found) → filePaper r ≡ entryOf s n → filePaper t ≡ entryOf s n → r ≡ t
+  pub file-determined : (n : ℕ) (r t : Found) → foundPaper r ≡ entryOf s n → foundPaper t ≡ entryOf s n → r ≡ t
   file-determined n r t e f = sym (found-again r) ∙ ap foundAs (e ∙ sym f) ∙ found-again t
 
   pub element-determined : (p : ℕ) (r t : Element) → elementPaper r ≡ elementOf s p → elementPaper t ≡ elementOf s p → r ≡ t

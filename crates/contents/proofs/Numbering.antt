@@ -26,7 +26,9 @@ use Rattle.metainfo.specs.declared.Torrent.{Torrent}
 use Rattle.metainfo.proofs.Naming.{no-way}
 use Rattle.metainfo.proofs.Filing.{file-stands, file-next}
 use Rattle.contents.specs.declared.Entry.{Entry}
-use Rattle.contents.specs.Files.{inInfo, entry, single, entriesFrom, entriesUnder, entriesOf, number, entryIn, entryOf}
+use Rattle.contents.specs.Files.{inInfo, entry, single, entriesFrom, entriesUnder, allEntries, entryIn, entryOf}
+use Rattle.fields.specs.Nth.{nth}
+use Rattle.fields.proofs.Nth.{nth-beyond}
 use Rattle.contents.specs.Steps.{walkTo}
 use Rattle.contents.proofs.Facts.{Facts, facts, Holds, one, many}
 
@@ -58,8 +60,8 @@ entries-taken (item v vs) p o ns e =
 -- ---- by number
 
 module _ (s : List ℕ) (d : ℕ) (levels : d ≤ 32) where
-  pub walk-number : (vs : Items) (p o n : ℕ) (ns : List ℕ) → StandItems s d p vs → lengthsOf p vs ≡ taken ns → o + sum ns ≤ largest → n < length ns → walkTo n s p o ≡ then (entriesFrom p o vs) (number n)
-  unfolding entriesFrom lengthsOf number walkTo sum
+  pub walk-number : (vs : Items) (p o n : ℕ) (ns : List ℕ) → StandItems s d p vs → lengthsOf p vs ≡ taken ns → o + sum ns ≤ largest → n < length ns → walkTo n s p o ≡ then (entriesFrom p o vs) (nth n)
+  unfolding entriesFrom lengthsOf nth walkTo sum
   walk-number none p o n ns t e h l = let f : _≡_ {A = List ℕ} [] ns = cc in let g : n < length {A = ℕ} [] = subst (λ (m : List ℕ). n < length m) (sym f) l in absurd (omega arith)
   walk-number (item v vs) p o zero ns t e h l =
       let x = lengths-next p v vs ns e in
@@ -77,14 +79,8 @@ module _ (s : List ℕ) (d : ℕ) (levels : d ≤ 32) where
       ap (λ (y : Outcome File). then y (λ f. walkTo n s (f .next) (min (o + f .length) largest))) (file-stands s p d v levels (i .0) ∙ x .is)
       ∙ ap (walkTo n s (x .file .next)) k
       ∙ walk-number vs (x .file .next) (o + x .file .length) n (x .others) (subst (λ (q : ℕ). StandItems s d q vs) (sym j) (i .1)) (x .lengths) (omega arith) (omega arith)
-      ∙ ap (λ (y : Outcome (List Entry)). then y (number n)) (m .1)
+      ∙ ap (λ (y : Outcome (List Entry)). then y (nth n)) (m .1)
       ∙ sym (rw (x .is, m .1))
-
-number-beyond : (es : List Entry) (n : ℕ) → length es ≤ n → number n es ≡ refused 31 0
-unfolding number
-number-beyond [] n h = refl
-number-beyond (e ∷ es) zero h = absurd (omega arith)
-number-beyond (e ∷ es) (suc n) h = number-beyond es n (omega arith)
 
 -- ---- of a torrent that was taken
 
@@ -111,8 +107,8 @@ module _ (s : List ℕ) (t : Torrent) (e : readOf s ≡ taken t) (n : ℕ) where
   abbrev held : Value-of s t
   held = value-of s t e
 
-  entry-is : entryOf s n ≡ then (entriesOf (held .value) t) (number n)
-  entry-is = ap (λ (o : Outcome Value). then o (entryIn n)) (held .decoded) ∙ ap (λ (o : Outcome Torrent). then o (λ t. then (entriesOf (held .value) t) (number n))) (held .torrent)
+  entry-is : entryOf s n ≡ then (allEntries (held .value) t) (nth n)
+  entry-is = ap (λ (o : Outcome Value). then o (entryIn n)) (held .decoded) ∙ ap (λ (o : Outcome Torrent). then o (λ t. then (allEntries (held .value) t) (nth n))) (held .torrent)
 
   -- the files of a list
   pub record Listed : Type 0 where
@@ -125,7 +121,7 @@ module _ (s : List ℕ) (t : Torrent) (e : readOf s ≡ taken t) (n : ℕ) where
     pub taken-lengths : lengthsOf (t .content .place + 1) items ≡ taken lengths
     pub files : t .content .files ≡ length lengths
     pub total : t .content .total ≡ sum lengths
-    pub entries : entriesOf (held .value) t ≡ entriesFrom (t .content .place + 1) 0 items
+    pub entries : allEntries (held .value) t ≡ entriesFrom (t .content .place + 1) 0 items
 
   pub listed : t .content .single ≡ false → Listed
   listed x = go (held .known .content)
@@ -156,12 +152,12 @@ module _ (s : List ℕ) (t : Torrent) (e : readOf s ≡ taken t) (n : ℕ) where
       omega (arith, encode-pos (list (l .items)), held .known .short)
 
   pub number-only : t .content .single ≡ true → n < t .content .files → taken (single t) ≡ entryOf s n
-  unfolding number
+  unfolding nth
   number-only x l = go (held .known .content) n l ∙ sym entry-is
     where
-      go : Holds (inInfo (held .value) filesKey) (t .content) → (n : ℕ) → n < t .content .files → taken (single t) ≡ then (entriesOf (held .value) t) (number n)
+      go : Holds (inInfo (held .value) filesKey) (t .content) → (n : ℕ) → n < t .content .files → taken (single t) ≡ then (allEntries (held .value) t) (nth n)
       go (many q vs ns u k c) n l = let z : t .content .single ≡ false = ap (λ (y : Content). y .single) c in no-way (cc)
-      go (one a b) zero l = sym (ap (λ (b : Bool). then (cond b (taken (single t ∷ [])) (entriesUnder (inInfo (held .value) filesKey))) (number 0)) x)
+      go (one a b) zero l = sym (ap (λ (b : Bool). then (cond b (taken (single t ∷ [])) (entriesUnder (inInfo (held .value) filesKey))) (nth 0)) x)
       go (one a b) (suc n) l = absurd (omega arith)
 
   pub number-listed : t .content .single ≡ false → n < t .content .files → walkTo n s (t .content .place + 1) 0 ≡ entryOf s n
@@ -169,31 +165,31 @@ module _ (s : List ℕ) (t : Torrent) (e : readOf s ≡ taken t) (n : ℕ) where
       let k = listed x in
       let i = list-stands s (k .deep) (t .content .place) (k .items) (k .stands) .1 in
       walk-number s (i .0) (omega (arith, i .1, k .levels)) (k .items) (t .content .place + 1) 0 n (k .lengths) (i .2) (k .taken-lengths) (omega (arith, k .total, total-fits s (held .value) t (held .known))) (omega (arith, k .files))
-      ∙ sym (ap (λ (o : Outcome (List Entry)). then o (number n)) (k .entries))
+      ∙ sym (ap (λ (o : Outcome (List Entry)). then o (nth n)) (k .entries))
       ∙ sym entry-is
 
   pub number-past : t .content .files ≤ n → refused 31 0 ≡ entryOf s n
-  unfolding number
+  unfolding nth
   number-past l = go (t .content .single) refl ∙ sym entry-is
     where
-      only : Holds (inInfo (held .value) filesKey) (t .content) → (n : ℕ) → t .content .files ≤ n → t .content .single ≡ true → refused 31 0 ≡ then (entriesOf (held .value) t) (number n)
+      only : Holds (inInfo (held .value) filesKey) (t .content) → (n : ℕ) → t .content .files ≤ n → t .content .single ≡ true → refused 31 0 ≡ then (allEntries (held .value) t) (nth n)
       only (many q vs ns u k c) n l x = let z : t .content .single ≡ false = ap (λ (y : Content). y .single) c in no-way (cc)
       only (one a b) zero l x = absurd (omega arith)
-      only (one a b) (suc n) l x = sym (ap (λ (b : Bool). then (cond b (taken (single t ∷ [])) (entriesUnder (inInfo (held .value) filesKey))) (number (suc n))) x)
+      only (one a b) (suc n) l x = sym (ap (λ (b : Bool). then (cond b (taken (single t ∷ [])) (entriesUnder (inInfo (held .value) filesKey))) (nth (suc n))) x)
 
-      go : (b : Bool) → t .content .single ≡ b → refused 31 0 ≡ then (entriesOf (held .value) t) (number n)
+      go : (b : Bool) → t .content .single ≡ b → refused 31 0 ≡ then (allEntries (held .value) t) (nth n)
       go true x = only (held .known .content) n l x
       go false x =
           let k = listed x in
           let m = entries-taken (k .items) (t .content .place + 1) 0 (k .lengths) (k .taken-lengths) in
-          sym (ap (λ (o : Outcome (List Entry)). then o (number n)) (k .entries ∙ m .1) ∙ number-beyond (m .0) n (omega (arith, m .2, k .files)))
+          sym (ap (λ (o : Outcome (List Entry)). then o (nth n)) (k .entries ∙ m .1) ∙ nth-beyond n (m .0) (omega (arith, m .2, k .files)))
 
 pub entry-refused : (s : List ℕ) (n r q : ℕ) → refused r q ≡ readOf s → refused r q ≡ entryOf s n
 entry-refused s n r q e = go (decode s) e
   where
-    by : (v : Value) (o : Outcome Torrent) → refused r q ≡ o → refused r q ≡ then o (λ t. then (entriesOf v t) (number n))
+    by : (v : Value) (o : Outcome Torrent) → refused r q ≡ o → refused r q ≡ then o (λ t. then (allEntries v t) (nth n))
     by v (taken t) f = no-way (cc)
-    by v (refused i j) f = ap (λ (x : Outcome Torrent). then x (λ t. then (entriesOf v t) (number n))) f
+    by v (refused i j) f = ap (λ (x : Outcome Torrent). then x (λ t. then (allEntries v t) (nth n))) f
 
     go : (o : Outcome Value) → refused r q ≡ then o torrentOf → refused r q ≡ then o (entryIn n)
     go (taken v) f = by v (torrentOf v) f

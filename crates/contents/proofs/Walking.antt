@@ -29,7 +29,7 @@ use Rattle.metainfo.proofs.Filing.{file-stands, file-next}
 use Rattle.contents.specs.declared.Entry.{Entry}
 use Rattle.contents.specs.Files.{entry, entriesFrom}
 use Rattle.contents.specs.Paths.{element, elementIn, elementOf}
-use Rattle.contents.specs.Walks.{strings, stringsUnder, pathOf, Elements, ends, goes, Files, last, next, Walked}
+use Rattle.contents.specs.Walks.{stringsIn, stringsUnder, pathOf, Elements, ends, goes, FilesWalked, last, next, Walked}
 use Rattle.contents.proofs.Numbering.{lengths-next, entries-taken, value-of, listed}
 
 -- ---- the elements of a path
@@ -42,8 +42,8 @@ module _ (s : List ℕ) (d : ℕ) where
   good true p bs o q e = (refl, e)
   good false p bs o q e = no-way (cc)
 
-  pub elements-walk : (vs : Items) (p q : ℕ) → StandItems s d p vs → elementsOf p vs ≡ taken q → Elements s p (strings vs)
-  unfolding elementsOf strings encode
+  pub elements-walk : (vs : Items) (p q : ℕ) → StandItems s d p vs → elementsOf p vs ≡ taken q → Elements s p (stringsIn vs)
+  unfolding elementsOf stringsIn encode
   elements-walk none p q t e = ends p (seen p (items-end s d p t))
   elements-walk (item (str bs) vs) p q t e =
       let i = items-next s d p (str bs) vs t in
@@ -51,8 +51,8 @@ module _ (s : List ℕ) (d : ℕ) where
       let g = good (goodName bs) p bs (λ z. elementsOf (p + length (writtenString bs)) vs) q e in
       let f : goodName (take (length bs) (drop (b .from) s)) ≡ true = ap goodName (b .bytes) ∙ g .0 in
       let x : elementOf s p ≡ taken (element (record { from = b .from; len = length bs }) (p + length (writtenString bs))) = seen p (b .seen) ∙ rw f in
-      subst (λ (l : List ℕ). Elements s p (l ∷ strings vs)) (b .bytes)
-      (goes p (record { from = b .from; len = length bs }) (p + length (writtenString bs)) (strings vs) x (elements-walk vs (p + length (writtenString bs)) q (i .1) (g .1)))
+      subst (λ (l : List ℕ). Elements s p (l ∷ stringsIn vs)) (b .bytes)
+      (goes p (record { from = b .from; len = length bs }) (p + length (writtenString bs)) (stringsIn vs) x (elements-walk vs (p + length (writtenString bs)) q (i .1) (g .1)))
   elements-walk (item (int z) vs) p q t e = no-way (cc)
   elements-walk (item (list ws) vs) p q t e = no-way (cc)
   elements-walk (item (dict es) vs) p q t e = no-way (cc)
@@ -74,11 +74,11 @@ module _ (s : List ℕ) where
   path-walk d (under q (list none)) h D a e = no-way (cc)
   path-walk d (under q (list (item v vs))) h D a e = go (elementsOf (q + 1) (item v vs)) refl e
     where
-      go : (o : Outcome ℕ) → elementsOf (q + 1) (item v vs) ≡ o → map (λ (r : ℕ). q + 1) o ≡ taken a → Elements s a (strings (item v vs))
+      go : (o : Outcome ℕ) → elementsOf (q + 1) (item v vs) ≡ o → map (λ (r : ℕ). q + 1) o ≡ taken a → Elements s a (stringsIn (item v vs))
       go (taken r) f g =
           let i = list-stands s d q (item v vs) (h q (list (item v vs)) refl) .1 in
           let k : q + 1 ≡ a = cc in
-          subst (λ (b : ℕ). Elements s b (strings (item v vs))) k (elements-walk s (i .0) (item v vs) (q + 1) r (i .2) f)
+          subst (λ (b : ℕ). Elements s b (stringsIn (item v vs))) k (elements-walk s (i .0) (item v vs) (q + 1) r (i .2) f)
       go (refused r o) f g = no-way (cc)
 
   pub path-walked : (d p : ℕ) (v : Value) (f : File) → Stands s d p v → fileOf p v ≡ taken f → Elements s (f .path) (pathOf p v)
@@ -104,9 +104,9 @@ module _ (s : List ℕ) (d : ℕ) (levels : d ≤ 32) where
   unfolding encodeItems valueFrom kindOf
   end-refused p t = ap (λ (l : List ℕ). then (valueIn (valueFrom 32 (length s) l p 0)) (fileOf p)) (t .text)
 
-  pub files-walk : (vs : Items) (p o : ℕ) (ns : List ℕ) (es : List Entry) → StandItems s d p vs → lengthsOf p vs ≡ taken ns → entriesFrom p o vs ≡ taken es → Files s p o vs es
+  pub files-walk : (vs : Items) (p o : ℕ) (ns : List ℕ) (es : List Entry) → StandItems s d p vs → lengthsOf p vs ≡ taken ns → entriesFrom p o vs ≡ taken es → FilesWalked s p o vs es
   unfolding entriesFrom
-  files-walk none p o ns es t e f = let g : _≡_ {A = List Entry} [] es = cc in subst (λ (l : List Entry). Files s p o none l) g (last p o (end-refused p t))
+  files-walk none p o ns es t e f = let g : _≡_ {A = List Entry} [] es = cc in subst (λ (l : List Entry). FilesWalked s p o none l) g (last p o (end-refused p t))
   files-walk (item v vs) p o ns es t e f =
       let x = lengths-next p v vs ns e in
       let i = items-next s d p v vs t in
@@ -114,7 +114,7 @@ module _ (s : List ℕ) (d : ℕ) (levels : d ≤ 32) where
       let j : x .file .next ≡ p + length (encode v) = file-next p v (x .file) (sym (x .is)) in
       let g : taken (entry o (x .file) ∷ m .0) ≡ taken es = sym (rw (x .is, m .1)) ∙ f in
       let h : entry o (x .file) ∷ m .0 ≡ es = cc in
-      subst (λ (l : List Entry). Files s p o (item v vs) l) h
+      subst (λ (l : List Entry). FilesWalked s p o (item v vs) l) h
       (next p o v vs (x .file) (m .0) (file-stands s p d v levels (i .0) ∙ x .is) (path-walked s d p v (x .file) (i .0) (x .is))
       (files-walk vs (x .file .next) (o + x .file .length) (x .others) (m .0) (subst (λ (q : ℕ). StandItems s d q vs) (sym j) (i .1)) (x .lengths) (m .1)))
 

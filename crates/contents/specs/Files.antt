@@ -1,13 +1,13 @@
 -- The files of a torrent by number, on the decoded value. Assumes nothing: these are definitions.
 use mathlib.Core.Bool.{true, false, cond}
 use mathlib.Core.List.{List, [], _∷_}
-use Prim.Native.Nat.{ℕ, zero, suc, _+_}
-use Rattle.refusal.specs.Paper.{Outcome, taken, refused, refusal, map, then}
-use Rattle.refusal.specs.Numbers.{beyond}
+use Prim.Native.Nat.{ℕ, _+_}
+use Rattle.refusal.specs.Paper.{Outcome, taken, refusal, map, then}
 use Rattle.bencode.specs.Value.{Value, Items, str, int, list, dict, none, item}
 use Rattle.bencode.specs.Decode.{decode}
 use Rattle.walk.specs.Lookup.{Under, nothing, under, lookup}
 use Rattle.fields.specs.Values.{listAt}
+use Rattle.fields.specs.Nth.{nth}
 use Rattle.metainfo.specs.Keys.{infoKey, filesKey}
 use Rattle.metainfo.specs.Rules.{fileOf, torrentOf}
 use Rattle.metainfo.specs.declared.File.{File}
@@ -16,9 +16,9 @@ use Rattle.contents.specs.declared.Entry.{Entry}
 use Rattle.contents.specs.declared.Found.{Found}
 use Rattle.contents.specs.declared.Found.the-variants.{Is, Not}
 
-abbrev pub filePaper : Found → Outcome Entry
-filePaper (Is e) = taken e
-filePaper (Not r) = refusal r
+abbrev pub foundPaper : Found → Outcome Entry
+foundPaper (Is e) = taken e
+foundPaper (Not r) = refusal r
 
 -- what is under a key of the value at p, where it is a dictionary
 abbrev pub inside : ℕ → Value → List ℕ → Under
@@ -53,17 +53,12 @@ entriesUnder nothing = taken []
 entriesUnder (under p v) = then (listAt p v) (entriesFrom (p + 1) 0)
 
 -- all files of the torrent t, which the value v is
-abbrev pub entriesOf : Value → Torrent → Outcome (List Entry)
-entriesOf v t = cond (t .content .single) (taken (single t ∷ [])) (entriesUnder (inInfo v filesKey))
+abbrev pub allEntries : Value → Torrent → Outcome (List Entry)
+allEntries v t = cond (t .content .single) (taken (single t ∷ [])) (entriesUnder (inInfo v filesKey))
 
--- number n of them, counted from 0
-unfoldable pub number : ℕ → List Entry → Outcome Entry
-number n [] = refused beyond 0
-number zero (e ∷ es) = taken e
-number (suc n) (e ∷ es) = number n es
-
+-- number n of them
 abbrev pub entryIn : ℕ → Value → Outcome Entry
-entryIn n v = then (torrentOf v) (λ t. then (entriesOf v t) (number n))
+entryIn n v = then (torrentOf v) (λ t. then (allEntries v t) (nth n))
 
 -- file number n of the torrent that a text is: the torrent's refusals, then 31
 abbrev pub entryOf : List ℕ → ℕ → Outcome Entry

@@ -12,17 +12,17 @@ use Rattle.contents.specs.declared.Element.{Element}
 use Rattle.contents.specs.declared.Element.the-variants.{Is, End, Not}
 
 -- an element and the place of the next; or the end of the path, and the place past it
-pub data Step : Type 0 where
-  element : Part → ℕ → Step
-  done : ℕ → Step
+pub data PathStep : Type 0 where
+  element : Part → ℕ → PathStep
+  done : ℕ → PathStep
 
-abbrev pub elementPaper : Element → Outcome Step
+abbrev pub elementPaper : Element → Outcome PathStep
 elementPaper (Is x q) = taken (element x q)
 elementPaper (End q) = taken (done q)
 elementPaper (Not r) = refusal r
 
 -- a string that may be a name, else 13; or the end; another kind is 10
-abbrev pub elementIn : List ℕ → ℕ → Head → Outcome Step
+abbrev pub elementIn : List ℕ → ℕ → Head → Outcome PathStep
 elementIn s p (string a m q) = cond (goodName (take m (drop a s))) (taken (element (record { from = a; len = m }) q)) (refused name p)
 elementIn s p (integer z q) = refused kind p
 elementIn s p (long a m q) = refused kind p
@@ -31,5 +31,5 @@ elementIn s p (dictionary q) = refused kind p
 elementIn s p (end q) = taken (done q)
 
 -- what stands at p of any text, in a path
-abbrev pub elementOf : List ℕ → ℕ → Outcome Step
+abbrev pub elementOf : List ℕ → ℕ → Outcome PathStep
 elementOf s p = then (lookOf s p) (elementIn s p)

@@ -15,21 +15,21 @@ use Rattle.metainfo.specs.Reading.{fileAt}
 use Rattle.metainfo.specs.declared.File.{File}
 use Rattle.metainfo.specs.declared.Torrent.{Torrent}
 use Rattle.contents.specs.declared.Entry.{Entry}
-use Rattle.contents.specs.Files.{inside, inInfo, entry, entriesOf}
+use Rattle.contents.specs.Files.{inside, inInfo, entry, allEntries}
 use Rattle.contents.specs.Paths.{element, done, elementOf}
 
 -- the bytes of the strings in a list
-unfoldable pub strings : Items → List (List ℕ)
-strings none = []
-strings (item (str bs) vs) = bs ∷ strings vs
-strings (item (int z) vs) = strings vs
-strings (item (list ws) vs) = strings vs
-strings (item (dict es) vs) = strings vs
+unfoldable pub stringsIn : Items → List (List ℕ)
+stringsIn none = []
+stringsIn (item (str bs) vs) = bs ∷ stringsIn vs
+stringsIn (item (int z) vs) = stringsIn vs
+stringsIn (item (list ws) vs) = stringsIn vs
+stringsIn (item (dict es) vs) = stringsIn vs
 
 abbrev pub stringsOf : Value → List (List ℕ)
 stringsOf (str bs) = []
 stringsOf (int z) = []
-stringsOf (list vs) = strings vs
+stringsOf (list vs) = stringsIn vs
 stringsOf (dict es) = []
 
 abbrev pub stringsUnder : Under → List (List ℕ)
@@ -47,10 +47,10 @@ pub data Elements (s : List ℕ) : ℕ → List (List ℕ) → Type 0 where
 
 -- from p on, and from o of the content on, `metainfo::file_at` gives the files that these values are, with their entries, and each one's path
 -- its elements; then it refuses the list's e
-pub data Files (s : List ℕ) : ℕ → ℕ → Items → List Entry → Type 0 where
-  last : (p o : ℕ) → fileAt s p ≡ refused byte p → Files s p o none []
+pub data FilesWalked (s : List ℕ) : ℕ → ℕ → Items → List Entry → Type 0 where
+  last : (p o : ℕ) → fileAt s p ≡ refused byte p → FilesWalked s p o none []
   next : (p o : ℕ) (v : Value) (vs : Items) (f : File) (es : List Entry) → fileAt s p ≡ taken f → Elements s (f .path) (pathOf p v)
-      → Files s (f .next) (o + f .length) vs es → Files s p o (item v vs) (entry o f ∷ es)
+      → FilesWalked s (f .next) (o + f .length) vs es → FilesWalked s p o (item v vs) (entry o f ∷ es)
 
 -- the files of a torrent t of many files, which the text s is
 pub record Walked (s : List ℕ) (t : Torrent) : Type 0 where
@@ -59,6 +59,6 @@ pub record Walked (s : List ℕ) (t : Torrent) : Type 0 where
   pub entries : List Entry
   pub decoded : decode s ≡ taken value
   pub listed : inInfo value filesKey ≡ under (t .content .place) (list items)
-  pub numbered : entriesOf value t ≡ taken entries
+  pub numbered : allEntries value t ≡ taken entries
   pub counted : length entries ≡ t .content .files
-  pub walked : Files s (t .content .place + 1) 0 items entries
+  pub walked : FilesWalked s (t .content .place + 1) 0 items entries

@@ -4,7 +4,7 @@ ghost use Prim.Native.Nat.{ℕ};
 ghost use Rattle.refusal.specs.Paper.{taken};
 ghost use Rattle.refusal.specs.Numbers.{beyond};
 ghost use Rattle.metainfo.specs.Reading.{readOf};
-ghost use Rattle.contents.specs.Files.{filePaper, entryOf, single, entry};
+ghost use Rattle.contents.specs.Files.{foundPaper, entryOf, single, entry};
 ghost use Rattle.contents.specs.Steps.{walkTo};
 use crate::Entry;
 use crate::Found;
@@ -20,7 +20,7 @@ use refusal::number;
 // File number `number` of the torrent `t`.
 pub fn numbered(text: &[u8], t: Torrent, number: usize) -> Found
     requires { ⌜ readOf (now text) ≡ taken t ⌝ }
-    ensures { λ r. ⌜ filePaper r ≡ entryOf (now (text .entry)) number ⌝ }
+    ensures { λ r. ⌜ foundPaper r ≡ entryOf (now (text .entry)) number ⌝ }
 {
     let content = t.content;
     if content.files <= number {
@@ -35,7 +35,7 @@ pub fn numbered(text: &[u8], t: Torrent, number: usize) -> Found
 
 // The file that stands `number` files past the one at `first`.
 fn nth(text: &[u8], first: usize, number: usize) -> Found
-    ensures { λ r. ⌜ filePaper r ≡ walkTo number (now (text .entry)) first 0 ⌝ }
+    ensures { λ r. ⌜ foundPaper r ≡ walkTo number (now (text .entry)) first 0 ⌝ }
 {
     let mut at = first;
     let mut left = number;

@@ -4,7 +4,7 @@ mod files;
 mod pieces;
 
 ghost use mathlib.Core.Path.{_≡_};
-ghost use Rattle.contents.specs.Files.{filePaper, entryOf};
+ghost use Rattle.contents.specs.Files.{foundPaper, entryOf};
 ghost use Rattle.contents.specs.Paths.{elementPaper, elementOf};
 ghost use Rattle.contents.specs.Pieces.{hashPaper, hashOf, checkPaper, checkOf};
 use blocks::ContentOffset;
@@ -51,7 +51,7 @@ pub enum Checked {
 
 // File number `number` of the torrent that a text is. All files of a torrent are walked by `metainfo::file_at`.
 pub fn file(text: &[u8], number: usize) -> Found
-    ensures { λ r. ⌜ filePaper r ≡ entryOf (now (text .entry)) number ⌝ }
+    ensures { λ r. ⌜ foundPaper r ≡ entryOf (now (text .entry)) number ⌝ }
 {
     match metainfo::read(text) {
         Reading::Read(t) => files::numbered(text, t, number),

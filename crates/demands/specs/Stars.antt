@@ -28,7 +28,7 @@ use Rattle.wire.specs.Frames.{messageOf as messageBy}
 use Rattle.metainfo.specs.Rules.{clean, goodName, elementsOf, fileOf, lengthsOf, infoOf, topOf, torrentOf}
 use Rattle.metainfo.specs.Rules.{sizedOf as torrentSized}
 use Rattle.lines.specs.Lines.{elementsIn, filesIn, escaped, fileLines, listingOf}
-use Rattle.lines.specs.Lines.{joined as pathOf}
+use Rattle.lines.specs.Lines.{slashed}
 use Rattle.tables.specs.Counting.{eachFrom}
 use Rattle.tables.specs.Rows.{orBytes}
 use Rattle.tables.specs.Seats.{cleared}
@@ -177,5 +177,5 @@ lent = record {
 
 -- every row gives its answer
 pub stars-hold : given stars lent lent ≡ asked stars
-unfolding given asked stars bytes blockOf byteOf lawful powerFrom sum fileLengths joinedFrom lengths endFrom partsFrom sizesIn step startOf sizesFit lowestFree sitOf seatedAt leaveOf atZero left feedOf messageOf haveOf bitfieldOf overTop announced eachFrom orBytes readOf sizedOf least most messageBy bigEndian numberBytes event sizesWith lowestWithout decode valueFrom itemsOf entriesOf kindOf stringOf closedOf integerOf keyOf digitsVal digitsLen keyLt countIn listingOf fileLines pathOf escaped filesIn elementsIn lookup sameKey torrentOf topOf infoOf torrentSized lengthsOf fileOf elementsOf goodName clean decimalIn encode
+unfolding given asked stars bytes blockOf byteOf lawful powerFrom sum fileLengths joinedFrom lengths endFrom partsFrom sizesIn step startOf sizesFit lowestFree sitOf seatedAt leaveOf atZero left feedOf messageOf haveOf bitfieldOf overTop announced eachFrom orBytes readOf sizedOf least most messageBy bigEndian numberBytes event sizesWith lowestWithout decode valueFrom itemsOf entriesOf kindOf stringOf closedOf integerOf keyOf digitsVal digitsLen keyLt countIn listingOf fileLines slashed escaped filesIn elementsIn lookup sameKey torrentOf topOf infoOf torrentSized lengthsOf fileOf elementsOf goodName clean decimalIn encode
 stars-hold = refl

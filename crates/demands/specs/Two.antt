@@ -51,11 +51,11 @@ use Rattle.metainfo.specs.Reading.{paper as torrentPaper, readOf as torrentRead
 use Rattle.metainfo.specs.Hashes.{infoHashOf}
 use Rattle.metainfo.specs.declared.Torrent.{Torrent}
 use Rattle.metainfo.specs.declared.Reading.{Reading}
-use Rattle.torrents.specs.Torrent.{OneFile, Files, single, many, Said, IsTorrent, lengthsIn, sizesOf}
-use Rattle.torrents.specs.Exact.{isSingle, filesUnder, StandsAt, PathAt, EachAt, Shows}
+use Rattle.torrents.specs.Torrent.{OneFile, TorrentFiles, single, many, TorrentSays, IsTorrent, lengthsIn, sizesOf}
+use Rattle.torrents.specs.Exact.{isSingle, filesUnder, StandsAt, PathAt, EachAt, ShowsTorrent}
 use Rattle.torrents.proofs.Laws as torrents
 use Rattle.torrents.proofs.Determined as said
-use Rattle.contents.specs.Files.{filePaper, entryOf}
+use Rattle.contents.specs.Files.{foundPaper, entryOf}
 use Rattle.contents.specs.Files.{single as oneEntry}
 use Rattle.contents.specs.declared.Entry as file-entry
 use Rattle.contents.specs.declared.Found as file
@@ -69,14 +69,14 @@ use Rattle.authoring.specs.Reading.{only}
 use Rattle.authoring.proofs.Written as authored
 use Rattle.authoring.proofs.Rewriting as again
 use Rattle.tracker.specs.Keys.{interval, peers}
-use Rattle.tracker.specs.Entries.{Entry}
+use Rattle.tracker.specs.Entries.{PeerEntry}
 use Rattle.tracker.specs.Reply.{Answer, compact, sixes, counted, replyOf, nthOf}
 use Rattle.tracker.specs.Reading.{entriesIn, peerPaper}
 use Rattle.tracker.specs.Reading.{paper as replyPaper}
 use Rattle.tracker.specs.Writing.{textOf}
 use Rattle.tracker.specs.Writing.{writeOf as replyWrite}
 use Rattle.tracker.specs.Exact.{IsReply, saidEntries}
-use Rattle.tracker.specs.Exact.{Said as Told, Shows as Shown}
+use Rattle.tracker.specs.Exact.{ReplySays, ShowsReply}
 use Rattle.tracker.specs.Walks.{Walked}
 use Rattle.tracker.specs.declared.Reply.{Reply}
 use Rattle.tracker.specs.declared.Found as peer
@@ -121,14 +121,14 @@ one-value s v w e f =
 
 -- of metainfo::read
 module _ (s : List ℕ) (r : Reading) (c : torrentPaper r ≡ torrentRead s) where
-  pub torrent-exact : ((x : Torrent) × (torrentPaper r ≡ taken x)) ↔ ((v : Value) × (t : Said) × Encodes s v × IsTorrent v t)
+  pub torrent-exact : ((x : Torrent) × (torrentPaper r ≡ taken x)) ↔ ((v : Value) × (t : TorrentSays) × Encodes s v × IsTorrent v t)
   torrent-exact = (
     λ x. let h = torrents.torrent-exact s .only (x .0) (sym c ∙ x .1) in (h .0, h .1, encodes (h .2), h .3),
     λ h. let x = torrents.torrent-exact s .every (h .0) (h .1) (fine (h .2)) (h .3) in (x .0, c ∙ x .1),
   )
 
   -- and the fields handed back are that value's: strings as the very part of the text, info as its dictionary is written, and the files one by one
-  pub torrent-fields : (x : Torrent) → torrentPaper r ≡ taken x → (v : Value) (t : Said) → Encodes s v → IsTorrent v t
+  pub torrent-fields : (x : Torrent) → torrentPaper r ≡ taken x → (v : Value) (t : TorrentSays) → Encodes s v → IsTorrent v t
       → (bytesAt s (x .announce) ≡ t .announce)
       × (bytesAt s (x .info) ≡ encode (dict (t .info)))
       × (bytesAt s (x .name) ≡ t .name)
@@ -144,55 +144,55 @@ module _ (s : List ℕ) (r : Reading) (c : torrentPaper r ≡ torrentRead s) whe
       let h = torrents.torrent-exact s .every v t (fine n) i in
       let q : taken (h .0) ≡ taken x = sym (c ∙ h .1) ∙ e in
       let z : h .0 ≡ x = cc in
-      let w = subst (λ (y : Torrent). Shows s y t) z (h .2) in
+      let w = subst (λ (y : Torrent). ShowsTorrent s y t) z (h .2) in
       let f = w .files in
       (w .announce, w .info, w .name, w .pieces, w .piece-length, w .count, f .one, f .files, f .total, f .place, f .each)
 
 -- of metainfo::announce and metainfo::name: what they hand back
-pub announce-said : (s r : List ℕ) → r ≡ bytesAt s (announceIn (torrentRead s)) → (v : Value) (t : Said) → Encodes s v → IsTorrent v t → r ≡ t .announce
+pub announce-said : (s r : List ℕ) → r ≡ bytesAt s (announceIn (torrentRead s)) → (v : Value) (t : TorrentSays) → Encodes s v → IsTorrent v t → r ≡ t .announce
 announce-said s r c v t e i = c ∙ torrents.announce-said s v t (fine e) i
 
-pub name-said : (s r : List ℕ) → r ≡ bytesAt s (nameIn (torrentRead s)) → (v : Value) (t : Said) → Encodes s v → IsTorrent v t → r ≡ t .name
+pub name-said : (s r : List ℕ) → r ≡ bytesAt s (nameIn (torrentRead s)) → (v : Value) (t : TorrentSays) → Encodes s v → IsTorrent v t → r ≡ t .name
 name-said s r c v t e i = c ∙ torrents.name-said s v t (fine e) i
 
 -- of contents::file: file number n of a torrent of many files has its length and path, and starts where those before it end; beyond the last it is 31
-pub file-exact : (s : List ℕ) (n : ℕ) (r : file.Found) → filePaper r ≡ entryOf s n → (v : Value) (t : Said) → Encodes s v → IsTorrent v t → (fs : List OneFile) → t .files ≡ many fs
-    → (n < length fs → (e : file-entry.Entry) × (filePaper r ≡ taken e) × (e .offset .0 ≡ sum (take n (sizesOf fs))) × (e .length ≡ getD fs n noFile .size) × PathAt s (e .path) (getD fs n noFile .path))
-    × (length fs ≤ n → filePaper r ≡ refused 31 0)
+pub file-exact : (s : List ℕ) (n : ℕ) (r : file.Found) → foundPaper r ≡ entryOf s n → (v : Value) (t : TorrentSays) → Encodes s v → IsTorrent v t → (fs : List OneFile) → t .files ≡ many fs
+    → (n < length fs → (e : file-entry.Entry) × (foundPaper r ≡ taken e) × (e .offset .0 ≡ sum (take n (sizesOf fs))) × (e .length ≡ getD fs n noFile .size) × PathAt s (e .path) (getD fs n noFile .path))
+    × (length fs ≤ n → foundPaper r ≡ refused 31 0)
 file-exact s n r c v t e i fs f =
     let h = torrents.torrent-exact s .every v t (fine e) i in
     let w = h .2 .files in
     let one = w .one ∙ ap isSingle f in
-    let all = w .files ∙ ap (λ (g : Files). length (lengthsIn g)) f in
-    let each = subst (λ (g : Files). EachAt s (h .0 .content .place + 1) g) f (w .each) in (
+    let all = w .files ∙ ap (λ (g : TorrentFiles). length (lengthsIn g)) f in
+    let each = subst (λ (g : TorrentFiles). EachAt s (h .0 .content .place + 1) g) f (w .each) in (
       λ l. let k = many-within s n (h .0) (h .1) fs one all each l in (k .0, c ∙ k .1, omega (arith, k .2 .0), k .2 .1, k .2 .2),
       λ l. c ∙ many-beyond s n (h .0) (h .1) fs one all each l,
     )
 
 -- and of a torrent of one file: file 0 has its length and its name, and any other number is 31
-pub one-file-exact : (s : List ℕ) (n : ℕ) (r : file.Found) → filePaper r ≡ entryOf s n → (v : Value) (t : Said) → Encodes s v → IsTorrent v t → (m : ℕ) → t .files ≡ single m
-    → (n ≡ 0 → (e : file-entry.Entry) × (filePaper r ≡ taken e) × (e .offset .0 ≡ 0) × (e .length ≡ m) × (take (length (t .name)) (drop (e .path) s) ≡ t .name))
-    × (1 ≤ n → filePaper r ≡ refused 31 0)
+pub one-file-exact : (s : List ℕ) (n : ℕ) (r : file.Found) → foundPaper r ≡ entryOf s n → (v : Value) (t : TorrentSays) → Encodes s v → IsTorrent v t → (m : ℕ) → t .files ≡ single m
+    → (n ≡ 0 → (e : file-entry.Entry) × (foundPaper r ≡ taken e) × (e .offset .0 ≡ 0) × (e .length ≡ m) × (take (length (t .name)) (drop (e .path) s) ≡ t .name))
+    × (1 ≤ n → foundPaper r ≡ refused 31 0)
 one-file-exact s n r c v t e i m f =
     let h = torrents.torrent-exact s .every v t (fine e) i in
     let w = h .2 .files in
     let one = w .one ∙ ap isSingle f in
-    let all : h .0 .content .total ≡ m = w .total ∙ ap (λ (g : Files). sum (lengthsIn g)) f ∙ sum-one m in (
+    let all : h .0 .content .total ≡ m = w .total ∙ ap (λ (g : TorrentFiles). sum (lengthsIn g)) f ∙ sum-one m in (
       λ z. (oneEntry (h .0), c ∙ one-within s n (h .0) (h .1) one z, refl, all, part-bytes s (h .0 .name) (t .name) (h .2 .name)),
       λ l. c ∙ one-beyond s n (h .0) (h .1) one l,
     )
 
 -- a value says one thing as a torrent
-pub torrent-says-one : (s : List ℕ) (v : Value) (t u : Said) → Encodes s v → IsTorrent v t → IsTorrent v u → t ≡ u
+pub torrent-says-one : (s : List ℕ) (v : Value) (t u : TorrentSays) → Encodes s v → IsTorrent v t → IsTorrent v u → t ≡ u
 torrent-says-one s v t u e i j = said.said-determined v 32 t u (e .1) i j
 
 -- of tracker::read
 module _ (s : List ℕ) (r : Reply) (c : replyPaper r ≡ map counted (replyOf s)) where
-  replied : (o : Outcome (Answer (List Entry))) → replyOf s ≡ o → (x : Answer ℕ) → replyPaper r ≡ taken x → (y : Answer (List Entry)) × (replyOf s ≡ taken y) × (x ≡ counted y)
+  replied : (o : Outcome (Answer (List PeerEntry))) → replyOf s ≡ o → (x : Answer ℕ) → replyPaper r ≡ taken x → (y : Answer (List PeerEntry)) × (replyOf s ≡ taken y) × (x ≡ counted y)
   replied (taken y) d x p = let q : taken x ≡ taken (counted y) = sym p ∙ c ∙ ap (map counted) d in (y, d, cc)
   replied (refused n k) d x p = let q : taken x ≡ refused n k = sym p ∙ c ∙ ap (map counted) d in absurd (let z : _≡_ {A = ℕ} 0 1 = cc in omega arith)
 
-  pub reply-exact : ((x : Answer ℕ) × (replyPaper r ≡ taken x)) ↔ ((v : Value) × (t : Told) × Encodes s v × IsReply v t)
+  pub reply-exact : ((x : Answer ℕ) × (replyPaper r ≡ taken x)) ↔ ((v : Value) × (t : ReplySays) × Encodes s v × IsReply v t)
   reply-exact = (
     λ x. let y = replied (replyOf s) refl (x .0) (x .1) in let h = reply-only s (y .0) (y .1) in (h .0, h .1, encodes (h .2), h .3),
     λ h. let y = reply-every s (h .0) (h .1) (fine (h .2)) (h .3) in (counted (y .0), c ∙ ap (map counted) (y .1)),
@@ -200,16 +200,16 @@ module _ (s : List ℕ) (r : Reply) (c : replyPaper r ≡ map counted (replyOf s
 
   -- and what is handed back is that value's: why it failed, or the seconds and as many entries as it has; from the first entry's place on they can be
   -- walked in order, and tracker::peer gives each by its number
-  pub reply-fields : (x : Answer ℕ) → replyPaper r ≡ taken x → (v : Value) (t : Told) → Encodes s v → IsReply v t
-      → (y : Answer (List Entry)) × (x ≡ counted y) × Shown s y t × (entriesIn x ≡ saidEntries t) × Walked s y
+  pub reply-fields : (x : Answer ℕ) → replyPaper r ≡ taken x → (v : Value) (t : ReplySays) → Encodes s v → IsReply v t
+      → (y : Answer (List PeerEntry)) × (x ≡ counted y) × ShowsReply s y t × (entriesIn x ≡ saidEntries t) × Walked s y
       × ((n : ℕ) (f : peer.Found) → peerPaper f ≡ then (replyOf s) (nthOf n) → peerPaper f ≡ nthOf n y)
   reply-fields x p v t e i =
       let y = replied (replyOf s) refl x p in
       let h = reply-every s v t (fine e) i in
       let q : taken (h .0) ≡ taken (y .0) = sym (h .1) ∙ y .1 in
       let z : h .0 ≡ y .0 = cc in
-      let w = subst (λ (a : Answer (List Entry)). Shown s a t) z (h .2) in
-      (y .0, y .2, w, ap entriesIn (y .2) ∙ entries-said s (y .0) t w, walked s (y .0) (y .1), λ n f d. d ∙ ap (λ (o : Outcome (Answer (List Entry))). then o (nthOf n)) (y .1))
+      let w = subst (λ (a : Answer (List PeerEntry)). ShowsReply s a t) z (h .2) in
+      (y .0, y .2, w, ap entriesIn (y .2) ∙ entries-said s (y .0) t w, walked s (y .0) (y .1), λ n f d. d ∙ ap (λ (o : Outcome (Answer (List PeerEntry))). then o (nthOf n)) (y .1))
 
 -- ---- 7. "What is written reads back": "Reading gives the fields back; rewriting a read text that has only those keys [..] gives its bytes."
 
@@ -282,7 +282,7 @@ reply-reads-back n bs o out r c q t =
     (w, d, (b .2 .0, ap replyOf w ∙ b .2 .1, ap (λ (k : List ℕ). take (length bs) (drop (b .2 .0) k)) w ∙ b .2 .2))
 
 -- a reply with only those keys, its peers a string, that is read: written from what was read it is that text again, wherever there is room
-pub reply-rewrite : (s : List ℕ) (v w : Value) → Encodes s (dict (entry interval v (entry peers w empty))) → (n p : ℕ) (l : List Entry) → replyOf s ≡ taken (compact n p l)
+pub reply-rewrite : (s : List ℕ) (v w : Value) → Encodes s (dict (entry interval v (entry peers w empty))) → (n p : ℕ) (l : List PeerEntry) → replyOf s ≡ taken (compact n p l)
     → (bs : List ℕ) × (take (length bs) (drop p s) ≡ bs) × (l ≡ sixes bs) × ((o : List ℕ) → replyWrite n bs o ≡ putOf s 0 o)
 reply-rewrite s v w e n p l d = reply-again s v w (fine e) n p l d
 
@@ -308,33 +308,33 @@ torrent-rewrite s a l n pl ps e x d = let b = again.rewrite s (topWith a (infoWi
 -- ---- 8. "The info hash is SHA-1 (FIPS 180-4) of info's bytes as they stand. A piece check answers yes exactly when the digests agree."
 
 -- of metainfo::info_hash
-pub info-hash : (s o out : List ℕ) (r : Hashed) → hashing (hashPaper r) out ≡ infoHashOf s o → (v : Value) (t : Said) → Encodes s v → IsTorrent v t
+pub info-hash : (s o out : List ℕ) (r : Hashed) → hashing (hashPaper r) out ≡ infoHashOf s o → (v : Value) (t : TorrentSays) → Encodes s v → IsTorrent v t
     → (hashPaper r ≡ taken tt) × (out ≡ sha1 (encode (dict (t .info))))
 info-hash s o out r c v t e i =
     let h = c ∙ torrents.info-hash s o v t (fine e) i in
     (ap (λ (x : Hashing). x .answer) h, ap (λ (x : Hashing). x .out) h)
 
 -- of contents::piece_hash: the hash of piece n is the n-th 20 bytes of pieces; beyond the last it is 31
-pub piece-hash : (s : List ℕ) (n : ℕ) (r : hash.Hash) → pieceHashPaper r ≡ pieceHashOf s n → (v : Value) (t : Said) → Encodes s v → IsTorrent v t
+pub piece-hash : (s : List ℕ) (n : ℕ) (r : hash.Hash) → pieceHashPaper r ≡ pieceHashOf s n → (v : Value) (t : TorrentSays) → Encodes s v → IsTorrent v t
     → (n < t .count → (x : Part) × (pieceHashPaper r ≡ taken x) × (bytesAt s x ≡ take 20 (drop (20 * n) (t .pieces)))) × (t .count ≤ n → pieceHashPaper r ≡ refused 31 0)
 piece-hash s n r c v t e i = let h = piece-hashed s n v t (fine e) i in (λ l. let x = h .0 l in (x .0, c ∙ x .1, x .2), λ l. c ∙ h .1 l)
 
 -- of contents::check_piece: yes exactly when the text is a torrent that has piece n, m is as long as that piece, and its digest is the n-th 20 bytes of pieces;
 -- no exactly when all of this holds but the last
 module _ (s : List ℕ) (n : ℕ) (m : List ℕ) (r : piece.Checked) (c : checkPaper r ≡ pieceOf s n m) where
-  abbrev pub IsPiece : Said → Type 0
+  abbrev pub IsPiece : TorrentSays → Type 0
   IsPiece t = (n < t .count) × (length m ≡ min (t .piece-length) (sum (lengthsIn (t .files)) - n * t .piece-length))
 
-  abbrev pub Agrees : Said → Type 0
+  abbrev pub Agrees : TorrentSays → Type 0
   Agrees t = sha1 m ≡ take 20 (drop (20 * n) (t .pieces))
 
-  pub piece-check : checkPaper r ≡ taken true ↔ ((v : Value) × (t : Said) × Encodes s v × IsTorrent v t × IsPiece t × Agrees t)
+  pub piece-check : checkPaper r ≡ taken true ↔ ((v : Value) × (t : TorrentSays) × Encodes s v × IsTorrent v t × IsPiece t × Agrees t)
   piece-check = (
     λ e. let h = piece-yes s n m (sym c ∙ e) in (h .0, h .1, encodes (h .2), h .3, (h .4, h .5), h .6),
     λ (v, t, e, i, p, a). c ∙ piece-tells s n m v t (fine e) i (p .0) (p .1) .0 a,
   )
 
-  pub piece-check-no : checkPaper r ≡ taken false ↔ ((v : Value) × (t : Said) × Encodes s v × IsTorrent v t × IsPiece t × (Agrees t → ⊥))
+  pub piece-check-no : checkPaper r ≡ taken false ↔ ((v : Value) × (t : TorrentSays) × Encodes s v × IsTorrent v t × IsPiece t × (Agrees t → ⊥))
   piece-check-no = (
     λ e. let h = piece-no s n m (sym c ∙ e) in (h .0, h .1, encodes (h .2), h .3, (h .4, h .5), h .6),
     λ (v, t, e, i, p, a). c ∙ piece-tells s n m v t (fine e) i (p .0) (p .1) .1 a,

@@ -4,3 +4,4 @@ pub mod Fitting
 pub mod Standing
 pub mod Seeking
 pub mod Determined
+pub mod Nth

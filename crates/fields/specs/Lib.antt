@@ -1,2 +1,4 @@
 pub mod Looks
 pub mod Values
+pub mod Causes
+pub mod Nth

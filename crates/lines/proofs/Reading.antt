@@ -35,9 +35,9 @@ use Rattle.metainfo.specs.declared.Content.{Content}
 use Rattle.metainfo.specs.declared.Torrent.{Torrent}
 use Rattle.metainfo.proofs.Naming.{no-way}
 use Rattle.metainfo.proofs.Filing.{file-next}
-use Rattle.lines.specs.Lines.{bytesIn, numberIn, found, within, Listed, filesIn, filesBy, filesOf, lengthsIn, escaped, joined, fileLine, fileLines, firstLine, filesWord, bytesWord, piecesWord, linesBy, refusedLine, torrentLines, valueLines, mostListed, mostPrinted, listingOf}
+use Rattle.lines.specs.Lines.{bytesIn, numberIn, found, within, Listed, filesIn, filesBy, filesOf, lengthsIn, escaped, slashed, fileLine, fileLines, firstLine, filesWord, bytesWord, piecesWord, linesBy, refusedLine, torrentLines, valueLines, mostListed, mostPrinted, listingOf}
 use Rattle.lines.specs.Lines as lines
-use Rattle.lines.specs.Places.{FilesAt}
+use Rattle.lines.specs.Places.{FilesPrinted}
 use Rattle.lines.proofs.Running.{escaped-most}
 use Rattle.lines.proofs.Fitting.{string-length, list-length, dict-length, has-room}
 use Rattle.lines.proofs.Taken.{provided-taken, must-taken, number-taken, list-taken, dictionary-taken, name-taken, found-any, found-is}
@@ -71,7 +71,7 @@ files-most s d p o (item v vs) ns t e h =
     let f : Listed = lines.fileIn v in
     let q : b .0 .next ≡ p + length (encode v) = file-next p v (b .0) (sym (b .1)) in
     let m = files-most s d (b .0 .next) (o + f .length) vs (c .0) (subst (λ (i : ℕ). StandItems s d i vs) (sym q) (n .1)) (c .1) (omega (arith, r .is, ap sum (c .2))) in
-    let j = joined (lists.map escaped (f .path)) in
+    let j = slashed (lists.map escaped (f .path)) in
     omega (
       arith,
       m,
@@ -101,7 +101,7 @@ found-none p es k e = found-any 0 p es k ∙ ap found e
 -- where the files of the torrent t, with this name, come from: one whose length is the total, or those of a list
 pub data Content′ (s : List ℕ) (fs : List Listed) (name : List ℕ) (c : Content) : Type 0 where
   alone : c .single ≡ true → c .files ≡ 1 → c .total ≤ longestFile → fs ≡ record { length = c .total; path = name ∷ [] } ∷ [] → Content′ s fs name c
-  several : c .single ≡ false → c .files ≤ mostFiles → c .total ≤ 281474976710656 → FilesAt s (c .place + 1) 0 (fileLines 0 fs) → c .place < length s
+  several : c .single ≡ false → c .files ≤ mostFiles → c .total ≤ 281474976710656 → FilesPrinted s (c .place + 1) 0 (fileLines 0 fs) → c .place < length s
       → c .files ≡ length fs → c .total ≡ sum (lengthsIn fs) → length (fileLines 0 fs) + 51 ≤ 3 * length s → Content′ s fs name c
 
 pub record Told (s : List ℕ) (info : Value) (t : Torrent) : Type 0 where
@@ -147,7 +147,7 @@ module _ (s : List ℕ) (d p : ℕ) (es : Entries) (deep : d ≤ 32) (t : StandE
           let small : 0 + sum (m .0) ≤ 281474976710656 = omega (arith, r .1) in
           let most = files-most s (u .0) (q + 1) 0 (a .0) (m .0) (u .2) (m .1) small in
           several (ap (λ (w : Content). w .single) (sym (m .2))) fc (omega arith)
-          (subst (λ (w : List Listed). FilesAt s (c .place + 1) 0 (fileLines 0 w)) (sym k) (subst (λ (w : ℕ). FilesAt s (w + 1) 0 (fileLines 0 (filesIn (a .0)))) (sym cp)
+          (subst (λ (w : List Listed). FilesPrinted s (c .place + 1) 0 (fileLines 0 w)) (sym k) (subst (λ (w : ℕ). FilesPrinted s (w + 1) 0 (fileLines 0 (filesIn (a .0)))) (sym cp)
           (record { deep = u .0; levels = omega (arith, u .1); items = a .0; stands = u .2; lengths = m .0; good = m .1; small = small; printed = refl })))
           (omega (arith, room s q (encode (list (a .0))) (st .rest) (st .inside) (st .text), list-length (a .0)))
           (cf ∙ sym (ap length (r .0)) ∙ mapped (filesIn (a .0)) ∙ ap length (sym k))
@@ -258,12 +258,12 @@ module _ (s name : List ℕ) (fs : List Listed) (c : Content) where
   alone-lines (alone a f n e) t = ap (fileLines 0) e ∙ lists.append-nil (fileLine 0 (record { length = c .total; path = name ∷ [] }))
   alone-lines (several a f n p i g m h) t = no-way (cc)
 
-  several-lines : Content′ s fs name c → c .single ≡ false → FilesAt s (c .place + 1) 0 (fileLines 0 fs) × (c .place < length s)
+  several-lines : Content′ s fs name c → c .single ≡ false → FilesPrinted s (c .place + 1) 0 (fileLines 0 fs) × (c .place < length s)
   several-lines (alone a f n e) t = no-way (cc)
   several-lines (several a f n p i g m h) t = (p, i)
 
   lines-most : length name + 18 ≤ length s → Content′ s fs name c → length (fileLines 0 fs) + 38 ≤ 3 * length s
-  unfolding joined decimalIn
+  unfolding slashed decimalIn
   lines-most k (alone a f n e) =
       omega (
         arith,
@@ -282,7 +282,7 @@ pub record Ready (s b : List ℕ) (t : Torrent) : Type 0 where
   pub most : length (listingOf s) ≤ mostPrinted
   pub alone-is : t .content .single ≡ true → firstOf t b ++ fileLine 0 (record { length = t .content .total; path = b ∷ [] }) ≡ listingOf s
   pub several-are : t .content .single ≡ false
-      → (w : List ℕ) × FilesAt s (t .content .place + 1) 0 w × (firstOf t b ++ w ≡ listingOf s) × (t .content .place < length s) × (length w ≤ 196608)
+      → (w : List ℕ) × FilesPrinted s (t .content .place + 1) 0 w × (firstOf t b ++ w ≡ listingOf s) × (t .content .place < length s) × (length w ≤ 196608)
 
 pub listing-torrent : (s : List ℕ) (v : Value) → length s ≤ mostListed → decode s ≡ taken v → listingOf s ≡ torrentLines v (torrentOf v)
 unfolding listingOf

@@ -1,5 +1,5 @@
 -- Runs of bytes one after the other, and loops that put them. Assumes nothing.
-use mathlib.Core.Path.{_≡_, refl, sym, ap, _∙_, subst}
+use mathlib.Core.Path.{_≡_, refl, sym, ap, _∙_}
 use mathlib.Core.Bool.{Bool, true, false, not}
 use mathlib.Core.List.{List, [], _∷_, _++_, map, append-assoc}
 use Prim.Native.Nat.{ℕ, _+_, _*_, _/_, _%_, _<_, _≤_}
@@ -8,28 +8,14 @@ use native.Mathlib.Numerals.{add-one}
 use borrow.Author.Tests.{lt-ltb, le-ltb, le-leb, lt-leb}
 use lib.Dec.{eqb}
 use lib.ListN.{length, getD, drop, length-append, drop-of-length-le}
-use lib.Seq.{sets, set-out, length-sets, drop-cons}
+use lib.Seq.{sets, set-out, drop-cons}
 use Rattle.refusal.proofs.Places.{sets-append}
 use Rattle.scalar.specs.Written.{decimal, decimalIn}
+use Rattle.writer.specs.Put.{Ran}
 use Rattle.writer.proofs.Decimals.{length-most}
-use Rattle.lines.specs.Lines.{plain, hexDigit, escapedByte, escaped, joined, filesWord, bytesWord, piecesWord, refusedWord, atWord}
-use Rattle.lines.specs.Runs.{Ran}
+use Rattle.lines.specs.Lines.{plain, hexDigit, escapedByte, escaped, slashed, filesWord, bytesWord, piecesWord, refusedWord, atWord}
 
--- ---- one run after another
-
-module _ {w : List ℕ} {at : ℕ} {o : List ℕ} {r : ℕ} {p : List ℕ} (h : Ran w at o r p) where
-  pub ran-length : length p ≡ length o
-  ran-length = ap length (h .out) ∙ length-sets o at w
-
-  pub ran-then : {x : List ℕ} {q : ℕ} {e : List ℕ} → Ran x r p q e → Ran (w ++ x) at o q e
-  ran-then {x} {q} {e} k = record {
-    place = omega (arith, h .place, k .place, length-append w x);
-    out = k .out ∙ ap (λ (i : ℕ). sets p i x) (h .place) ∙ ap (λ (l : List ℕ). sets l (at + length w) x) (h .out) ∙ sym (sets-append o at w x);
-  }
-
-  pub ran-as : {x : List ℕ} → w ≡ x → Ran x at o r p
-  ran-as e = subst (λ (l : List ℕ). Ran l at o r p) e h
-
+-- a byte past the output is counted and not stored
 pub ran-out : (b at : ℕ) (o : List ℕ) → length o ≤ at → Ran (b ∷ []) at o (at + 1) o
 ran-out b at o h = record { place = refl; out = sym (set-out o at b h) }
 
@@ -125,6 +111,6 @@ first-joined e f t q l =
     ap (λ (x : List ℕ). e ++ (32 ∷ x)) (append-assoc f filesWord ((t ++ bytesWord) ++ ((q ++ piecesWord) ++ (l ++ (10 ∷ []))))
     ∙ ap (λ (x : List ℕ). f ++ (filesWord ++ x)) (append-assoc t bytesWord ((q ++ piecesWord) ++ (l ++ (10 ∷ []))) ∙ ap (λ (x : List ℕ). t ++ (bytesWord ++ x)) (append-assoc q piecesWord (l ++ (10 ∷ [])))))
 
-pub only-joined : (n name : List ℕ) → (48 ∷ 32 ∷ []) ++ ((n ++ (32 ∷ [])) ++ (escaped name ++ (10 ∷ []))) ≡ decimal 0 ++ (32 ∷ (n ++ (32 ∷ (joined (map escaped (name ∷ [])) ++ (10 ∷ [])))))
-unfolding decimalIn joined
+pub only-joined : (n name : List ℕ) → (48 ∷ 32 ∷ []) ++ ((n ++ (32 ∷ [])) ++ (escaped name ++ (10 ∷ []))) ≡ decimal 0 ++ (32 ∷ (n ++ (32 ∷ (slashed (map escaped (name ∷ [])) ++ (10 ∷ [])))))
+unfolding decimalIn slashed
 only-joined n name = ap (λ (x : List ℕ). 48 ∷ 32 ∷ x) (append-assoc n (32 ∷ []) (escaped name ++ (10 ∷ [])))

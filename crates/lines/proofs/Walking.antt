@@ -30,10 +30,10 @@ use Rattle.metainfo.specs.Reading.{valueIn, fileAt}
 use Rattle.metainfo.specs.declared.File.{File}
 use Rattle.metainfo.proofs.Naming.{no-way}
 use Rattle.metainfo.proofs.Filing.{file-stands, file-next}
-use Rattle.lines.specs.Lines.{numberIn, itemsIn, elementsIn, filesIn, found, escaped, joined, fileLines}
+use Rattle.lines.specs.Lines.{numberIn, itemsIn, elementsIn, filesIn, found, escaped, slashed, fileLines}
 use Rattle.lines.specs.Lines as lines
-use Rattle.lines.specs.Runs.{far, Ran}
-use Rattle.lines.specs.Places.{marked, PathAt, FilesAt}
+use Rattle.writer.specs.Put.{Ran}
+use Rattle.lines.specs.Places.{marked, PathPrinted, FilesPrinted, far}
 use Rattle.lines.proofs.Running.{Going, going-start, going-more, going-end}
 use Rattle.lines.proofs.Fitting.{marked-most, has-room, list-length, dict-length}
 use Rattle.lines.proofs.Taken.{must-taken, number-taken, dictionary-taken, element-taken, path-taken, found-is}
@@ -41,8 +41,8 @@ use Rattle.lines.proofs.Taken.{must-taken, number-taken, dictionary-tak
 -- ---- paths
 
 -- a mark before each element, or one before all and "/" between them
-pub marked-joined : (m : ℕ) (x : List ℕ) (xs : List (List ℕ)) → m ∷ joined (lists.map escaped (x ∷ xs)) ≡ marked m (x ∷ xs)
-unfolding joined marked
+pub marked-joined : (m : ℕ) (x : List ℕ) (xs : List (List ℕ)) → m ∷ slashed (lists.map escaped (x ∷ xs)) ≡ marked m (x ∷ xs)
+unfolding slashed marked
 marked-joined m x [] = ap (λ (l : List ℕ). m ∷ l) (sym (lists.append-nil (escaped x)))
 marked-joined m x (y ∷ t) = ap (λ (l : List ℕ). m ∷ (escaped x ++ l)) (marked-joined 47 y t)
 
@@ -50,11 +50,11 @@ marked-joined m x (y ∷ t) = ap (λ (l : List ℕ). m ∷ (escaped x ++ l)) (ma
 pub record Element (s : List ℕ) (m : ℕ) (w : List ℕ) (p : ℕ) (x : Part) : Type 0 where
   pub rest : List ℕ
   pub whole : w ≡ m ∷ (escaped (take (x .len) (drop (x .from) s)) ++ rest)
-  pub next : PathAt s (x .from + x .len) 47 rest
+  pub next : PathPrinted s (x .from + x .len) 47 rest
   pub further : p < x .from + x .len
   pub inside : x .from + x .len ≤ length s
 
-module _ (s : List ℕ) (p m : ℕ) (w : List ℕ) (a : PathAt s p m w) where
+module _ (s : List ℕ) (p m : ℕ) (w : List ℕ) (a : PathPrinted s p m w) where
   pub path-more : (x : Part) → taken x ≡ stringOf s p → Element s m w p x
   unfolding elementsIn marked encode
   path-more x e = go (a .items) (a .stands) (a .good) (a .printed)
@@ -99,17 +99,17 @@ module _ (s : List ℕ) (p m : ℕ) (w : List ℕ) (a : PathAt s p m w) where
 -- where the loop over a path stands: of whatever path stands at `first`, what is left stands at p, and the rest is put
 pub record PathLeft (s : List ℕ) (at : ℕ) (o w : List ℕ) (p m to : ℕ) (out : List ℕ) : Type 0 where
   pub left : List ℕ
-  pub stands : PathAt s p m left
+  pub stands : PathPrinted s p m left
   pub going : Going w at o left to out
 
 abbrev pub PathGoing : List ℕ → ℕ → ℕ → List ℕ → ℕ → ℕ → ℕ → List ℕ → Type 0
-PathGoing s first at o p m to out = (w : List ℕ) → PathAt s first 32 w → PathLeft s at o w p m to out
+PathGoing s first at o p m to out = (w : List ℕ) → PathPrinted s first 32 w → PathLeft s at o w p m to out
 
 pub path-start : (s : List ℕ) (first at : ℕ) (o : List ℕ) → PathGoing s first at o first 32 at o
 path-start s first at o w a = record { left = w; stands = a; going = going-start w at o }
 
 module _ (s : List ℕ) (first at : ℕ) (o : List ℕ) (p m to : ℕ) (out : List ℕ) (g : PathGoing s first at o p m to out) where
-  pub path-done : (r q : ℕ) → refused r q ≡ stringOf s p → (w : List ℕ) → PathAt s first 32 w → Ran w at o to out
+  pub path-done : (r q : ℕ) → refused r q ≡ stringOf s p → (w : List ℕ) → PathPrinted s first 32 w → Ran w at o to out
   path-done r q e w a = let l = g w a in going-end w at o (l .going) (path-end s p m (l .left) (l .stands) r q e)
 
   module _ (x : Part) (e : taken x ≡ stringOf s p) where
@@ -122,13 +122,13 @@ module _ (s : List ℕ) (first at : ℕ) (o : List ℕ) (p m to : ℕ) (out : Li
         record { left = n .rest; stands = rw z (n .next); going = going-more w at o y (escaped b) (n .rest) refl k }
 
     -- the room that one path found is enough
-    pub path-room : (w : List ℕ) → PathAt s first 32 w → to + 1 + length (escaped (take (x .len) (drop (x .from) s))) ≤ at + length w
+    pub path-room : (w : List ℕ) → PathPrinted s first 32 w → to + 1 + length (escaped (take (x .len) (drop (x .from) s))) ≤ at + length w
     path-room w a =
         let l = g w a in
         let n = path-more s p m (l .left) (l .stands) x e in
         omega (arith, l .going .place, ap length (n .whole), length-append (escaped (take (x .len) (drop (x .from) s))) (n .rest))
 
-    pub path-further : (w : List ℕ) → PathAt s first 32 w → (p < x .from + x .len) × (x .from + x .len ≤ length s)
+    pub path-further : (w : List ℕ) → PathPrinted s first 32 w → (p < x .from + x .len) × (x .from + x .len ≤ length s)
     path-further w a = let l = g w a in let n = path-more s p m (l .left) (l .stands) x e in (n .further, n .inside)
 
 -- ---- files
@@ -138,8 +138,8 @@ pub record File′ (s : List ℕ) (p : ℕ) (v : Value) (f : File) : Type 0 wher
   pub small : f .length ≤ longestFile
   pub is : lines.fileIn v .length ≡ f .length
   pub path : List ℕ
-  pub stands : PathAt s (f .path) 32 path
-  pub printed : 32 ∷ joined (lists.map escaped (lines.fileIn v .path)) ≡ path
+  pub stands : PathPrinted s (f .path) 32 path
+  pub printed : 32 ∷ slashed (lists.map escaped (lines.fileIn v .path)) ≡ path
   pub most : length path + 30 ≤ 3 * length (encode v)
 
 pub file-read : (s : List ℕ) (d p : ℕ) (v : Value) → Stands s d p v → (f : File) → fileOf p v ≡ taken f → File′ s p v f
@@ -169,8 +169,8 @@ file-read s d p v t f e =
           is = ap (λ (w : Value). lines.fileIn w .length) i ∙ ap numberIn l ∙ len;
           path = marked 32 (elementsIn (item (k .0) (k .1)));
           stands = record { deep = z .0; items = item (k .0) (k .1); stands = subst (λ (q : ℕ). StandItems s (z .0) q (item (k .0) (k .1))) (sym at) (z .2); end = k .2; good = subst (λ (q : ℕ). elementsOf q (item (k .0) (k .1)) ≡ taken (k .2)) (sym at) (k .5); printed = refl };
-          printed = ap (λ (w : Value). 32 ∷ joined (lists.map escaped (lines.fileIn w .path))) i
-              ∙ ap (λ (w : Value). 32 ∷ joined (lists.map escaped (elementsIn (itemsIn w)))) r
+          printed = ap (λ (w : Value). 32 ∷ slashed (lists.map escaped (lines.fileIn w .path))) i
+              ∙ ap (λ (w : Value). 32 ∷ slashed (lists.map escaped (elementsIn (itemsIn w)))) r
               ∙ marked-joined 32 (lines.bytesIn (k .0)) (elementsIn (k .1));
           most = omega (
             arith,
@@ -190,13 +190,13 @@ no-file s d p t = ap (λ (l : List ℕ). then (valueIn (valueFrom 32 (length s) 
 -- the file at p, and what is left after it
 pub record Filing (s : List ℕ) (o : ℕ) (w : List ℕ) (p : ℕ) (f : File) : Type 0 where
   pub path : List ℕ
-  pub stands : PathAt s (f .path) 32 path
+  pub stands : PathPrinted s (f .path) 32 path
   pub rest : List ℕ
   pub whole : w ≡ (decimal o ++ (32 ∷ (decimal (f .length) ++ (path ++ (10 ∷ []))))) ++ rest
-  pub next : FilesAt s (f .next) (o + f .length) rest
+  pub next : FilesPrinted s (f .next) (o + f .length) rest
   pub small : o + f .length ≤ 281474976710656
 
-module _ (s : List ℕ) (p o : ℕ) (w : List ℕ) (a : FilesAt s p o w) where
+module _ (s : List ℕ) (p o : ℕ) (w : List ℕ) (a : FilesPrinted s p o w) where
   pub files-more : (f : File) → taken f ≡ fileAt s p → Filing s o w p f
   unfolding lengthsOf filesIn fileLines sum
   files-more f e = go (a .items) (a .stands) (a .good) (a .printed)
@@ -219,7 +219,7 @@ module _ (s : List ℕ) (p o : ℕ) (w : List ℕ) (a : FilesAt s p o w) where
             stands = r .stands;
             rest = fileLines (o + f .length) (filesIn vs);
             whole = h
-                ∙ ap (λ (i : ℕ). (decimal o ++ (32 ∷ (decimal i ++ (32 ∷ (joined (lists.map escaped (lines.fileIn v .path)) ++ (10 ∷ [])))))) ++ fileLines (o + i) (filesIn vs)) (r .is)
+                ∙ ap (λ (i : ℕ). (decimal o ++ (32 ∷ (decimal i ++ (32 ∷ (slashed (lists.map escaped (lines.fileIn v .path)) ++ (10 ∷ [])))))) ++ fileLines (o + i) (filesIn vs)) (r .is)
                 ∙ ap (λ (l : List ℕ). (decimal o ++ (32 ∷ (decimal (f .length) ++ (l ++ (10 ∷ []))))) ++ fileLines (o + f .length) (filesIn vs)) (r .printed);
             next = record { deep = a .deep; levels = a .levels; items = vs; stands = rw q (n .1); lengths = c .0; good = ap (λ (x : File). lengthsOf (x .next) vs) (sym j) ∙ c .1; small = y; printed = refl };
             small = omega arith;
@@ -240,29 +240,29 @@ module _ (s : List ℕ) (p o : ℕ) (w : List ℕ) (a : FilesAt s p o w) where
 -- where the loop over files stands, in the same way
 pub record FilesLeft (s : List ℕ) (at : ℕ) (o w : List ℕ) (p offset to : ℕ) (out : List ℕ) : Type 0 where
   pub left : List ℕ
-  pub stands : FilesAt s p offset left
+  pub stands : FilesPrinted s p offset left
   pub going : Going w at o left to out
 
 abbrev pub FilesGoing : List ℕ → ℕ → ℕ → List ℕ → ℕ → ℕ → ℕ → List ℕ → Type 0
-FilesGoing s first at o p offset to out = (w : List ℕ) → FilesAt s first 0 w → FilesLeft s at o w p offset to out
+FilesGoing s first at o p offset to out = (w : List ℕ) → FilesPrinted s first 0 w → FilesLeft s at o w p offset to out
 
 pub files-start : (s : List ℕ) (first at : ℕ) (o : List ℕ) → FilesGoing s first at o first 0 at o
 files-start s first at o w a = record { left = w; stands = a; going = going-start w at o }
 
 module _ (s : List ℕ) (first at : ℕ) (o : List ℕ) (p offset to : ℕ) (out : List ℕ) (g : FilesGoing s first at o p offset to out) where
-  pub files-done : (r q : ℕ) → refused r q ≡ fileAt s p → (w : List ℕ) → FilesAt s first 0 w → Ran w at o to out
+  pub files-done : (r q : ℕ) → refused r q ≡ fileAt s p → (w : List ℕ) → FilesPrinted s first 0 w → Ran w at o to out
   files-done r q e w a = let l = g w a in going-end w at o (l .going) (files-end s p offset (l .left) (l .stands) r q e)
 
   module _ (f : File) (e : taken f ≡ fileAt s p) where
-    pub files-again : (after : ℕ) → offset + f .length ≡ after → (r : ℕ) (out₁ : List ℕ) → ((x : List ℕ) → PathAt s (f .path) 32 x → Ran (decimal offset ++ (32 ∷ (decimal (f .length) ++ (x ++ (10 ∷ []))))) to out r out₁)
+    pub files-again : (after : ℕ) → offset + f .length ≡ after → (r : ℕ) (out₁ : List ℕ) → ((x : List ℕ) → PathPrinted s (f .path) 32 x → Ran (decimal offset ++ (32 ∷ (decimal (f .length) ++ (x ++ (10 ∷ []))))) to out r out₁)
         → FilesGoing s first at o (f .next) after r out₁
     files-again after k r out₁ h w a =
         let l = g w a in
         let n = files-more s p offset (l .left) (l .stands) f e in
-        record { left = n .rest; stands = subst (λ (q : ℕ). FilesAt s (f .next) q (n .rest)) k (n .next); going = going-more w at o (l .going) _ (n .rest) (n .whole) (h (n .path) (n .stands)) }
+        record { left = n .rest; stands = subst (λ (q : ℕ). FilesPrinted s (f .next) q (n .rest)) k (n .next); going = going-more w at o (l .going) _ (n .rest) (n .whole) (h (n .path) (n .stands)) }
 
     -- the room that the files found is enough for this one
-    pub files-room : (w : List ℕ) → FilesAt s first 0 w → at + length w + 60 ≤ far → (x : List ℕ) × PathAt s (f .path) 32 x × (to + length x + 60 ≤ far)
+    pub files-room : (w : List ℕ) → FilesPrinted s first 0 w → at + length w + 60 ≤ far → (x : List ℕ) × PathPrinted s (f .path) 32 x × (to + length x + 60 ≤ far)
     files-room w a h =
         let l = g w a in
         let n = files-more s p offset (l .left) (l .stands) f e in
@@ -272,5 +272,5 @@ module _ (s : List ℕ) (first at : ℕ) (o : List ℕ) (p offset to : ℕ) (out
         let m = length-append (decimal offset ++ (32 ∷ (decimal (f .length) ++ (n .path ++ (10 ∷ []))))) (n .rest) in
         (n .path, n .stands, omega (arith, l .going .place, ap length (n .whole)))
 
-    pub files-small : (w : List ℕ) → FilesAt s first 0 w → offset + f .length ≤ 281474976710656
+    pub files-small : (w : List ℕ) → FilesPrinted s first 0 w → offset + f .length ≤ 281474976710656
     files-small w a = let l = g w a in files-more s p offset (l .left) (l .stands) f e .small

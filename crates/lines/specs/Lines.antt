@@ -100,14 +100,14 @@ escaped [] = []
 escaped (b ∷ bs) = escapedByte b ++ escaped bs
 
 -- with "/" between each two
-unfoldable pub joined : List (List ℕ) → List ℕ
-joined [] = []
-joined (x ∷ []) = x
-joined (x ∷ y ∷ t) = x ++ (47 ∷ joined (y ∷ t))
+unfoldable pub slashed : List (List ℕ) → List ℕ
+slashed [] = []
+slashed (x ∷ []) = x
+slashed (x ∷ y ∷ t) = x ++ (47 ∷ slashed (y ∷ t))
 
 -- offset, length and path of a file, and a line feed
 abbrev pub fileLine : ℕ → Listed → List ℕ
-fileLine o f = decimal o ++ (32 ∷ (decimal (f .length) ++ (32 ∷ (joined (map escaped (f .path)) ++ (10 ∷ [])))))
+fileLine o f = decimal o ++ (32 ∷ (decimal (f .length) ++ (32 ∷ (slashed (map escaped (f .path)) ++ (10 ∷ [])))))
 
 -- one line a file: each begins where those before it end
 unfoldable pub fileLines : ℕ → List Listed → List ℕ

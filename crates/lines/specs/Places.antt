@@ -16,7 +16,7 @@ marked m [] = []
 marked m (x ∷ xs) = m ∷ (escaped x ++ marked 47 xs)
 
 -- at p stand the elements of a path, up to its end, which print as w after the mark m
-pub record PathAt (s : List ℕ) (p m : ℕ) (w : List ℕ) : Type 0 where
+pub record PathPrinted (s : List ℕ) (p m : ℕ) (w : List ℕ) : Type 0 where
   pub deep : ℕ
   pub items : Items
   pub stands : StandItems s deep p items
@@ -25,7 +25,7 @@ pub record PathAt (s : List ℕ) (p m : ℕ) (w : List ℕ) : Type 0 where
   pub printed : w ≡ marked m (elementsIn items)
 
 -- at p stand files, up to the end of their list, which print as w where the first has the content offset o
-pub record FilesAt (s : List ℕ) (p o : ℕ) (w : List ℕ) : Type 0 where
+pub record FilesPrinted (s : List ℕ) (p o : ℕ) (w : List ℕ) : Type 0 where
   pub deep : ℕ
   pub levels : deep ≤ 32
   pub items : Items
@@ -34,3 +34,7 @@ pub record FilesAt (s : List ℕ) (p o : ℕ) (w : List ℕ) : Type 0 where
   pub good : lengthsOf p items ≡ taken lengths
   pub small : o + sum lengths ≤ 281474976710656
   pub printed : w ≡ fileLines o (filesIn items)
+
+-- a place that no listing comes near
+abbrev pub far : ℕ
+far = 4398046511104

@@ -4,8 +4,8 @@ ghost use mathlib.Core.List.{List, [], _∷_, _++_};
 ghost use Prim.Native.Nat.{ℕ, _+_, _<_, _≤_};
 ghost use lib.ListN.{length};
 ghost use Rattle.scalar.specs.Written.{decimal};
-ghost use Rattle.lines.specs.Runs.{far, Ran};
-ghost use Rattle.lines.specs.Places.{PathAt, FilesAt};
+ghost use Rattle.writer.specs.Put.{Ran};
+ghost use Rattle.lines.specs.Places.{PathPrinted, FilesPrinted, far};
 use crate::ink;
 use fields::Bytes;
 use metainfo::File;
@@ -14,8 +14,8 @@ use refusal::Part;
 
 // The lines of the files of which the first stands at `first`: each begins where those before it end.
 pub fn many(text: &[u8], first: usize, out: &mut [u8], at: usize) -> usize
-    requires { ⌜ ((w : List ℕ) × FilesAt (now text) first 0 w × (at + length w + 60 ≤ far)) ⌝ }
-    ensures { λ r. ⌜ ((w : List ℕ) → FilesAt (now (text .entry)) first 0 w → Ran w at (now (out .entry)) r (now (out .exit))) ⌝ }
+    requires { ⌜ ((w : List ℕ) × FilesPrinted (now text) first 0 w × (at + length w + 60 ≤ far)) ⌝ }
+    ensures { λ r. ⌜ ((w : List ℕ) → FilesPrinted (now (text .entry)) first 0 w → Ran w at (now (out .entry)) r (now (out .exit))) ⌝ }
 {
     let mut p = first;
     let mut to = at;
@@ -34,8 +34,8 @@ pub fn many(text: &[u8], first: usize, out: &mut [u8], at: usize) -> usize
 
 // Offset, length and path of a file.
 fn line(text: &[u8], f: File, offset: u64, out: &mut [u8], at: usize) -> usize
-    requires { ⌜ ((w : List ℕ) × PathAt (now text) (f .path) 32 w × (at + length w + 60 ≤ far)) ⌝ }
-    ensures { λ r. ⌜ ((w : List ℕ) → PathAt (now (text .entry)) (f .path) 32 w → Ran (decimal offset ++ (32 ∷ (decimal (f .length) ++ (w ++ (10 ∷ []))))) at (now (out .entry)) r (now (out .exit))) ⌝ }
+    requires { ⌜ ((w : List ℕ) × PathPrinted (now text) (f .path) 32 w × (at + length w + 60 ≤ far)) ⌝ }
+    ensures { λ r. ⌜ ((w : List ℕ) → PathPrinted (now (text .entry)) (f .path) 32 w → Ran (decimal offset ++ (32 ∷ (decimal (f .length) ++ (w ++ (10 ∷ []))))) at (now (out .entry)) r (now (out .exit))) ⌝ }
 {
     let a = ink::numbered(out, at, offset, b" ");
     let b = ink::decimal(out, a, f.length);
@@ -45,8 +45,8 @@ fn line(text: &[u8], f: File, offset: u64, out: &mut [u8], at: usize) -> usize
 
 // A space and the elements of a path, of which the first stands at `first`, with "/" between them.
 fn path(text: &[u8], first: usize, out: &mut [u8], at: usize) -> usize
-    requires { ⌜ ((w : List ℕ) × PathAt (now text) first 32 w × (at + length w + 2 ≤ far)) ⌝ }
-    ensures { λ r. ⌜ ((w : List ℕ) → PathAt (now (text .entry)) first 32 w → Ran w at (now (out .entry)) r (now (out .exit))) ⌝ }
+    requires { ⌜ ((w : List ℕ) × PathPrinted (now text) first 32 w × (at + length w + 2 ≤ far)) ⌝ }
+    ensures { λ r. ⌜ ((w : List ℕ) → PathPrinted (now (text .entry)) first 32 w → Ran w at (now (out .entry)) r (now (out .exit))) ⌝ }
 {
     let mut p = first;
     let mut to = at;

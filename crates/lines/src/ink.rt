@@ -6,7 +6,8 @@ ghost use Prim.Native.Nat.{_+_, _<_, _≤_};
 ghost use lib.ListN.{length};
 ghost use Rattle.scalar.specs.Written.{decimal};
 ghost use Rattle.lines.specs.Lines.{plain, hexDigit, escapedByte, escaped};
-ghost use Rattle.lines.specs.Runs.{far, Ran};
+ghost use Rattle.lines.specs.Places.{far};
+ghost use Rattle.writer.specs.Put.{Ran};
 
 // One byte at a place: the place past it.
 pub fn byte(out: &mut [u8], at: usize, b: u8) -> usize

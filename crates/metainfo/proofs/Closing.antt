@@ -20,7 +20,8 @@ use Rattle.walk.proofs.Finding.{soughtOf, placeOf, seek-stands, entry-length, b
 use Rattle.fields.specs.Values.{listAt, must}
 use Rattle.fields.proofs.Seeking.{Left}
 use Rattle.metainfo.specs.declared.Known.{Known}
-use Rattle.metainfo.specs.Keys.{filesKey, lengthKey, nameKey, pieceLengthKey, piecesKey, Tells, stopOf, pastOf, soughtFrom}
+use Rattle.metainfo.specs.Keys.{filesKey, lengthKey, nameKey, pieceLengthKey, piecesKey, Tells, stopOf, pastOf}
+use Rattle.fields.specs.Looks.{soughtFrom}
 use Rattle.metainfo.specs.Rules.{lengthsOf}
 use Rattle.metainfo.specs.Reading.{listedTo, listingPaper, filesAt, running}
 use Rattle.metainfo.specs.Noted.{Goes, Noted}

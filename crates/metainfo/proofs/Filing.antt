@@ -24,13 +24,13 @@ use Rattle.walk.specs.declared.Sought.{Sought}
 use Rattle.walk.specs.declared.Sought.the-variants.{Found, Missing, Unread}
 use Rattle.walk.proofs.Standing.{list-stands, dictionary-stands, items-end, items-next, room, keeps-more, closes-none, closes-item}
 use Rattle.walk.proofs.Finding.{beyond}
-use Rattle.fields.specs.Looks.{endingAt, numberOf, listOf, dictionaryOf}
+use Rattle.fields.specs.Looks.{endingAt, numberOf, listOf, dictionaryOf, soughtFrom}
 use Rattle.fields.specs.Values.{naturalAt, listAt, dictionaryAt, must}
 use Rattle.fields.proofs.Standing.{number-is, list-is, dictionary-is}
 use Rattle.blocks.specs.Rules.{sum, largest}
 use Rattle.metainfo.specs.declared.File.{File}
 use Rattle.metainfo.specs.declared.Content.{Content}
-use Rattle.metainfo.specs.Keys.{lengthKey, pathKey, Tells, soughtFrom}
+use Rattle.metainfo.specs.Keys.{lengthKey, pathKey, Tells}
 use Rattle.metainfo.specs.Rules.{pathAt, fileIn, fileOf, lengthsOf, oneFile, manyFiles, contentOf}
 use Rattle.metainfo.specs.Reading.{valueIn, valueAt, fileAt, listedTo, filesAt, running, stopped}
 use Rattle.metainfo.proofs.Naming.{no-way}

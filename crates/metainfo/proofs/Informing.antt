@@ -16,13 +16,13 @@ use Rattle.walk.specs.Stands.{Stands, StandEntries}
 use Rattle.walk.specs.Lookup.{Under, nothing, under, lookup}
 use Rattle.walk.specs.declared.Sought.{Sought}
 use Rattle.walk.proofs.Standing.{dictionary-stands, fine-stands}
-use Rattle.fields.specs.Looks.{stringOf, dictionaryOf, needed}
+use Rattle.fields.specs.Looks.{stringOf, dictionaryOf, needed, soughtFrom}
 use Rattle.fields.specs.Values.{stringAt, must}
 use Rattle.fields.proofs.Standing.{string-is, dictionary-is}
 use Rattle.metainfo.specs.declared.Known.{Known}
 use Rattle.metainfo.specs.declared.Content.{Content}
 use Rattle.metainfo.specs.declared.Torrent.{Torrent}
-use Rattle.metainfo.specs.Keys.{announceKey, infoKey, filesKey, lengthKey, nameKey, pieceLengthKey, piecesKey, Tells, stopOf, valueOf, soughtFrom}
+use Rattle.metainfo.specs.Keys.{announceKey, infoKey, filesKey, lengthKey, nameKey, pieceLengthKey, piecesKey, Tells, stopOf, placeFound}
 use Rattle.metainfo.specs.Noted.{Noted}
 use Rattle.metainfo.specs.Rules.{nameAt, contentOf, pieceLengthAt, placeUnder, sizedOf, infoOf, infoAt, topOf, torrentOf}
 use Rattle.metainfo.specs.Reading.{stopped, readOf}
@@ -118,7 +118,7 @@ informed s d p first es l t e k h =
 pub pieces-asked : (s : List ℕ) (p : ℕ) (es : Entries) (k : Known) → Informed s p es k → needed p (seekPaper (k .pieces)) (stringOf s) ≡ must p (lookup (p + 1) es piecesKey) stringAt
 pieces-asked s p es k i = tells-needed s (i .deep) p stringAt (lookup (p + 1) es piecesKey) (k .pieces) (i .noted .pieces) (stringOf s) (λ q v t. string-is s (i .deep) q v t)
 
-pub pieces-place : (s : List ℕ) (p : ℕ) (es : Entries) (k : Known) → Informed s p es k → valueOf (k .pieces) ≡ placeUnder (lookup (p + 1) es piecesKey)
+pub pieces-place : (s : List ℕ) (p : ℕ) (es : Entries) (k : Known) → Informed s p es k → placeFound (k .pieces) ≡ placeUnder (lookup (p + 1) es piecesKey)
 pieces-place s p es k i = tells-place s (i .deep) (lookup (p + 1) es piecesKey) (k .pieces) (i .noted .pieces)
 
 -- ---- the whole
@@ -158,7 +158,7 @@ module _ (s : List ℕ) (d : ℕ) (before : Prev) (es : Entries) (levels : d ≤
         go nothing x = moved (g ∙ tells-needed s d 0 (λ q v. dictionaryOf s q) nothing i x (dictionaryOf s) (λ q v y. refl))
         go (under q v) x = by q v (tells-stands s d q v i x) (g ∙ tells-needed s d 0 (λ q v. dictionaryOf s q) (under q v) i x (dictionaryOf s) (λ q v y. refl))
 
-    pub top-read : (inside : ℕ) → taken inside ≡ needed 0 (seekPaper i) (dictionaryOf s) → (at : ℕ) → at ≡ valueOf i → (o : Outcome Torrent)
+    pub top-read : (inside : ℕ) → taken inside ≡ needed 0 (seekPaper i) (dictionaryOf s) → (at : ℕ) → at ≡ placeFound i → (o : Outcome Torrent)
         → ((d : ℕ) → (ws : Entries) → d ≤ 32 → Stands s d at (dict ws) → inside ≡ at + 1 → o ≡ infoOf b at ws) → o ≡ topOf es
     top-read inside g at v₀ o h = go (lookup 1 es infoKey) (told .1) ∙ onward
       where

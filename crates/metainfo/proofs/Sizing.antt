@@ -18,7 +18,7 @@ use Rattle.walk.specs.declared.Sought.{Sought}
 use Rattle.fields.specs.Looks.{naturalOf, needed}
 use Rattle.fields.specs.Values.{naturalAt, must}
 use Rattle.fields.proofs.Standing.{natural-is}
-use Rattle.metainfo.specs.Keys.{Tells, valueOf}
+use Rattle.metainfo.specs.Keys.{Tells, placeFound}
 use Rattle.metainfo.proofs.Naming.{no-way}
 use Rattle.metainfo.proofs.Telling.{tells-needed, tells-place}
 use Rattle.blocks.specs.Rules.{pieceLength, fileCount, piecesOf, totalAnd, largest}
@@ -85,7 +85,7 @@ module _ (s : List ℕ) (d D : ℕ) (u : Under) (w : Sought) (t : Tells s d u w)
       go nothing x = no-way (cc)
       go (under q v) x = rw (← x, h)
 
-  pub piece-bad : (n : ℕ) → taken n ≡ needed D (seekPaper w) (naturalOf longestPiece s) → pieceLength n ≡ false → refused 11 (valueOf w) ≡ must D u pieceLengthAt
+  pub piece-bad : (n : ℕ) → taken n ≡ needed D (seekPaper w) (naturalOf longestPiece s) → pieceLength n ≡ false → refused 11 (placeFound w) ≡ must D u pieceLengthAt
   piece-bad n e h = ap (λ (x : ℕ). refused 11 x) (tells-place s d u w t) ∙ go u (e ∙ asked)
     where
       go : (u : Under) → taken n ≡ must D u (naturalAt longestPiece) → refused 11 (placeUnder u) ≡ must D u pieceLengthAt

@@ -14,10 +14,10 @@ use Rattle.walk.specs.Lookup.{Under, nothing, under, lookup}
 use Rattle.walk.specs.declared.Sought.{Sought}
 use Rattle.walk.specs.declared.Sought.the-variants.{Found, Missing, Unread}
 use Rattle.walk.proofs.Finding.{Says, it-is, it-is-not, found-stands, placeOf}
-use Rattle.fields.specs.Looks.{needed}
+use Rattle.fields.specs.Looks.{needed, soughtFrom}
 use Rattle.fields.specs.Values.{must}
 use Rattle.fields.proofs.Seeking.{Left, Seeks, all-left, seeks}
-use Rattle.metainfo.specs.Keys.{Tells, stopOf, valueOf, soughtFrom}
+use Rattle.metainfo.specs.Keys.{Tells, stopOf, placeFound}
 use Rattle.metainfo.specs.Rules.{placeUnder}
 use Rattle.metainfo.proofs.Naming.{no-way}
 
@@ -60,7 +60,7 @@ module _ (s : List ℕ) (d : ℕ) where
   tells-read nothing (Missing i) t e = no-way (cc)
   tells-read nothing (Unread i) t e = absurd t
 
-  pub tells-place : (u : Under) (w : Sought) → Tells s d u w → valueOf w ≡ placeUnder u
+  pub tells-place : (u : Under) (w : Sought) → Tells s d u w → placeFound w ≡ placeUnder u
   tells-place (under q v) (Found i j) t = t .0
   tells-place (under q v) (Missing i) t = absurd t
   tells-place (under q v) (Unread i) t = absurd t

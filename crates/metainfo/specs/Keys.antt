@@ -1,11 +1,9 @@
 -- The keys that torrents have, byte by byte, and what a search for one tells. Assumes nothing: these are definitions.
+-- From `Tells` on they serve inner contracts alone and need not be believed: `tells-needed` and `tells-place` of metainfo/proofs/Telling.antt tie them to Rules.antt.
 use mathlib.Core.Path.{_≡_}
 use mathlib.Core.List.{List, [], _∷_}
-use Prim.Native.Nat.{ℕ, suc}
-use lib.ListN.{length}
-use Rattle.refusal.specs.Paper.{Outcome}
+use Prim.Native.Nat.{ℕ}
 use Rattle.bencode.specs.Value.{Value}
-use Rattle.walk.specs.Walk.{Hit, seekPaper, seekOf}
 use Rattle.walk.specs.Stands.{Stands}
 use Rattle.walk.specs.Lookup.{Under, nothing, under}
 use Rattle.walk.specs.declared.Sought.{Sought}
@@ -61,13 +59,10 @@ stopOf (Missing p) = p
 stopOf (Unread r) = r .place
 
 -- the place of the value that was found
-abbrev pub valueOf : Sought → ℕ
-valueOf (Found p q) = q
-valueOf (Missing p) = 0
-valueOf (Unread r) = 0
-
-abbrev pub soughtFrom : List ℕ → ℕ → List ℕ → Outcome Hit
-soughtFrom s p k = seekOf (suc (length s)) s p k
+abbrev pub placeFound : Sought → ℕ
+placeFound (Found p q) = q
+placeFound (Missing p) = 0
+placeFound (Unread r) = 0
 
 -- where the key after files is sought: past their list, if it was read
 abbrev pub pastOf : Sought → Listing → ℕ

@@ -1,4 +1,5 @@
 -- What one pass over info tells. Assumes nothing: these are definitions.
+-- They serve inner contracts alone and need not be believed: metainfo/proofs/Informing.antt ties them to Rules.antt.
 use mathlib.Core.Path.{_≡_}
 use mathlib.Core.List.{List}
 use Prim.Native.Nat.{ℕ, _+_}

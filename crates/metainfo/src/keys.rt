@@ -6,7 +6,7 @@ ghost use Rattle.refusal.specs.Paper.{taken};
 ghost use Rattle.bencode.specs.Value.{Entries, Prev, encodeEntries};
 ghost use Rattle.walk.specs.Walk.{pastPaper};
 ghost use Rattle.walk.specs.Stands.{StandEntries};
-ghost use Rattle.metainfo.specs.Keys.{stopOf, valueOf, pastOf};
+ghost use Rattle.metainfo.specs.Keys.{stopOf, placeFound, pastOf};
 ghost use Rattle.metainfo.specs.Noted.{Noted};
 use crate::Known;
 use crate::Listing;
@@ -28,7 +28,7 @@ pub fn stop(sought: Sought) -> usize
 
 // The place of the value that was found.
 pub fn value(sought: Sought) -> usize
-    ensures { λ r. ⌜ r ≡ valueOf sought ⌝ }
+    ensures { λ r. ⌜ r ≡ placeFound sought ⌝ }
 {
     match sought {
         Sought::Found(_, at) => at,

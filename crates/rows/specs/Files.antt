@@ -6,7 +6,7 @@ use Rattle.refusal.specs.Paper.{Outcome, taken, refused}
 use Rattle.refusal.specs.declared.Part.{Part}
 use Rattle.metainfo.specs.declared.File.{File}
 use Rattle.contents.specs.declared.Entry.{Entry}
-use Rattle.contents.specs.Paths.{Step, element, done}
+use Rattle.contents.specs.Paths.{PathStep, element, done}
 
 -- where it starts in the content, its length, the place of its path, and 1 for a single file
 abbrev pub fileDetail : Outcome Entry → List ℕ
@@ -19,7 +19,7 @@ walkedDetail (taken f) = f .length ∷ f .path ∷ f .next ∷ []
 walkedDetail (refused n p) = p ∷ 0 ∷ 0 ∷ []
 
 -- 1, an element's first byte and length, and the place of the next; or 0 and the place past the path
-abbrev pub elementDetail : Outcome Step → List ℕ
+abbrev pub elementDetail : Outcome PathStep → List ℕ
 elementDetail (taken (element x q)) = 1 ∷ x .from ∷ x .len ∷ q ∷ []
 elementDetail (taken (done q)) = 0 ∷ 0 ∷ 0 ∷ q ∷ []
 elementDetail (refused n p) = p ∷ 0 ∷ 0 ∷ 0 ∷ []

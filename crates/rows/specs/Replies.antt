@@ -3,7 +3,7 @@ use mathlib.Core.List.{List, [], _∷_}
 use Prim.Native.Nat.{ℕ}
 use Rattle.refusal.specs.Paper.{Outcome, taken, refused}
 use Rattle.tracker.specs.Reply.{Answer, failure, compact, listing}
-use Rattle.tracker.specs.Entries.{Entry, packed, listed, Step}
+use Rattle.tracker.specs.Entries.{PeerEntry, packed, listed, PeerStep}
 
 -- the form, and its first byte and length; or the form, the seconds to wait, how many entries, the first one's place
 abbrev pub replyWords : Answer ℕ → List ℕ
@@ -16,10 +16,10 @@ replyDetail (taken x) = replyWords x
 replyDetail (refused n p) = p ∷ 0 ∷ 0 ∷ 0 ∷ []
 
 -- an entry, and the place past it
-abbrev pub entryWords : Entry → ℕ → List ℕ
+abbrev pub entryWords : PeerEntry → ℕ → List ℕ
 entryWords (packed x) next = x .address .0 ∷ x .address .1 ∷ x .address .2 ∷ x .address .3 ∷ x .port ∷ next ∷ []
 entryWords (listed x) next = x .id .from ∷ x .id .len ∷ x .ip .from ∷ x .ip .len ∷ x .port ∷ next ∷ []
 
-abbrev pub entryDetail : Outcome Step → List ℕ
+abbrev pub entryDetail : Outcome PeerStep → List ℕ
 entryDetail (taken x) = entryWords (x .entry) (x .next)
 entryDetail (refused n p) = p ∷ 0 ∷ 0 ∷ 0 ∷ 0 ∷ 0 ∷ []

@@ -3,7 +3,7 @@ ghost use mathlib.Core.Path.{_≡_};
 ghost use mathlib.Core.Bool.{cond};
 ghost use mathlib.Core.List.{[], _∷_};
 ghost use Rattle.metainfo.specs.Reading.{filePaper as filedPaper};
-ghost use Rattle.contents.specs.Files.{filePaper};
+ghost use Rattle.contents.specs.Files.{foundPaper};
 ghost use Rattle.contents.specs.Paths.{elementPaper};
 ghost use Rattle.contents.specs.Pieces.{hashPaper, checkPaper as checkedPaper};
 ghost use Rattle.rows.specs.Said.{numberOf};
@@ -21,7 +21,7 @@ use metainfo::Filed;
 
 // The number of a file looked up by its number.
 pub fn file_number(f: Found) -> u64
-    ensures { λ r. ⌜ r ≡ numberOf (filePaper f) ⌝ }
+    ensures { λ r. ⌜ r ≡ numberOf (foundPaper f) ⌝ }
 {
     match f {
         Found::Is(_) => 0,
@@ -31,7 +31,7 @@ pub fn file_number(f: Found) -> u64
 
 // Where the file starts in the joined content, its length, the place of its path, and 1 for a single file or else 0; or the refusal's place.
 pub fn file_detail(f: Found) -> [u64; 4]
-    ensures { λ r. ⌜ r ≡ fileDetail (filePaper f) ⌝ }
+    ensures { λ r. ⌜ r ≡ fileDetail (foundPaper f) ⌝ }
 {
     match f {
         Found::Is(e) => entry_words(e),

@@ -12,7 +12,7 @@ use Rattle.walk.specs.Has.{Has}
 use Rattle.walk.proofs.Finding.{found-stands}
 use Rattle.walk.proofs.Having.{found-has, has-found}
 use Rattle.fields.specs.Values.{must}
-use Rattle.torrents.specs.Causes.{Lacks, missing, wrong}
+use Rattle.fields.specs.Causes.{Lacks, missing, wrong}
 use Rattle.torrents.proofs.Names.{no-way}
 
 -- the outcome o is taken exactly for what Is says, as Shows says, and refused exactly for what Fails says

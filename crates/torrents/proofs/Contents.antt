@@ -20,9 +20,10 @@ use Rattle.blocks.specs.Rules.{sum}
 use Rattle.metainfo.specs.Keys.{filesKey, lengthKey}
 use Rattle.metainfo.specs.Rules.{lengthsOf, oneFile, manyFiles, contentOf, placeUnder}
 use Rattle.metainfo.specs.declared.Content.{Content}
-use Rattle.torrents.specs.Torrent.{OneFile, Files, single, many, sizesOf, AreFiles, HasFiles, by-length, by-files}
+use Rattle.torrents.specs.Torrent.{OneFile, TorrentFiles, single, many, sizesOf, AreFiles, HasFiles, by-length, by-files}
 use Rattle.torrents.specs.Exact.{filesUnder, StandsAt, FilesAt, ShowsFiles}
-use Rattle.torrents.specs.Causes.{NoNumber, Length, NoFiles, NoFileList, no-file-list, bad-file, NoContent, neither, both, wrong-length, wrong-files}
+use Rattle.torrents.specs.Causes.{NoFiles, NoFileList, no-file-list, bad-file, NoContent, neither, both, wrong-length, wrong-files}
+use Rattle.fields.specs.Causes.{NoNumber, UpTo}
 use Rattle.torrents.proofs.Names.{no-way}
 use Rattle.torrents.proofs.Checks.{Checks, checks-refused, checks-as, checks-map}
 use Rattle.torrents.proofs.Values.{Number, Same, length-checks}
@@ -70,7 +71,7 @@ module _ (s : List ℕ) (e q : ℕ) where
 
 module _ (s : List ℕ) (e p : ℕ) (es : Entries) (t : StandEntries s e (p + 1) start es) (low : e ≤ 32) where
   -- the content that is handed back, and the place that a refusal of it names
-  abbrev pub ShownContent : Content → Files → Type 0
+  abbrev pub ShownContent : Content → TorrentFiles → Type 0
   ShownContent c fs = ShowsFiles s es c fs × (c .place ≡ placeUnder (lookup (p + 1) es (filesUnder fs)))
 
   -- what a key has is what is found under it
@@ -108,13 +109,13 @@ module _ (s : List ℕ) (e p : ℕ) (es : Entries) (t : StandEntries s e (p + 1)
     ap placeUnder (sym f),
   )
 
-  only-length : (q : ℕ) (v : Value) → lookup (p + 1) es lengthKey ≡ under q v → lookup (p + 1) es filesKey ≡ nothing → (n r : ℕ) → NoContent p es n r → NoNumber Length q v n r
+  only-length : (q : ℕ) (v : Value) → lookup (p + 1) es lengthKey ≡ under q v → lookup (p + 1) es filesKey ≡ nothing → (n r : ℕ) → NoContent p es n r → NoNumber (UpTo longestFile) q v n r
   only-length q v f g n r (neither h i) = no-way (cc)
   only-length q v f g n r (both a b c d h i) = no-way (cc)
   only-length q v f g n r (wrong-length a b m o h i j) =
       let x : a ≡ q = cc in
       let y : b ≡ v = cc in
-      subst (λ (z : ℕ). NoNumber Length z v m o) x (subst (λ (z : Value). NoNumber Length a z m o) y j)
+      subst (λ (z : ℕ). NoNumber (UpTo longestFile) z v m o) x (subst (λ (z : Value). NoNumber (UpTo longestFile) a z m o) y j)
   only-length q v f g n r (wrong-files a b m o h i j) = no-way (cc)
 
   only-files : (q : ℕ) (v : Value) → lookup (p + 1) es lengthKey ≡ nothing → lookup (p + 1) es filesKey ≡ under q v → (n r : ℕ) → NoContent p es n r → NoFileList q v n r
@@ -138,19 +139,19 @@ module _ (s : List ℕ) (e p : ℕ) (es : Entries) (t : StandEntries s e (p + 1)
   only-both q v o w f g n r (wrong-length a b m k h i j) = no-way (cc)
   only-both q v o w f g n r (wrong-files a b m k h i j) = no-way (cc)
 
-  neither-has : lookup (p + 1) es lengthKey ≡ nothing → lookup (p + 1) es filesKey ≡ nothing → (fs : Files) → HasFiles es fs → ⊥
+  neither-has : lookup (p + 1) es lengthKey ≡ nothing → lookup (p + 1) es filesKey ≡ nothing → (fs : TorrentFiles) → HasFiles es fs → ⊥
   neither-has f g fs (by-length n h i) = not-under lengthKey (int (pos n)) f (h .has)
   neither-has f g fs (by-files vs l h i j) = not-under filesKey (list vs) g h
 
-  both-have : (q : ℕ) (v : Value) (o : ℕ) (w : Value) → lookup (p + 1) es lengthKey ≡ under q v → lookup (p + 1) es filesKey ≡ under o w → (fs : Files) → HasFiles es fs → ⊥
+  both-have : (q : ℕ) (v : Value) (o : ℕ) (w : Value) → lookup (p + 1) es lengthKey ≡ under q v → lookup (p + 1) es filesKey ≡ under o w → (fs : TorrentFiles) → HasFiles es fs → ⊥
   both-have q v o w f g fs (by-length n h i) = i w (found-has (p + 1) es filesKey o w g)
   both-have q v o w f g fs (by-files vs l h i j) = j v (found-has (p + 1) es lengthKey q v f)
 
-  one-has : (q : ℕ) (v : Value) → lookup (p + 1) es lengthKey ≡ under q v → (fs : Files) → HasFiles es fs → (n : ℕ) × Number Length v n × ((c : Content) → ShownContent c (single n) → ShownContent c fs)
+  one-has : (q : ℕ) (v : Value) → lookup (p + 1) es lengthKey ≡ under q v → (fs : TorrentFiles) → HasFiles es fs → (n : ℕ) × Number (UpTo longestFile) v n × ((c : Content) → ShownContent c (single n) → ShownContent c fs)
   one-has q v f fs (by-length n h i) = (n, (same-under lengthKey q v (int (pos n)) f (h .has), h .small), λ c sh. sh)
   one-has q v f fs (by-files vs l h i j) = absurd (j v (found-has (p + 1) es lengthKey q v f))
 
-  many-have : (q : ℕ) (v : Value) → lookup (p + 1) es filesKey ≡ under q v → (fs : Files) → HasFiles es fs → (l : List OneFile) × Listed v l × ((c : Content) → ShownMany q c l → ShownContent c fs)
+  many-have : (q : ℕ) (v : Value) → lookup (p + 1) es filesKey ≡ under q v → (fs : TorrentFiles) → HasFiles es fs → (l : List OneFile) × Listed v l × ((c : Content) → ShownMany q c l → ShownContent c fs)
   many-have q v g fs (by-length n h i) = absurd (i v (found-has (p + 1) es filesKey q v g))
   many-have q v g fs (by-files vs l h i j) = (l, (vs, same-under filesKey q v (list vs) g h, i), λ c sh. subst (λ (z : Content). ShownContent z (many l)) (sym sh) (shown-many q v l g (vs, same-under filesKey q v (list vs) g h, i)))
 
@@ -162,7 +163,7 @@ module _ (s : List ℕ) (e p : ℕ) (es : Entries) (t : StandEntries s e (p + 1)
       go (under q v) f (under o w) g = checks-refused 10 p (HasFiles es) ShownContent (NoContent p es) (both-have q v o w f g) (both q v o w f g) (only-both q v o w f g)
       go (under q v) f nothing g =
           checks-as (HasFiles es) ShownContent (NoContent p es)
-          (checks-map (oneFile q) (naturalAt longestFile q v) (Number Length v) Same (λ c n. ShownContent c (single n)) (NoNumber Length q v) (length-checks longestFile q v)
+          (checks-map (oneFile q) (naturalAt longestFile q v) (Number (UpTo longestFile) v) Same (λ c n. ShownContent c (single n)) (NoNumber (UpTo longestFile) q v) (length-checks longestFile q v)
           (λ x n i sh. subst (λ (z : ℕ). ShownContent (oneFile q z) (single n)) (sym sh) (shown-one q n (f ∙ ap (under q) (i .0)))))
           (λ c n h sh. (single n, by-length n (length-has es n (v, found-has (p + 1) es lengthKey q v f, h)) (λ w z. not-under filesKey w g z), sh))
           (one-has q v f)

@@ -8,7 +8,7 @@ use Rattle.walk.specs.Has.{Has, here, there}
 use Rattle.walk.proofs.Having.{has-found}
 use Rattle.blocks.specs.Rules.{sum}
 use Rattle.metainfo.specs.Keys.{announceKey, infoKey, filesKey, lengthKey, nameKey, pathKey, pieceLengthKey, piecesKey}
-use Rattle.torrents.specs.Torrent.{RoundedUp, OneFile, Files, single, many, Said, lengthsIn, strings, IsFile, AreFiles, no-more, one-more, HasFiles, by-length, by-files, IsInfo, IsTorrent, is-torrent}
+use Rattle.torrents.specs.Torrent.{RoundedUp, OneFile, TorrentFiles, single, many, TorrentSays, lengthsIn, stringItems, IsFile, AreFiles, no-more, one-more, HasFiles, by-length, by-files, IsInfo, IsTorrent, is-torrent}
 use Rattle.torrents.proofs.Names.{no-way}
 use Rattle.torrents.proofs.Sizes.{rounded-one}
 
@@ -31,8 +31,8 @@ unfolding Keeps
 has-keeps es k v d before (here j w ds) h = h .1
 has-keeps es k v d before (there j w ds l u x) h = has-keeps ds l u d (last j) x (h .2)
 
-strings-tell : (l m : List (List ℕ)) → strings l ≡ strings m → l ≡ m
-unfolding strings
+strings-tell : (l m : List (List ℕ)) → stringItems l ≡ stringItems m → l ≡ m
+unfolding stringItems
 strings-tell [] [] e = refl
 strings-tell [] (bs ∷ m) e = no-way (cc)
 strings-tell (bs ∷ l) [] e = no-way (cc)
@@ -41,7 +41,7 @@ strings-tell (bs ∷ l) (cs ∷ m) e = let a : bs ≡ cs = cc in let b = strings
 one-file : (es : Entries) (d : ℕ) (f g : OneFile) → KeepsEntries es d start → IsFile es f → IsFile es g → f ≡ g
 one-file es d f g k h i =
     let a = one-number es d k lengthKey (f .size) (g .size) (h .has-length .has) (i .has-length .has) in
-    let b = strings-tell (f .path) (g .path) (one-list es d k pathKey (strings (f .path)) (strings (g .path)) (h .has-path .has) (i .has-path .has)) in
+    let b = strings-tell (f .path) (g .path) (one-list es d k pathKey (stringItems (f .path)) (stringItems (g .path)) (h .has-path .has) (i .has-path .has)) in
     made (f .size) (g .size) (f .path) (g .path) a b
   where
     made : (m n : ℕ) (l k : List (List ℕ)) → m ≡ n → l ≡ k → _≡_ {A = OneFile} (record { size = m; path = l }) (record { size = n; path = k })
@@ -64,7 +64,7 @@ unfolding Keeps
 entries-keep es d k = (k .0, k .2)
 
 module _ (es : Entries) (d : ℕ) (keeps : KeepsEntries es d start) where
-  one-content : (fs gs : Files) → HasFiles es fs → HasFiles es gs → fs ≡ gs
+  one-content : (fs gs : TorrentFiles) → HasFiles es fs → HasFiles es gs → fs ≡ gs
   one-content fs gs (by-length n h i) (by-length m j k) = ap single (one-number es d keeps lengthKey n m (h .has) (j .has))
   one-content fs gs (by-length n h i) (by-files vs l j k o) = absurd (i (list vs) j)
   one-content fs gs (by-files vs l j k o) (by-length n h i) = absurd (i (list vs) j)
@@ -73,7 +73,7 @@ module _ (es : Entries) (d : ℕ) (keeps : KeepsEntries es d start) where
       let x = list-keeps vs d (has-keeps es filesKey (list vs) d start j keeps) in
       ap many (same-files vs l m (x .0) (x .1) k (subst (λ (z : Items). AreFiles z m) (sym e) i))
 
-  one-info : (t u : Said) → IsInfo es t → IsInfo es u → (t .name ≡ u .name) × (t .piece-length ≡ u .piece-length) × (t .pieces ≡ u .pieces) × (t .count ≡ u .count) × (t .files ≡ u .files)
+  one-info : (t u : TorrentSays) → IsInfo es t → IsInfo es u → (t .name ≡ u .name) × (t .piece-length ≡ u .piece-length) × (t .pieces ≡ u .pieces) × (t .count ≡ u .count) × (t .files ≡ u .files)
   one-info t u h i =
       let p = one-number es d keeps pieceLengthKey (t .piece-length) (u .piece-length) (h .has-piece-length .has) (i .has-piece-length .has) in
       let f = one-content (t .files) (u .files) (h .has-files) (i .has-files) in (
@@ -84,15 +84,15 @@ module _ (es : Entries) (d : ℕ) (keeps : KeepsEntries es d start) where
         f,
       )
     where
-      counts : (m n : ℕ) (fs gs : Files) (j k : ℕ) → m ≡ n → fs ≡ gs → RoundedUp (sum (lengthsIn fs)) m j → RoundedUp (sum (lengthsIn gs)) n k → j ≡ k
+      counts : (m n : ℕ) (fs gs : TorrentFiles) (j k : ℕ) → m ≡ n → fs ≡ gs → RoundedUp (sum (lengthsIn fs)) m j → RoundedUp (sum (lengthsIn gs)) n k → j ≡ k
       counts m n fs gs j k e f a b =
-          rounded-one (sum (lengthsIn gs)) n j k (subst (λ (z : ℕ). RoundedUp (sum (lengthsIn gs)) z j) e (subst (λ (z : Files). RoundedUp (sum (lengthsIn z)) m j) f a)) b
+          rounded-one (sum (lengthsIn gs)) n j k (subst (λ (z : ℕ). RoundedUp (sum (lengthsIn gs)) z j) e (subst (λ (z : TorrentFiles). RoundedUp (sum (lengthsIn z)) m j) f a)) b
 
-made : (a b : List ℕ) (i j : Entries) (n m : List ℕ) (p q : ℕ) (x y : List ℕ) (c k : ℕ) (f g : Files) → a ≡ b → i ≡ j → n ≡ m → p ≡ q → x ≡ y → c ≡ k → f ≡ g
-    → _≡_ {A = Said} (record { announce = a; info = i; name = n; piece-length = p; pieces = x; count = c; files = f }) (record { announce = b; info = j; name = m; piece-length = q; pieces = y; count = k; files = g })
+made : (a b : List ℕ) (i j : Entries) (n m : List ℕ) (p q : ℕ) (x y : List ℕ) (c k : ℕ) (f g : TorrentFiles) → a ≡ b → i ≡ j → n ≡ m → p ≡ q → x ≡ y → c ≡ k → f ≡ g
+    → _≡_ {A = TorrentSays} (record { announce = a; info = i; name = n; piece-length = p; pieces = x; count = c; files = f }) (record { announce = b; info = j; name = m; piece-length = q; pieces = y; count = k; files = g })
 made a b i j n m p q x y c k f g e₁ e₂ e₃ e₄ e₅ e₆ e₇ = rw (e₁, e₂, e₃, e₄, e₅, e₆, e₇)
 
-one-said : (es : Entries) (d : ℕ) (t u : Said) → KeepsEntries es d start → Has es announceKey (str (t .announce)) → Has es announceKey (str (u .announce)) → Has es infoKey (dict (t .info)) → Has es infoKey (dict (u .info))
+one-said : (es : Entries) (d : ℕ) (t u : TorrentSays) → KeepsEntries es d start → Has es announceKey (str (t .announce)) → Has es announceKey (str (u .announce)) → Has es infoKey (dict (t .info)) → Has es infoKey (dict (u .info))
     → IsInfo (t .info) t → IsInfo (u .info) u → t ≡ u
 one-said es d t u k a b i j x y =
     let e : dict (t .info) ≡ dict (u .info) = one-value es d k infoKey (dict (t .info)) (dict (u .info)) i j in
@@ -103,7 +103,7 @@ one-said es d t u k a b i j x y =
     (one-string es d k announceKey (t .announce) (u .announce) a b) f (r .0) (r .1) (r .2) (r .3) (r .4)
 
 -- a value that keeps bencode's limits is a torrent in one way
-pub said-determined : (v : Value) (d : ℕ) (t u : Said) → Keeps v d → IsTorrent v t → IsTorrent v u → t ≡ u
+pub said-determined : (v : Value) (d : ℕ) (t u : TorrentSays) → Keeps v d → IsTorrent v t → IsTorrent v u → t ≡ u
 said-determined v d t u k (is-torrent es x a i h) y = go (dict es) refl k y
   where
     go : (w : Value) → w ≡ dict es → Keeps w d → IsTorrent w u → x ≡ u

@@ -20,14 +20,14 @@ use Rattle.walk.proofs.Finding.{same-refl}
 use Rattle.blocks.specs.Rules.{sum}
 use Rattle.metainfo.specs.Keys.{announceKey, infoKey, filesKey, lengthKey, nameKey, pathKey, pieceLengthKey, piecesKey}
 use Rattle.metainfo.specs.Rules.{goodName, clean}
-use Rattle.torrents.specs.Torrent.{GoodName, OneFile, IsFile, AreFiles, no-more, one-more, by-files, IsInfo, IsTorrent, is-torrent, sizesOf, strings}
+use Rattle.torrents.specs.Torrent.{GoodName, OneFile, IsFile, AreFiles, no-more, one-more, by-files, IsInfo, IsTorrent, is-torrent, sizesOf, stringItems}
 use Rattle.torrents.specs.Example.{text, pkg, fileA, fileB, fileC, fileEntries, files, info, value, says}
 use Rattle.torrents.proofs.Names.{no-way, good-is}
 use Rattle.torrents.proofs.Paths.{AllGood, more-good}
 
 -- the text is read as the value
 text-decodes : decode text ≡ taken value
-unfolding text strings decode valueFrom itemsOf entriesOf kindOf stringOf closedOf integerOf keyOf digitsVal digitsLen keyLt
+unfolding text stringItems decode valueFrom itemsOf entriesOf kindOf stringOf closedOf integerOf keyOf digitsVal digitsLen keyLt
 text-decodes = refl
 
 pub listing-fine : Fine text value

@@ -17,9 +17,10 @@ use Rattle.metainfo.specs.Keys.{lengthKey, pathKey}
 use Rattle.metainfo.specs.Rules.{pathAt, fileIn, fileOf, lengthsOf}
 use Rattle.metainfo.specs.declared.File.{File}
 use Rattle.metainfo.proofs.Filing.{file-stands}
-use Rattle.torrents.specs.Torrent.{strings, OneFile, sizesOf, HasLength, IsFile, AreFiles, no-more, one-more}
+use Rattle.torrents.specs.Torrent.{stringItems, OneFile, sizesOf, HasLength, IsFile, AreFiles, no-more, one-more}
 use Rattle.torrents.specs.Exact.{PathAt, FilesAt, none-left, file-at}
-use Rattle.torrents.specs.Causes.{Lacks, NoNumber, Length, NoPath, NoFile, no-dictionary, bad-length, bad-path, NoFiles, this-file, later-file}
+use Rattle.torrents.specs.Causes.{NoPath, NoFile, no-dictionary, bad-length, bad-path, NoFiles, this-file, later-file}
+use Rattle.fields.specs.Causes.{Lacks, NoNumber, UpTo}
 use Rattle.torrents.proofs.Names.{no-way}
 use Rattle.torrents.proofs.Checks.{Checks, checks-refused, checks-taken, checks-as, checks-then, checks-map, checks-last, checks-must}
 use Rattle.torrents.proofs.Values.{Number, Same, length-checks}
@@ -31,7 +32,7 @@ ShownFile s q x f = (x .length ≡ f .size) × (x .next ≡ q) × PathAt s (x .p
 
 -- a file length under its key
 abbrev pub LengthIs : Entries → ℕ → Type 0
-LengthIs es n = (v : Value) × Has es lengthKey v × Number Length v n
+LengthIs es n = (v : Value) × Has es lengthKey v × Number (UpTo longestFile) v n
 
 pub length-has : (es : Entries) (n : ℕ) → LengthIs es n → HasLength es n
 length-has es n h = record { has = subst (λ (v : Value). Has es lengthKey v) (h .2 .0) (h .1); small = h .2 .1 }
@@ -44,7 +45,7 @@ PathIs es l = (v : Value) × Has es pathKey v × Pathed v l
 
 -- why a dictionary is no file
 abbrev BadFile : ℕ → Entries → ℕ → ℕ → Type 0
-BadFile p es n q = Lacks p (lookup (p + 1) es lengthKey) (NoNumber Length) n q ⊎ ((m : ℕ) × LengthIs es m × Lacks p (lookup (p + 1) es pathKey) NoPath n q)
+BadFile p es n q = Lacks p (lookup (p + 1) es lengthKey) (NoNumber (UpTo longestFile)) n q ⊎ ((m : ℕ) × LengthIs es m × Lacks p (lookup (p + 1) es pathKey) NoPath n q)
 
 file-bad : (p : ℕ) (es : Entries) (n q : ℕ) → BadFile p es n q → NoFile p (dict es) n q
 file-bad p es n q (inl h) = bad-length es n q h
@@ -52,7 +53,7 @@ file-bad p es n q (inr h) = bad-path es (h .0) n q (length-has es (h .0) (h .1))
 
 bad-file : (p : ℕ) (es : Entries) (w : Value) → w ≡ dict es → (n q : ℕ) → NoFile p w n q → BadFile p es n q
 bad-file p es w e n q (no-dictionary u j) = absurd (j es e)
-bad-file p es w e n q (bad-length ds m r h) = let f : ds ≡ es = cc in inl (subst (λ (x : Entries). Lacks p (lookup (p + 1) x lengthKey) (NoNumber Length) m r) f h)
+bad-file p es w e n q (bad-length ds m r h) = let f : ds ≡ es = cc in inl (subst (λ (x : Entries). Lacks p (lookup (p + 1) x lengthKey) (NoNumber (UpTo longestFile)) m r) f h)
 bad-file p es w e n q (bad-path ds k m r g h) =
     let f : ds ≡ es = cc in
     inr (k, has-length es k (subst (λ (x : Entries). HasLength x k) f g), subst (λ (x : Entries). Lacks p (lookup (p + 1) x pathKey) NoPath m r) f h)
@@ -63,14 +64,14 @@ Filed v f = (es : Entries) × (v ≡ dict es) × IsFile es f
 
 module _ (s : List ℕ) where
   length-under : (e p d : ℕ) (es : Entries) → StandEntries s e p start es
-      → Checks (must d (lookup p es lengthKey) (naturalAt longestFile)) (LengthIs es) Same (Lacks d (lookup p es lengthKey) (NoNumber Length))
-  length-under e p d es t = checks-must s e p d es t lengthKey (naturalAt longestFile) (Number Length) Same (NoNumber Length) (λ q v u. length-checks longestFile q v)
+      → Checks (must d (lookup p es lengthKey) (naturalAt longestFile)) (LengthIs es) Same (Lacks d (lookup p es lengthKey) (NoNumber (UpTo longestFile)))
+  length-under e p d es t = checks-must s e p d es t lengthKey (naturalAt longestFile) (Number (UpTo longestFile)) Same (NoNumber (UpTo longestFile)) (λ q v u. length-checks longestFile q v)
 
   entries-checks : (e p q : ℕ) (es : Entries) → StandEntries s e (p + 1) start es → Checks (fileIn p q es) (IsFile es) (ShownFile s q) (NoFile p (dict es))
   entries-checks e p q es t =
       checks-as (IsFile es) (ShownFile s q) (NoFile p (dict es))
       (checks-then (must p (lookup (p + 1) es lengthKey) (naturalAt longestFile)) (λ n. then (must p (lookup (p + 1) es pathKey) pathAt) (λ a. taken (record { length = n; path = a; next = q })))
-      (LengthIs es) Same (Lacks p (lookup (p + 1) es lengthKey) (NoNumber Length)) (λ n. PathIs es) (λ n y l. ShownFile s q y (record { size = n; path = l })) (λ n. Lacks p (lookup (p + 1) es pathKey) NoPath)
+      (LengthIs es) Same (Lacks p (lookup (p + 1) es lengthKey) (NoNumber (UpTo longestFile))) (λ n. PathIs es) (λ n y l. ShownFile s q y (record { size = n; path = l })) (λ n. Lacks p (lookup (p + 1) es pathKey) NoPath)
       (length-under e (p + 1) p es t)
       (λ x n i sh. checks-last (λ a. record { length = x; path = a; next = q }) (must p (lookup (p + 1) es pathKey) pathAt) (PathIs es) (PathAt s) (λ y l. ShownFile s q y (record { size = n; path = l })) (Lacks p (lookup (p + 1) es pathKey) NoPath)
       (checks-must s e (p + 1) p es t pathKey pathAt Pathed (PathAt s) NoPath (λ o v u. path-checks s e o v u)) (λ a l j u. (sh, refl, u))))
@@ -82,7 +83,7 @@ module _ (s : List ℕ) where
         },
         sh,
       ))
-      (λ f h. ((f .size, f .path), (has-length es (f .size) (h .has-length), (list (strings (f .path)), h .has-path .has, (refl, h .has-path .some, h .has-path .good))), λ x sh. sh))
+      (λ f h. ((f .size, f .path), (has-length es (f .size) (h .has-length), (list (stringItems (f .path)), h .has-path .has, (refl, h .has-path .some, h .has-path .good))), λ x sh. sh))
       (file-bad p es)
       (bad-file p es (dict es) refl)
 

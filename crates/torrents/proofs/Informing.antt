@@ -20,9 +20,10 @@ use Rattle.metainfo.specs.Keys.{announceKey, infoKey, filesKey, lengthKey, name
 use Rattle.metainfo.specs.Rules.{nameAt, pieceLengthAt, contentOf, placeUnder, sizedOf, infoOf, infoAt, topOf, torrentOf}
 use Rattle.metainfo.specs.declared.Content.{Content}
 use Rattle.metainfo.specs.declared.Torrent.{Torrent}
-use Rattle.torrents.specs.Torrent.{Files, Said, lengthsIn, HasName, HasPieceLength, HasFiles, Sized, IsInfo, IsTorrent, is-torrent}
-use Rattle.torrents.specs.Exact.{filesUnder, Shows}
-use Rattle.torrents.specs.Causes.{Lacks, NoString, NoNumber, NoName, NoContent, BadSizes, NoInfo, info-name, info-piece-length, info-pieces, info-content, info-sizes, NoInfoAt, no-info-dictionary, no-info, NoTorrent, no-top, bad-announce, bad-info}
+use Rattle.torrents.specs.Torrent.{TorrentFiles, TorrentSays, lengthsIn, HasName, HasPieceLength, HasFiles, GoodSizes, IsInfo, IsTorrent, is-torrent}
+use Rattle.torrents.specs.Exact.{filesUnder, ShowsTorrent}
+use Rattle.torrents.specs.Causes.{NoName, NoContent, BadSizes, NoInfo, info-name, info-piece-length, info-pieces, info-content, info-sizes, NoInfoAt, no-info-dictionary, no-info, NoTorrent, no-top, bad-announce, bad-info}
+use Rattle.fields.specs.Causes.{Lacks, NoString, NoNumber}
 use Rattle.torrents.proofs.Names.{no-way}
 use Rattle.torrents.proofs.Checks.{Checks, checks-refused, checks-as, checks-is, checks-shows, checks-then, checks-must}
 use Rattle.torrents.proofs.Values.{Shown, string-checks, Number, Same, piece-checks, Named, name-checks}
@@ -30,7 +31,7 @@ use Rattle.torrents.proofs.Sizes.{sized-checks}
 use Rattle.torrents.proofs.Contents.{stands-at, ShownContent, content-checks}
 
 -- what info says, with announce
-abbrev pub saying : List ℕ → Entries → List ℕ → ℕ → List ℕ → Files → ℕ → Said
+abbrev pub saying : List ℕ → Entries → List ℕ → ℕ → List ℕ → TorrentFiles → ℕ → TorrentSays
 saying an es bs m hs fs k = record { announce = an; info = es; name = bs; piece-length = m; pieces = hs; count = k; files = fs }
 
 -- ---- one key
@@ -54,7 +55,7 @@ module _ (s : List ℕ) (e p d : ℕ) (es : Entries) (t : StandEntries s e p sta
 -- ---- info, whose dictionary stands at p; the part a is announce
 
 module _ (s : List ℕ) (e p : ℕ) (es : Entries) (t : StandEntries s e (p + 1) start es) (low : e ≤ 32) (whole : bytesAt s (record { from = p; len = length (encode (dict es)) }) ≡ encode (dict es)) (a : Part) (an : List ℕ) (first : bytesAt s a ≡ an) where
-  abbrev Sizes : ℕ → List ℕ → Files → ℕ → ℕ → Type 0
+  abbrev Sizes : ℕ → List ℕ → TorrentFiles → ℕ → ℕ → Type 0
   Sizes m hs fs = BadSizes (lengthsIn fs) m hs (placeUnder (lookup (p + 1) es (filesUnder fs))) (placeUnder (lookup (p + 1) es piecesKey))
 
   -- what is left after the name, the piece length, the pieces
@@ -68,7 +69,7 @@ module _ (s : List ℕ) (e p : ℕ) (es : Entries) (t : StandEntries s e (p + 1)
   second n = then (must p (lookup (p + 1) es pieceLengthKey) pieceLengthAt) (λ pl. third n pl)
 
   abbrev Fails4 : ℕ → List ℕ → ℕ → ℕ → Type 0
-  Fails4 m hs n q = NoContent p es n q ⊎ ((fs : Files) × HasFiles es fs × Sizes m hs fs n q)
+  Fails4 m hs n q = NoContent p es n q ⊎ ((fs : TorrentFiles) × HasFiles es fs × Sizes m hs fs n q)
 
   abbrev Fails3 : ℕ → ℕ → ℕ → Type 0
   Fails3 m n q = Lacks p (lookup (p + 1) es piecesKey) NoString n q ⊎ ((hs : List ℕ) × Has es piecesKey (str hs) × Fails4 m hs n q)
@@ -76,42 +77,42 @@ module _ (s : List ℕ) (e p : ℕ) (es : Entries) (t : StandEntries s e (p + 1)
   abbrev Fails2 : ℕ → ℕ → Type 0
   Fails2 n q = Lacks p (lookup (p + 1) es pieceLengthKey) (NoNumber PieceLength) n q ⊎ ((m : ℕ) × HasPieceLength es m × Fails3 m n q)
 
-  sizes : (n x : Part) (bs hs : List ℕ) (m : ℕ) (c : Content) (fs : Files) → Shown s n bs → Shown s x hs → PieceLength m → ShownContent s e p es t low c fs
-      → Checks (sizedOf a (record { from = p; len = length (encode (dict es)) }) n x (placeUnder (lookup (p + 1) es piecesKey)) m c) (Sized (lengthsIn fs) m hs) (λ y k. Shows s y (saying an es bs m hs fs k)) (Sizes m hs fs)
+  sizes : (n x : Part) (bs hs : List ℕ) (m : ℕ) (c : Content) (fs : TorrentFiles) → Shown s n bs → Shown s x hs → PieceLength m → ShownContent s e p es t low c fs
+      → Checks (sizedOf a (record { from = p; len = length (encode (dict es)) }) n x (placeUnder (lookup (p + 1) es piecesKey)) m c) (GoodSizes (lengthsIn fs) m hs) (λ y k. ShowsTorrent s y (saying an es bs m hs fs k)) (Sizes m hs fs)
   sizes n x bs hs m c fs hn hx w hc =
-      checks-shows (λ y k. Shows s y (saying an es bs m hs fs k))
-      (subst (λ (q : ℕ). Checks (sizedOf a (record { from = p; len = length (encode (dict es)) }) n x (placeUnder (lookup (p + 1) es piecesKey)) m c) (Sized (lengthsIn fs) m hs)
+      checks-shows (λ y k. ShowsTorrent s y (saying an es bs m hs fs k))
+      (subst (λ (q : ℕ). Checks (sizedOf a (record { from = p; len = length (encode (dict es)) }) n x (placeUnder (lookup (p + 1) es piecesKey)) m c) (GoodSizes (lengthsIn fs) m hs)
       (λ y k. y ≡ record { announce = a; info = record { from = p; len = length (encode (dict es)) }; name = n; pieces = x; «piece_length» = m; «piece_count» = k; content = c })
       (BadSizes (lengthsIn fs) m hs q (placeUnder (lookup (p + 1) es piecesKey)))) (hc .1)
       (sized-checks a (record { from = p; len = length (encode (dict es)) }) n x (placeUnder (lookup (p + 1) es piecesKey)) m c (lengthsIn fs) hs (hc .0 .files) (hc .0 .total) (hx .1) w))
-      (λ y k i h. subst (λ z. Shows s z (saying an es bs m hs fs k)) (sym h) (record { announce = first; info = whole; name = hn .0; pieces = hx .0; piece-length = refl; count = refl; files = hc .0 }))
+      (λ y k i h. subst (λ z. ShowsTorrent s z (saying an es bs m hs fs k)) (sym h) (record { announce = first; info = whole; name = hn .0; pieces = hx .0; piece-length = refl; count = refl; files = hc .0 }))
 
   after-pieces : (n x : Part) (bs hs : List ℕ) (m : ℕ) → Shown s n bs → Shown s x hs → PieceLength m
-      → Checks {M = Files × ℕ} (fourth n m x) (λ k. HasFiles es (k .0) × Sized (lengthsIn (k .0)) m hs (k .1)) (λ y k. Shows s y (saying an es bs m hs (k .0) (k .1))) (Fails4 m hs)
+      → Checks {M = TorrentFiles × ℕ} (fourth n m x) (λ k. HasFiles es (k .0) × GoodSizes (lengthsIn (k .0)) m hs (k .1)) (λ y k. ShowsTorrent s y (saying an es bs m hs (k .0) (k .1))) (Fails4 m hs)
   after-pieces n x bs hs m hn hx w =
       checks-then (contentOf p (lookup (p + 1) es lengthKey) (lookup (p + 1) es filesKey)) (λ c. sizedOf a (record { from = p; len = length (encode (dict es)) }) n x (placeUnder (lookup (p + 1) es piecesKey)) m c)
-      (HasFiles es) (ShownContent s e p es t low) (NoContent p es) (λ fs. Sized (lengthsIn fs) m hs) (λ fs y k. Shows s y (saying an es bs m hs fs k)) (Sizes m hs)
+      (HasFiles es) (ShownContent s e p es t low) (NoContent p es) (λ fs. GoodSizes (lengthsIn fs) m hs) (λ fs y k. ShowsTorrent s y (saying an es bs m hs fs k)) (Sizes m hs)
       (content-checks s e p es t low) (λ c fs i sh. sizes n x bs hs m c fs hn hx w sh)
 
-  abbrev Rest3 : ℕ → List ℕ × (Files × ℕ) → Type 0
-  Rest3 m k = Has es piecesKey (str (k .0)) × (HasFiles es (k .1 .0) × Sized (lengthsIn (k .1 .0)) m (k .0) (k .1 .1))
+  abbrev Rest3 : ℕ → List ℕ × (TorrentFiles × ℕ) → Type 0
+  Rest3 m k = Has es piecesKey (str (k .0)) × (HasFiles es (k .1 .0) × GoodSizes (lengthsIn (k .1 .0)) m (k .0) (k .1 .1))
 
   after-piece-length : (n : Part) (bs : List ℕ) (m : ℕ) → Shown s n bs → PieceLength m
-      → Checks (third n m) (Rest3 m) (λ y k. Shows s y (saying an es bs m (k .0) (k .1 .0) (k .1 .1))) (Fails3 m)
+      → Checks (third n m) (Rest3 m) (λ y k. ShowsTorrent s y (saying an es bs m (k .0) (k .1 .0) (k .1 .1))) (Fails3 m)
   after-piece-length n bs m hn w =
       checks-then (must p (lookup (p + 1) es piecesKey) stringAt) (λ x. fourth n m x) (λ hs. Has es piecesKey (str hs)) (Shown s) (Lacks p (lookup (p + 1) es piecesKey) NoString)
-      (λ hs k. HasFiles es (k .0) × Sized (lengthsIn (k .0)) m hs (k .1)) (λ hs y k. Shows s y (saying an es bs m hs (k .0) (k .1))) (Fails4 m)
+      (λ hs k. HasFiles es (k .0) × GoodSizes (lengthsIn (k .0)) m hs (k .1)) (λ hs y k. ShowsTorrent s y (saying an es bs m hs (k .0) (k .1))) (Fails4 m)
       (string-under s e (p + 1) p es t piecesKey) (λ x hs i sh. after-pieces n x bs hs m hn sh w)
 
-  abbrev Rest2 : ℕ × (List ℕ × (Files × ℕ)) → Type 0
+  abbrev Rest2 : ℕ × (List ℕ × (TorrentFiles × ℕ)) → Type 0
   Rest2 k = HasPieceLength es (k .0) × Rest3 (k .0) (k .1)
 
-  after-name : (n : Part) (bs : List ℕ) → Shown s n bs → Checks (second n) Rest2 (λ y k. Shows s y (saying an es bs (k .0) (k .1 .0) (k .1 .1 .0) (k .1 .1 .1))) Fails2
+  after-name : (n : Part) (bs : List ℕ) → Shown s n bs → Checks (second n) Rest2 (λ y k. ShowsTorrent s y (saying an es bs (k .0) (k .1 .0) (k .1 .1 .0) (k .1 .1 .1))) Fails2
   after-name n bs hn =
       checks-then (must p (lookup (p + 1) es pieceLengthKey) pieceLengthAt) (λ pl. third n pl) (HasPieceLength es) Same (Lacks p (lookup (p + 1) es pieceLengthKey) (NoNumber PieceLength))
-      Rest3 (λ m y k. Shows s y (saying an es bs m (k .0) (k .1 .0) (k .1 .1))) Fails3
+      Rest3 (λ m y k. ShowsTorrent s y (saying an es bs m (k .0) (k .1 .0) (k .1 .1))) Fails3
       (piece-under s e (p + 1) p es t)
-      (λ pl m i sh. subst (λ (z : ℕ). Checks (third n z) (Rest3 m) (λ y k. Shows s y (saying an es bs m (k .0) (k .1 .0) (k .1 .1))) (Fails3 m)) (sym sh) (after-piece-length n bs m hn (i .power)))
+      (λ pl m i sh. subst (λ (z : ℕ). Checks (third n z) (Rest3 m) (λ y k. ShowsTorrent s y (saying an es bs m (k .0) (k .1 .0) (k .1 .1))) (Fails3 m)) (sym sh) (after-piece-length n bs m hn (i .power)))
 
   abbrev Fails1 : ℕ → ℕ → Type 0
   Fails1 n q = Lacks p (lookup (p + 1) es nameKey) NoName n q ⊎ ((bs : List ℕ) × HasName es bs × Fails2 n q)
@@ -131,15 +132,15 @@ module _ (s : List ℕ) (e p : ℕ) (es : Entries) (t : StandEntries s e (p + 1)
   bad-by n q (info-sizes bs m hs fs o r i j k l h) = inr (bs, i, inr (m, j, inr (hs, k, inr (fs, l, h))))
 
   -- what is said is said of this dictionary, with this announce
-  abbrev pub InfoSays : Said → Type 0
+  abbrev pub InfoSays : TorrentSays → Type 0
   InfoSays x = (x .info ≡ es) × (x .announce ≡ an) × IsInfo es x
 
-  pub info-checks : Checks (infoOf a p es) InfoSays (Shows s) (NoInfo p es)
+  pub info-checks : Checks (infoOf a p es) InfoSays (ShowsTorrent s) (NoInfo p es)
   unfolding infoOf
   info-checks =
-      checks-as InfoSays (Shows s) (NoInfo p es)
+      checks-as InfoSays (ShowsTorrent s) (NoInfo p es)
       (checks-then (must p (lookup (p + 1) es nameKey) nameAt) (λ n. second n) (HasName es) (Shown s) (Lacks p (lookup (p + 1) es nameKey) NoName)
-      (λ bs. Rest2) (λ bs y k. Shows s y (saying an es bs (k .0) (k .1 .0) (k .1 .1 .0) (k .1 .1 .1))) (λ bs. Fails2)
+      (λ bs. Rest2) (λ bs y k. ShowsTorrent s y (saying an es bs (k .0) (k .1 .0) (k .1 .1 .0) (k .1 .1 .1))) (λ bs. Fails2)
       (name-under s e (p + 1) p es t) (λ n bs i sh. after-name n bs sh))
       (λ y k h sh. (
         saying an es (k .0) (k .1 .0) (k .1 .1 .0) (k .1 .1 .1 .0) (k .1 .1 .1 .1),
@@ -149,31 +150,31 @@ module _ (s : List ℕ) (e p : ℕ) (es : Entries) (t : StandEntries s e (p + 1)
       (λ x h. (
         (x .name, (x .piece-length, (x .pieces, (x .files, x .count)))),
         (h .2 .has-name, (h .2 .has-piece-length, (h .2 .has-pieces, (h .2 .has-files, h .2 .sized)))),
-        λ y sh. subst (λ (z : List ℕ). Shows s y (saying z (x .info) (x .name) (x .piece-length) (x .pieces) (x .files) (x .count))) (sym (h .1))
-            (subst (λ (z : Entries). Shows s y (saying an z (x .name) (x .piece-length) (x .pieces) (x .files) (x .count))) (sym (h .0)) sh),
+        λ y sh. subst (λ (z : List ℕ). ShowsTorrent s y (saying z (x .info) (x .name) (x .piece-length) (x .pieces) (x .files) (x .count))) (sym (h .1))
+            (subst (λ (z : Entries). ShowsTorrent s y (saying an z (x .name) (x .piece-length) (x .pieces) (x .files) (x .count))) (sym (h .0)) sh),
       ))
       info-bad bad-by
 
 -- ---- the value under info
 
-abbrev InfoIs : List ℕ → Value → Said → Type 0
+abbrev InfoIs : List ℕ → Value → TorrentSays → Type 0
 InfoIs an v x = (v ≡ dict (x .info)) × (x .announce ≡ an) × IsInfo (x .info) x
 
 module _ (s : List ℕ) (a : Part) (an : List ℕ) (first : bytesAt s a ≡ an) where
-  not-info : (q : ℕ) (v : Value) → ((es : Entries) → v ≡ dict es → ⊥) → Checks (refused 10 q) (InfoIs an v) (Shows s) (NoInfoAt q v)
-  not-info q v h = checks-refused 10 q (InfoIs an v) (Shows s) (NoInfoAt q v) (λ x i. h (x .info) (i .0)) (no-info-dictionary v h) (only-kind v h)
+  not-info : (q : ℕ) (v : Value) → ((es : Entries) → v ≡ dict es → ⊥) → Checks (refused 10 q) (InfoIs an v) (ShowsTorrent s) (NoInfoAt q v)
+  not-info q v h = checks-refused 10 q (InfoIs an v) (ShowsTorrent s) (NoInfoAt q v) (λ x i. h (x .info) (i .0)) (no-info-dictionary v h) (only-kind v h)
     where
       only-kind : (w : Value) → ((es : Entries) → w ≡ dict es → ⊥) → (n p : ℕ) → NoInfoAt q w n p → (n ≡ 10) × (p ≡ q)
       only-kind w i n p (no-info-dictionary u j) = (refl, refl)
       only-kind w i n p (no-info es m r j) = absurd (i es refl)
 
-  value-checks : (d q : ℕ) (v : Value) → d ≤ 32 → Stands s d q v → Checks (infoAt a q v) (InfoIs an v) (Shows s) (NoInfoAt q v)
+  value-checks : (d q : ℕ) (v : Value) → d ≤ 32 → Stands s d q v → Checks (infoAt a q v) (InfoIs an v) (ShowsTorrent s) (NoInfoAt q v)
   value-checks d q (str bs) low t = not-info q (str bs) (λ es f. no-way (cc))
   value-checks d q (int z) low t = not-info q (int z) (λ es f. no-way (cc))
   value-checks d q (list vs) low t = not-info q (list vs) (λ es f. no-way (cc))
   value-checks d q (dict es) low t =
       let g = dictionary-stands s d q es t .1 in
-      checks-as (InfoIs an (dict es)) (Shows s) (NoInfoAt q (dict es)) (info-checks s (g .0) q es (g .2) (omega (arith, g .1)) (stands-at s d q (dict es) t) a an first)
+      checks-as (InfoIs an (dict es)) (ShowsTorrent s) (NoInfoAt q (dict es)) (info-checks s (g .0) q es (g .2) (omega (arith, g .1)) (stands-at s d q (dict es) t) a an first)
       (λ y x h sh. (x, (ap dict (sym (h .0)), h .1, subst (λ (z : Entries). IsInfo z x) (sym (h .0)) (h .2)), sh))
       (λ x h. let i = h .0 in let j : x .info ≡ es = cc in (x, (j, h .1, subst (λ (z : Entries). IsInfo z x) j (h .2)), λ y sh. sh))
       (λ n p h. no-info es n p h)
@@ -200,36 +201,36 @@ bad-top es w f n q (bad-info ds bs m r h j) =
     inr (bs, subst (λ (z : Entries). Has z announceKey (str bs)) i h, subst (λ (z : Entries). Lacks 0 (lookup 1 z infoKey) NoInfoAt m r) i j)
 
 -- what is said, by announce and info
-abbrev Parts : Entries → List ℕ × Said → Type 0
+abbrev Parts : Entries → List ℕ × TorrentSays → Type 0
 Parts es k = Has es announceKey (str (k .0)) × ((v : Value) × Has es infoKey v × InfoIs (k .0) v (k .1))
 
-parts-are : (es : Entries) (k : List ℕ × Said) → Parts es k → IsTorrent (dict es) (k .1)
+parts-are : (es : Entries) (k : List ℕ × TorrentSays) → Parts es k → IsTorrent (dict es) (k .1)
 parts-are es k h =
     is-torrent es (k .1) (subst (λ (bs : List ℕ). Has es announceKey (str bs)) (sym (h .1 .2 .1)) (h .0)) (subst (λ (v : Value). Has es infoKey v) (h .1 .2 .0) (h .1 .1)) (h .1 .2 .2)
 
-are-parts : (es : Entries) (w : Value) → w ≡ dict es → (x : Said) → IsTorrent w x → Parts es (x .announce, x)
+are-parts : (es : Entries) (w : Value) → w ≡ dict es → (x : TorrentSays) → IsTorrent w x → Parts es (x .announce, x)
 are-parts es w f x (is-torrent ds y h i j) =
     let k : ds ≡ es = cc in
     (subst (λ (z : Entries). Has z announceKey (str (y .announce))) k h, (dict (y .info), subst (λ (z : Entries). Has z infoKey (dict (y .info))) k i, (refl, refl, j)))
 
 module _ (s : List ℕ) where
-  top-checks : (e : ℕ) (es : Entries) → e ≤ 32 → StandEntries s e 1 start es → Checks (topOf es) (IsTorrent (dict es)) (Shows s) (NoTorrent (dict es))
+  top-checks : (e : ℕ) (es : Entries) → e ≤ 32 → StandEntries s e 1 start es → Checks (topOf es) (IsTorrent (dict es)) (ShowsTorrent s) (NoTorrent (dict es))
   unfolding topOf
   top-checks e es low t =
-      checks-as (IsTorrent (dict es)) (Shows s) (NoTorrent (dict es))
+      checks-as (IsTorrent (dict es)) (ShowsTorrent s) (NoTorrent (dict es))
       (checks-then (must 0 (lookup 1 es announceKey) stringAt) (λ a. must 0 (lookup 1 es infoKey) (infoAt a)) (λ bs. Has es announceKey (str bs)) (Shown s) (Lacks 0 (lookup 1 es announceKey) NoString)
-      (λ an x. (v : Value) × Has es infoKey v × InfoIs an v x) (λ an. Shows s) (λ an. Lacks 0 (lookup 1 es infoKey) NoInfoAt)
+      (λ an x. (v : Value) × Has es infoKey v × InfoIs an v x) (λ an. ShowsTorrent s) (λ an. Lacks 0 (lookup 1 es infoKey) NoInfoAt)
       (string-under s e 1 0 es t announceKey)
-      (λ a an i sh. checks-must s e 1 0 es t infoKey (infoAt a) (InfoIs an) (Shows s) NoInfoAt (λ q v u. value-checks s a an (sh .0) e q v low u)))
+      (λ a an i sh. checks-must s e 1 0 es t infoKey (infoAt a) (InfoIs an) (ShowsTorrent s) NoInfoAt (λ q v u. value-checks s a an (sh .0) e q v low u)))
       (λ y k h sh. (k .1, parts-are es k h, sh))
       (λ x h. ((x .announce, x), are-parts es (dict es) refl x h, λ y sh. sh))
       (top-bad es)
       (bad-top es (dict es) refl)
 
-  not-torrent : (v : Value) → ((es : Entries) → v ≡ dict es → ⊥) → Checks (refused 10 0) (IsTorrent v) (Shows s) (NoTorrent v)
-  not-torrent v h = checks-refused 10 0 (IsTorrent v) (Shows s) (NoTorrent v) (none v h) (no-top v h) (only-kind v h)
+  not-torrent : (v : Value) → ((es : Entries) → v ≡ dict es → ⊥) → Checks (refused 10 0) (IsTorrent v) (ShowsTorrent s) (NoTorrent v)
+  not-torrent v h = checks-refused 10 0 (IsTorrent v) (ShowsTorrent s) (NoTorrent v) (none v h) (no-top v h) (only-kind v h)
     where
-      none : (w : Value) → ((es : Entries) → w ≡ dict es → ⊥) → (x : Said) → IsTorrent w x → ⊥
+      none : (w : Value) → ((es : Entries) → w ≡ dict es → ⊥) → (x : TorrentSays) → IsTorrent w x → ⊥
       none w i x (is-torrent es y j k l) = i es refl
 
       only-kind : (w : Value) → ((es : Entries) → w ≡ dict es → ⊥) → (n p : ℕ) → NoTorrent w n p → (n ≡ 10) × (p ≡ 0)
@@ -237,7 +238,7 @@ module _ (s : List ℕ) where
       only-kind w i n p (bad-announce es m r j) = absurd (i es refl)
       only-kind w i n p (bad-info es bs m r k j) = absurd (i es refl)
 
-  pub torrent-checks : (v : Value) → Stands s 32 0 v → Checks (torrentOf v) (IsTorrent v) (Shows s) (NoTorrent v)
+  pub torrent-checks : (v : Value) → Stands s 32 0 v → Checks (torrentOf v) (IsTorrent v) (ShowsTorrent s) (NoTorrent v)
   unfolding torrentOf
   torrent-checks (str bs) t = not-torrent (str bs) (λ es f. no-way (cc))
   torrent-checks (int z) t = not-torrent (int z) (λ es f. no-way (cc))

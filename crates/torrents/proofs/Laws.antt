@@ -24,7 +24,7 @@ use Rattle.metainfo.specs.Hashes.{infoHashOf}
 use Rattle.metainfo.specs.declared.Torrent.{Torrent}
 use Rattle.metainfo.proofs.Exact as rules
 use Rattle.metainfo.proofs.Hashing as hashing
-use Rattle.torrents.specs.Torrent.{Said, IsTorrent}
+use Rattle.torrents.specs.Torrent.{TorrentSays, IsTorrent}
 use Rattle.torrents.specs.Exact.{TorrentExact}
 use Rattle.torrents.specs.Causes.{NoTorrentText}
 use Rattle.torrents.proofs.Informing.{torrent-checks}
@@ -38,16 +38,16 @@ torrent-exact s = record {
 }
 
 -- the info hash of a torrent is SHA-1 of info's dictionary as it is written
-pub info-hash : (s o : List ℕ) (v : Value) (t : Said) → Fine s v → IsTorrent v t → infoHashOf s o ≡ left (taken tt) (sha1 (encode (dict (t .info))))
+pub info-hash : (s o : List ℕ) (v : Value) (t : TorrentSays) → Fine s v → IsTorrent v t → infoHashOf s o ≡ left (taken tt) (sha1 (encode (dict (t .info))))
 info-hash s o v t f i =
     let h = torrent-exact s .every v t f i in
     hashing.info-hash s o (h .0) (h .1) ∙ ap (λ (bs : List ℕ). left (taken tt) (sha1 bs)) (h .2 .info)
 
 -- the calls for announce and the name hand back what is said
-pub announce-said : (s : List ℕ) (v : Value) (t : Said) → Fine s v → IsTorrent v t → bytesAt s (announceIn (readOf s)) ≡ t .announce
+pub announce-said : (s : List ℕ) (v : Value) (t : TorrentSays) → Fine s v → IsTorrent v t → bytesAt s (announceIn (readOf s)) ≡ t .announce
 announce-said s v t f i = let h = torrent-exact s .every v t f i in ap (λ (o : Outcome Torrent). bytesAt s (announceIn o)) (h .1) ∙ h .2 .announce
 
-pub name-said : (s : List ℕ) (v : Value) (t : Said) → Fine s v → IsTorrent v t → bytesAt s (nameIn (readOf s)) ≡ t .name
+pub name-said : (s : List ℕ) (v : Value) (t : TorrentSays) → Fine s v → IsTorrent v t → bytesAt s (nameIn (readOf s)) ≡ t .name
 name-said s v t f i = let h = torrent-exact s .every v t f i in ap (λ (o : Outcome Torrent). bytesAt s (nameIn o)) (h .1) ∙ h .2 .name
 
 -- ---- refusals

@@ -4,7 +4,8 @@ use Prim.Native.Nat.{ℕ, _≤_}
 use native.Mathlib.Omega.{arith}
 use Rattle.bencode.specs.Value.{Value, Items, Entries}
 use Rattle.walk.specs.Lookup.{Under}
-use Rattle.torrents.specs.Causes.{Lacks, missing, wrong, NoString, no-string, NoNumber, no-integer, out-of-range, NoName, no-name, bad-name, NoElements, this, later, NoPath, no-list, empty-path, bad-element, NoFile, no-dictionary, bad-length, bad-path, NoFiles, this-file, later-file, NoFileList, no-file-list, bad-file, NoContent, neither, both, wrong-length, wrong-files, BadSizes, file-count, no-bytes, many-pieces, wrong-pieces, NoInfo, info-name, info-piece-length, info-pieces, info-content, info-sizes, NoInfoAt, no-info-dictionary, no-info, NoTorrent, no-top, bad-announce, bad-info}
+use Rattle.torrents.specs.Causes.{NoName, no-name, bad-name, NoElements, this, later, NoPath, no-list, empty-path, bad-element, NoFile, no-dictionary, bad-length, bad-path, NoFiles, this-file, later-file, NoFileList, no-file-list, bad-file, NoContent, neither, both, wrong-length, wrong-files, BadSizes, file-count, no-bytes, many-pieces, wrong-pieces, NoInfo, info-name, info-piece-length, info-pieces, info-content, info-sizes, NoInfoAt, no-info-dictionary, no-info, NoTorrent, no-top, bad-announce, bad-info}
+use Rattle.fields.specs.Causes.{Lacks, missing, wrong, NoString, no-string, NoNumber, no-integer, out-of-range}
 
 abbrev pub Ours : ℕ → Type 0
 Ours n = (10 ≤ n) × (n ≤ 13)

@@ -11,7 +11,7 @@ use Rattle.bencode.specs.Value.{Value, Items, str, int, list, dict, none, item,
 use Rattle.walk.specs.Stands.{Stands, StandItems}
 use Rattle.walk.proofs.Standing.{list-stands, items-next}
 use Rattle.metainfo.specs.Rules.{nameAt, elementsOf, pathAt}
-use Rattle.torrents.specs.Torrent.{GoodName, strings}
+use Rattle.torrents.specs.Torrent.{GoodName, stringItems}
 use Rattle.torrents.specs.Exact.{PathAt}
 use Rattle.torrents.specs.Causes.{NoName, NoElements, this, later, NoPath, no-list, empty-path, bad-element}
 use Rattle.torrents.proofs.Names.{no-way}
@@ -23,7 +23,7 @@ abbrev pub AllGood : List (List ℕ) → Type 0
 AllGood l = (bs : List ℕ) → In bs l → GoodName bs
 
 abbrev Elements : Items → List (List ℕ) → Type 0
-Elements vs l = (vs ≡ strings l) × AllGood l
+Elements vs l = (vs ≡ stringItems l) × AllGood l
 
 abbrev Any : {A B : Type 0} → A → B → Type 0
 Any x y = Unit {0}
@@ -31,8 +31,8 @@ Any x y = Unit {0}
 no-elements : (p n q : ℕ) → NoElements p none n q → ⊥
 no-elements p n q h = elim h [ ]
 
-none-strings : (l : List (List ℕ)) → none ≡ strings l → l ≡ []
-unfolding strings
+none-strings : (l : List (List ℕ)) → none ≡ stringItems l → l ≡ []
+unfolding stringItems
 none-strings [] e = refl
 none-strings (bs ∷ l) e = no-way (cc)
 
@@ -51,30 +51,30 @@ element-by p v vs n q (inr h) =
 pub more-good : (bs : List ℕ) (l : List (List ℕ)) → GoodName bs → AllGood l → AllGood (bs ∷ l)
 more-good bs l g h cs i = ⊎-elim (λ (e : cs ≡ bs). subst GoodName (sym e) g) (h cs) (List·Memᴰ·cases-cons i)
 
-joined : (v : Value) (vs : Items) (bs : List ℕ) (l : List (List ℕ)) → v ≡ str bs → vs ≡ strings l → item v vs ≡ strings (bs ∷ l)
-unfolding strings
+joined : (v : Value) (vs : Items) (bs : List ℕ) (l : List (List ℕ)) → v ≡ str bs → vs ≡ stringItems l → item v vs ≡ stringItems (bs ∷ l)
+unfolding stringItems
 joined v vs bs l e f = rw (e, f)
 
 parted : (v : Value) (vs : Items) (l : List (List ℕ)) → Elements (item v vs) l → (k : List ℕ × List (List ℕ)) × (Named v (k .0) × Elements vs (k .1)) × ((x : ℕ) → Unit {0} → Unit {0})
-unfolding strings
+unfolding stringItems
 parted v vs [] h = let e = h .0 in no-way (cc)
 parted v vs (bs ∷ l) h =
     let e = h .0 in
     let a : v ≡ str bs = cc in
-    let b : vs ≡ strings l = cc in
+    let b : vs ≡ stringItems l = cc in
     ((bs, l), ((a, h .1 bs (List·Memᴰ·head refl)), (b, λ cs i. h .1 cs (List·Memᴰ·tail i))), λ x u. tt)
 
-some : (v : Value) (vs : Items) (l : List (List ℕ)) → item v vs ≡ strings l → l ≡ [] → ⊥
-unfolding strings
-some v vs l e f = no-way (let g : item v vs ≡ strings [] = e ∙ ap strings f in cc)
+some : (v : Value) (vs : Items) (l : List (List ℕ)) → item v vs ≡ stringItems l → l ≡ [] → ⊥
+unfolding stringItems
+some v vs l e f = no-way (let g : item v vs ≡ stringItems [] = e ∙ ap stringItems f in cc)
 
 -- the value is that path
 abbrev pub Pathed : Value → List (List ℕ) → Type 0
-Pathed v l = (v ≡ list (strings l)) × (l ≡ [] → ⊥) × AllGood l
+Pathed v l = (v ≡ list (stringItems l)) × (l ≡ [] → ⊥) × AllGood l
 
 module _ (s : List ℕ) where
   elements-checks : (d p : ℕ) (vs : Items) → StandItems s d p vs → Checks (elementsOf p vs) (Elements vs) Any (NoElements p vs)
-  unfolding elementsOf strings
+  unfolding elementsOf stringItems
   elements-checks d p none t = checks-taken p [] (Elements none) Any (NoElements p none) (refl, λ bs i. absurd (List·Memᴰ·not-nil i)) tt (λ l h. none-strings l (h .0)) (no-elements p)
   elements-checks d p (item v vs) t =
       let i = items-next s d p v vs t in
@@ -91,7 +91,7 @@ module _ (s : List ℕ) where
   items-at d p vs t = ap (take (length (encodeItems vs))) (t .text) ∙ take-append-seam (encodeItems vs) (t .rest)
 
   not-path : (q : ℕ) (v : Value) → ((vs : Items) → v ≡ list vs → ⊥) → Checks (refused 10 q) (Pathed v) (PathAt s) (NoPath q v)
-  not-path q v h = checks-refused 10 q (Pathed v) (PathAt s) (NoPath q v) (λ l i. h (strings l) (i .0)) (no-list v h) (only-kind v h)
+  not-path q v h = checks-refused 10 q (Pathed v) (PathAt s) (NoPath q v) (λ l i. h (stringItems l) (i .0)) (no-list v h) (only-kind v h)
     where
       only-kind : (w : Value) → ((vs : Items) → w ≡ list vs → ⊥) → (n p : ℕ) → NoPath q w n p → (n ≡ 10) × (p ≡ q)
       only-kind w i n p (no-list u j) = (refl, refl)

@@ -17,7 +17,7 @@ use Rattle.blocks.proofs.Legal.{piece-bounds, starts-inside, is-piece}
 use Rattle.metainfo.specs.Rules.{sizedOf}
 use Rattle.metainfo.specs.declared.Content.{Content}
 use Rattle.metainfo.specs.declared.Torrent.{Torrent}
-use Rattle.torrents.specs.Torrent.{RoundedUp, Sized}
+use Rattle.torrents.specs.Torrent.{RoundedUp, GoodSizes}
 use Rattle.torrents.specs.Causes.{BadSizes, file-count, no-bytes, many-pieces, wrong-pieces}
 use Rattle.torrents.proofs.Names.{no-way}
 use Rattle.torrents.proofs.Checks.{Checks, checks-refused, checks-taken}
@@ -83,34 +83,34 @@ module _ (a i n x : Part) (p pl : ℕ) (c : Content) (ns hs : List ℕ) (fe : c 
   by-pieces f g h l m q (many-pieces k j o e r z) = absurd (let b = counted k r in omega arith)
   by-pieces f g h l m q (wrong-pieces k j o e r z d) = (refl, refl, subst (λ (b : ℕ). length hs ≡ 20 * b → ⊥) (counted k r) d)
 
-  pub sized-checks : Checks (sizedOf a i n x p pl c) (Sized ns pl hs) Handed Bad
+  pub sized-checks : Checks (sizedOf a i n x p pl c) (GoodSizes ns pl hs) Handed Bad
   unfolding sizedOf
   sized-checks = go (fileCount (c .files)) refl (totalAnd (c .total) Count) refl (eqb (x .len) (20 * Count)) refl
     where
       go : (f : Bool) → fileCount (c .files) ≡ f → (t : Bool) → totalAnd (c .total) Count ≡ t → (e : Bool) → eqb (x .len) (20 * Count) ≡ e
           → Checks (cond f (cond t (cond e (taken (record { announce = a; info = i; name = n; pieces = x; «piece_length» = pl; «piece_count» = Count; content = c })) (refused 12 p)) (refused 11 (c .place))) (refused 11 (c .place)))
-          (Sized ns pl hs) Handed Bad
+          (GoodSizes ns pl hs) Handed Bad
       go false f t g e h =
           let no : 1 ≤ length ns → length ns ≤ mostFiles → ⊥ = λ l m. count-not (c .files) f (omega arith) (omega arith) in
-          checks-refused 11 (c .place) (Sized ns pl hs) Handed Bad (λ k z. no (z .some-files) (z .few-files)) (file-count no) (by-range (λ k l m o r q. no l m))
+          checks-refused 11 (c .place) (GoodSizes ns pl hs) Handed Bad (λ k z. no (z .some-files) (z .few-files)) (file-count no) (by-range (λ k l m o r q. no l m))
       go true f false g e h =
           let y = count-is (c .files) f in
           ⊎-elim
           (λ (z : c .total ≡ 0).
-          checks-refused 11 (c .place) (Sized ns pl hs) Handed Bad (λ k d. absurd (omega (arith, d .some-bytes))) (no-bytes (omega arith) (omega arith) (omega arith)) (by-range (λ k l m o r q. omega arith)))
+          checks-refused 11 (c .place) (GoodSizes ns pl hs) Handed Bad (λ k d. absurd (omega (arith, d .some-bytes))) (no-bytes (omega arith) (omega arith) (omega arith)) (by-range (λ k l m o r q. omega arith)))
           (λ (z : (1 ≤ c .total) × (mostPieces < Count)).
-          checks-refused 11 (c .place) (Sized ns pl hs) Handed Bad (λ k d. let b = counted k (d .counted) in omega (arith, d .few-pieces)) (many-pieces Count (omega arith) (omega arith) (omega arith) up (z .1)) (by-range (λ k l m o r q. let b = counted k r in omega arith)))
+          checks-refused 11 (c .place) (GoodSizes ns pl hs) Handed Bad (λ k d. let b = counted k (d .counted) in omega (arith, d .few-pieces)) (many-pieces Count (omega arith) (omega arith) (omega arith) up (z .1)) (by-range (λ k l m o r q. let b = counted k r in omega arith)))
           (total-not (c .total) Count g)
       go true f true g false h =
           let y = count-is (c .files) f in
           let z = total-is (c .total) Count g in
           let no : length hs ≡ 20 * Count → ⊥ = λ q. no-way (let b = eq-eqb (x .len) (20 * Count) (le ∙ q) in cc) in
-          checks-refused 12 p (Sized ns pl hs) Handed Bad (λ k d. no (d .hashes ∙ ap (λ (b : ℕ). 20 * b) (counted k (d .counted))))
+          checks-refused 12 p (GoodSizes ns pl hs) Handed Bad (λ k d. no (d .hashes ∙ ap (λ (b : ℕ). 20 * b) (counted k (d .counted))))
           (wrong-pieces Count (omega arith) (omega arith) (omega arith) up (z .1) no) (λ m q b. let u = by-pieces (omega arith) (omega arith) (omega arith) (z .1) m q b in (u .0, u .1))
       go true f true g true h =
           let y = count-is (c .files) f in
           let z = total-is (c .total) Count g in
           let all : length hs ≡ 20 * Count = sym le ∙ eqb-true (x .len) (20 * Count) h in
-          checks-taken (record { announce = a; info = i; name = n; pieces = x; «piece_length» = pl; «piece_count» = Count; content = c }) Count (Sized ns pl hs) Handed Bad
+          checks-taken (record { announce = a; info = i; name = n; pieces = x; «piece_length» = pl; «piece_count» = Count; content = c }) Count (GoodSizes ns pl hs) Handed Bad
           (record { some-files = omega arith; few-files = omega arith; some-bytes = omega arith; counted = up; few-pieces = z .1; hashes = all }) refl (λ k d. counted k (d .counted))
           (λ m q b. by-pieces (omega arith) (omega arith) (omega arith) (z .1) m q b .2 all)

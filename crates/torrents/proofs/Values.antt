@@ -19,8 +19,9 @@ use Rattle.fields.proofs.Standing.{part-bytes}
 use Rattle.blocks.specs.Rules.{pieceLength, PieceLength}
 use Rattle.blocks.proofs.Legal.{piece-length-is, is-piece-length, piece-bounds}
 use Rattle.metainfo.specs.Rules.{goodName, nameAt, pieceLengthAt}
-use Rattle.torrents.specs.Torrent.{GoodName, strings}
-use Rattle.torrents.specs.Causes.{NoString, no-string, NoNumber, no-integer, out-of-range, NoName, no-name, bad-name}
+use Rattle.torrents.specs.Torrent.{GoodName, stringItems}
+use Rattle.torrents.specs.Causes.{NoName, no-name, bad-name}
+use Rattle.fields.specs.Causes.{NoString, no-string, NoNumber, no-integer, out-of-range, UpTo}
 use Rattle.torrents.proofs.Names.{no-way, good-is, is-good}
 use Rattle.torrents.proofs.Checks.{Checks, checks-refused, checks-taken}
 
@@ -83,16 +84,16 @@ module _ (R : ℕ → Type 0) (q : ℕ) where
       no-fault : (m p : ℕ) → NoNumber R q (int (pos n)) m p → ⊥
       no-fault m p h = by (int (pos n)) refl m p h
 
-pub length-checks : (most q : ℕ) (v : Value) → Checks (naturalAt most q v) (Number (λ n. n ≤ most) v) Same (NoNumber (λ n. n ≤ most) q v)
-length-checks most q (str bs) = not-integer (λ n. n ≤ most) q (str bs) (λ z f. no-way (cc))
+pub length-checks : (most q : ℕ) (v : Value) → Checks (naturalAt most q v) (Number (UpTo most) v) Same (NoNumber (UpTo most) q v)
+length-checks most q (str bs) = not-integer (UpTo most) q (str bs) (λ z f. no-way (cc))
 length-checks most q (int (pos n)) = go (leb n most) refl
   where
-    go : (b : Bool) → leb n most ≡ b → Checks (cond b (taken n) (refused 11 q)) (Number (λ n. n ≤ most) (int (pos n))) Same (NoNumber (λ n. n ≤ most) q (int (pos n)))
-    go true f = in-range (λ n. n ≤ most) q n (leb-true n most f)
-    go false f = not-range (λ n. n ≤ most) q (pos n) (λ m g h. let i = leb-false n most f in let j : n ≡ m = cc in omega arith)
-length-checks most q (int (negsuc n)) = not-range (λ n. n ≤ most) q (negsuc n) (λ m g h. no-way (cc))
-length-checks most q (list vs) = not-integer (λ n. n ≤ most) q (list vs) (λ z f. no-way (cc))
-length-checks most q (dict es) = not-integer (λ n. n ≤ most) q (dict es) (λ z f. no-way (cc))
+    go : (b : Bool) → leb n most ≡ b → Checks (cond b (taken n) (refused 11 q)) (Number (UpTo most) (int (pos n))) Same (NoNumber (UpTo most) q (int (pos n)))
+    go true f = in-range (UpTo most) q n (leb-true n most f)
+    go false f = not-range (UpTo most) q (pos n) (λ m g h. let i = leb-false n most f in let j : n ≡ m = cc in omega arith)
+length-checks most q (int (negsuc n)) = not-range (UpTo most) q (negsuc n) (λ m g h. no-way (cc))
+length-checks most q (list vs) = not-integer (UpTo most) q (list vs) (λ z f. no-way (cc))
+length-checks most q (dict es) = not-integer (UpTo most) q (dict es) (λ z f. no-way (cc))
 
 pub piece-checks : (q : ℕ) (v : Value) → Checks (pieceLengthAt q v) (Number PieceLength v) Same (NoNumber PieceLength q v)
 piece-checks q (str bs) = not-integer PieceLength q (str bs) (λ z f. no-way (cc))

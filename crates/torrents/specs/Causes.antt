@@ -3,36 +3,19 @@
 use mathlib.Core.Path.{_≡_}
 use mathlib.Core.List.{List}
 use Prim.Native.Nat.{ℕ, _+_, _*_, _<_, _≤_}
-use lib.IntN.{ℤ, pos}
 use lib.ListN.{length}
 use Rattle.refusal.specs.Numbers.{kind, range, name, pieces}
 use Rattle.refusal.specs.Limits.{longestFile, mostFiles, mostPieces}
-use Rattle.bencode.specs.Value.{Value, Items, Entries, str, int, list, dict, none, item, encode}
+use Rattle.bencode.specs.Value.{Value, Items, Entries, str, list, dict, none, item, encode}
 use Rattle.bencode.specs.Exact.{Fine}
-use Rattle.walk.specs.Lookup.{Under, nothing, under, lookup}
+use Rattle.walk.specs.Lookup.{nothing, under, lookup}
 use Rattle.walk.specs.Has.{Has}
+use Rattle.fields.specs.Causes.{Lacks, NoString, NoNumber, UpTo}
 use Rattle.blocks.specs.Rules.{PieceLength, sum}
 use Rattle.metainfo.specs.Keys.{announceKey, infoKey, filesKey, lengthKey, nameKey, pathKey, pieceLengthKey, piecesKey}
 use Rattle.metainfo.specs.Rules.{placeUnder}
-use Rattle.torrents.specs.Torrent.{GoodName, RoundedUp, OneFile, Files, lengthsIn, HasName, HasPieceLength, HasLength, IsFile, HasFiles}
+use Rattle.torrents.specs.Torrent.{GoodName, RoundedUp, OneFile, TorrentFiles, lengthsIn, HasName, HasPieceLength, HasLength, IsFile, HasFiles}
 use Rattle.torrents.specs.Exact.{filesUnder}
-
--- what must be under a key is missing, or is wrong
-pub data Lacks (d : ℕ) (u : Under) (Wrong : ℕ → Value → ℕ → ℕ → Type 0) : ℕ → ℕ → Type 0 where
-  missing : u ≡ nothing → Lacks d u Wrong kind d
-  wrong : (p : ℕ) (v : Value) (n q : ℕ) → u ≡ under p v → Wrong p v n q → Lacks d u Wrong n q
-
--- no string
-pub data NoString (p : ℕ) : Value → ℕ → ℕ → Type 0 where
-  no-string : (v : Value) → ((bs : List ℕ) → v ≡ str bs → ⊥) → NoString p v kind p
-
--- no integer, or one out of its range
-pub data NoNumber (InRange : ℕ → Type 0) (p : ℕ) : Value → ℕ → ℕ → Type 0 where
-  no-integer : (v : Value) → ((z : ℤ) → v ≡ int z → ⊥) → NoNumber InRange p v kind p
-  out-of-range : (z : ℤ) → ((n : ℕ) → z ≡ pos n → InRange n → ⊥) → NoNumber InRange p (int z) range p
-
-abbrev pub Length : ℕ → Type 0
-Length n = n ≤ longestFile
 
 -- no string, or a bad name
 pub data NoName (p : ℕ) : Value → ℕ → ℕ → Type 0 where
@@ -53,7 +36,7 @@ pub data NoPath (p : ℕ) : Value → ℕ → ℕ → Type 0 where
 -- no file
 pub data NoFile (p : ℕ) : Value → ℕ → ℕ → Type 0 where
   no-dictionary : (v : Value) → ((es : Entries) → v ≡ dict es → ⊥) → NoFile p v kind p
-  bad-length : (es : Entries) (n q : ℕ) → Lacks p (lookup (p + 1) es lengthKey) (NoNumber Length) n q → NoFile p (dict es) n q
+  bad-length : (es : Entries) (n q : ℕ) → Lacks p (lookup (p + 1) es lengthKey) (NoNumber (UpTo longestFile)) n q → NoFile p (dict es) n q
   bad-path : (es : Entries) (m n q : ℕ) → HasLength es m → Lacks p (lookup (p + 1) es pathKey) NoPath n q → NoFile p (dict es) n q
 
 -- of the files that stand from p on, the first that is bad
@@ -70,7 +53,7 @@ pub data NoFileList (p : ℕ) : Value → ℕ → ℕ → Type 0 where
 pub data NoContent (d : ℕ) (es : Entries) : ℕ → ℕ → Type 0 where
   neither : lookup (d + 1) es lengthKey ≡ nothing → lookup (d + 1) es filesKey ≡ nothing → NoContent d es kind d
   both : (p : ℕ) (v : Value) (q : ℕ) (w : Value) → lookup (d + 1) es lengthKey ≡ under p v → lookup (d + 1) es filesKey ≡ under q w → NoContent d es kind d
-  wrong-length : (p : ℕ) (v : Value) (n q : ℕ) → lookup (d + 1) es lengthKey ≡ under p v → lookup (d + 1) es filesKey ≡ nothing → NoNumber Length p v n q → NoContent d es n q
+  wrong-length : (p : ℕ) (v : Value) (n q : ℕ) → lookup (d + 1) es lengthKey ≡ under p v → lookup (d + 1) es filesKey ≡ nothing → NoNumber (UpTo longestFile) p v n q → NoContent d es n q
   wrong-files : (p : ℕ) (v : Value) (n q : ℕ) → lookup (d + 1) es lengthKey ≡ nothing → lookup (d + 1) es filesKey ≡ under p v → NoFileList p v n q → NoContent d es n q
 
 -- how many files, the total, how many pieces, the length of pieces: files of these lengths under length or files at p, and pieces at q
@@ -87,7 +70,7 @@ pub data NoInfo (d : ℕ) (es : Entries) : ℕ → ℕ → Type 0 where
   info-piece-length : (bs : List ℕ) (n q : ℕ) → HasName es bs → Lacks d (lookup (d + 1) es pieceLengthKey) (NoNumber PieceLength) n q → NoInfo d es n q
   info-pieces : (bs : List ℕ) (m n q : ℕ) → HasName es bs → HasPieceLength es m → Lacks d (lookup (d + 1) es piecesKey) NoString n q → NoInfo d es n q
   info-content : (bs : List ℕ) (m : ℕ) (hs : List ℕ) (n q : ℕ) → HasName es bs → HasPieceLength es m → Has es piecesKey (str hs) → NoContent d es n q → NoInfo d es n q
-  info-sizes : (bs : List ℕ) (m : ℕ) (hs : List ℕ) (fs : Files) (n q : ℕ) → HasName es bs → HasPieceLength es m → Has es piecesKey (str hs) → HasFiles es fs
+  info-sizes : (bs : List ℕ) (m : ℕ) (hs : List ℕ) (fs : TorrentFiles) (n q : ℕ) → HasName es bs → HasPieceLength es m → Has es piecesKey (str hs) → HasFiles es fs
       → BadSizes (lengthsIn fs) m hs (placeUnder (lookup (d + 1) es (filesUnder fs))) (placeUnder (lookup (d + 1) es piecesKey)) n q → NoInfo d es n q
 
 pub data NoInfoAt (p : ℕ) : Value → ℕ → ℕ → Type 0 where

@@ -15,14 +15,14 @@ use Rattle.metainfo.specs.Reading.{readOf, fileAt}
 use Rattle.metainfo.specs.declared.File.{File}
 use Rattle.metainfo.specs.declared.Content.{Content}
 use Rattle.metainfo.specs.declared.Torrent.{Torrent}
-use Rattle.torrents.specs.Torrent.{OneFile, Files, single, many, Said, lengthsIn, strings, IsTorrent}
+use Rattle.torrents.specs.Torrent.{OneFile, TorrentFiles, single, many, TorrentSays, lengthsIn, stringItems, IsTorrent}
 
-abbrev pub isSingle : Files → Bool
+abbrev pub isSingle : TorrentFiles → Bool
 isSingle (single n) = true
 isSingle (many fs) = false
 
 -- the key that info has: length or files
-abbrev pub filesUnder : Files → List ℕ
+abbrev pub filesUnder : TorrentFiles → List ℕ
 filesUnder (single n) = lengthKey
 filesUnder (many fs) = filesKey
 
@@ -32,7 +32,7 @@ StandsAt s p v = take (length (encode v)) (drop p s) ≡ encode v
 
 -- the elements of a path stand from p on
 abbrev pub PathAt : List ℕ → ℕ → List (List ℕ) → Type 0
-PathAt s p l = take (length (encodeItems (strings l))) (drop p s) ≡ encodeItems (strings l)
+PathAt s p l = take (length (encodeItems (stringItems l))) (drop p s) ≡ encodeItems (stringItems l)
 
 -- at p, and then where each says that the next one stands, the reader of one file finds these files
 pub data FilesAt (s : List ℕ) : ℕ → List OneFile → Type 0 where
@@ -40,12 +40,12 @@ pub data FilesAt (s : List ℕ) : ℕ → List OneFile → Type 0 where
   file-at : (p : ℕ) (x : File) (f : OneFile) (fs : List OneFile) → fileAt s p ≡ taken x → x .length ≡ f .size → PathAt s (x .path) (f .path) → FilesAt s (x .next) fs
       → FilesAt s p (f ∷ fs)
 
-abbrev pub EachAt : List ℕ → ℕ → Files → Type 0
+abbrev pub EachAt : List ℕ → ℕ → TorrentFiles → Type 0
 EachAt s p (single n) = Unit {0}
 EachAt s p (many fs) = FilesAt s p fs
 
 -- the content that is handed back is those files; its place is where the value under length or files stands, and the first of many files one past it
-pub record ShowsFiles (s : List ℕ) (info : Entries) (c : Content) (fs : Files) : Type 0 where
+pub record ShowsFiles (s : List ℕ) (info : Entries) (c : Content) (fs : TorrentFiles) : Type 0 where
   pub one : c .single ≡ isSingle fs
   pub files : c .files ≡ length (lengthsIn fs)
   pub total : c .total ≡ sum (lengthsIn fs)
@@ -53,7 +53,7 @@ pub record ShowsFiles (s : List ℕ) (info : Entries) (c : Content) (fs : Files)
   pub each : EachAt s (c .place + 1) fs
 
 -- an answer's fields are what is said: parts of the text by their bytes, and info's as its dictionary is written
-pub record Shows (s : List ℕ) (x : Torrent) (t : Said) : Type 0 where
+pub record ShowsTorrent (s : List ℕ) (x : Torrent) (t : TorrentSays) : Type 0 where
   pub announce : bytesAt s (x .announce) ≡ t .announce
   pub info : bytesAt s (x .info) ≡ encode (dict (t .info))
   pub name : bytesAt s (x .name) ≡ t .name
@@ -64,5 +64,5 @@ pub record Shows (s : List ℕ) (x : Torrent) (t : Said) : Type 0 where
 
 -- taken exactly when the text is the encoding of a value that is a torrent and keeps the limits, with that value's fields
 pub record TorrentExact (s : List ℕ) : Type 0 where
-  pub only : (x : Torrent) → readOf s ≡ taken x → (v : Value) × (t : Said) × Fine s v × IsTorrent v t × Shows s x t
-  pub every : (v : Value) (t : Said) → Fine s v → IsTorrent v t → (x : Torrent) × (readOf s ≡ taken x) × Shows s x t
+  pub only : (x : Torrent) → readOf s ≡ taken x → (v : Value) × (t : TorrentSays) × Fine s v × IsTorrent v t × ShowsTorrent s x t
+  pub every : (v : Value) (t : TorrentSays) → Fine s v → IsTorrent v t → (x : Torrent) × (readOf s ≡ taken x) × ShowsTorrent s x t

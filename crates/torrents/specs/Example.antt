@@ -4,7 +4,7 @@ use Prim.Native.Nat.{ℕ}
 use lib.IntN.{pos}
 use Rattle.bencode.specs.Value.{Value, Items, Entries, str, int, list, dict, none, item, empty, entry}
 use Rattle.metainfo.specs.Keys.{announceKey, infoKey, filesKey, lengthKey, nameKey, pathKey, pieceLengthKey, piecesKey}
-use Rattle.torrents.specs.Torrent.{OneFile, many, Said, strings}
+use Rattle.torrents.specs.Torrent.{OneFile, many, TorrentSays, stringItems}
 
 unfoldable pub text : List ℕ
 text =
@@ -34,7 +34,7 @@ fileC = record { size = 12769; path = (99 ∷ []) ∷ [] }
 
 -- a file's dictionary
 abbrev pub fileEntries : OneFile → Entries
-fileEntries f = entry lengthKey (int (pos (f .size))) (entry pathKey (list (strings (f .path))) empty)
+fileEntries f = entry lengthKey (int (pos (f .size))) (entry pathKey (list (stringItems (f .path))) empty)
 
 abbrev pub files : Items
 files = item (dict (fileEntries fileA)) (item (dict (fileEntries fileB)) (item (dict (fileEntries fileC)) none))
@@ -46,5 +46,5 @@ abbrev pub value : Value
 value = dict (entry announceKey (str url) (entry infoKey (dict info) empty))
 
 -- 32,769 bytes in three pieces
-abbrev pub says : Said
+abbrev pub says : TorrentSays
 says = record { announce = url; info = info; name = pkg; piece-length = 16384; pieces = letters; count = 3; files = many (fileA ∷ fileB ∷ fileC ∷ []) }

@@ -30,33 +30,33 @@ pub record OneFile : Type 0 where
   pub path : List (List ℕ)
 
 -- one file of that length, or many
-pub data Files : Type 0 where
-  single : ℕ → Files
-  many : List OneFile → Files
+pub data TorrentFiles : Type 0 where
+  single : ℕ → TorrentFiles
+  many : List OneFile → TorrentFiles
 
 -- what a torrent says; info is its dictionary, and count the number of its pieces
-pub record Said : Type 0 where
+pub record TorrentSays : Type 0 where
   pub announce : List ℕ
   pub info : Entries
   pub name : List ℕ
   pub piece-length : ℕ
   pub pieces : List ℕ
   pub count : ℕ
-  pub files : Files
+  pub files : TorrentFiles
 
 -- the lengths of its files
 unfoldable pub sizesOf : List OneFile → List ℕ
 sizesOf [] = []
 sizesOf (f ∷ fs) = f .size ∷ sizesOf fs
 
-abbrev pub lengthsIn : Files → List ℕ
+abbrev pub lengthsIn : TorrentFiles → List ℕ
 lengthsIn (single n) = n ∷ []
 lengthsIn (many fs) = sizesOf fs
 
 -- strings as the items of a list
-unfoldable pub strings : List (List ℕ) → Items
-strings [] = none
-strings (bs ∷ l) = item (str bs) (strings l)
+unfoldable pub stringItems : List (List ℕ) → Items
+stringItems [] = none
+stringItems (bs ∷ l) = item (str bs) (stringItems l)
 
 -- a dictionary has a good name
 pub record HasName (es : Entries) (bs : List ℕ) : Type 0 where
@@ -75,7 +75,7 @@ pub record HasLength (es : Entries) (n : ℕ) : Type 0 where
 
 -- a path: not empty, and each element a good one
 pub record HasPath (es : Entries) (l : List (List ℕ)) : Type 0 where
-  pub has : Has es pathKey (list (strings l))
+  pub has : Has es pathKey (list (stringItems l))
   pub some : l ≡ [] → ⊥
   pub good : (bs : List ℕ) → In bs l → GoodName bs
 
@@ -90,12 +90,12 @@ pub data AreFiles : Items → List OneFile → Type 0 where
   one-more : (es : Entries) (vs : Items) (f : OneFile) (fs : List OneFile) → IsFile es f → AreFiles vs fs → AreFiles (item (dict es) vs) (f ∷ fs)
 
 -- exactly one of length and files
-pub data HasFiles (es : Entries) : Files → Type 0 where
+pub data HasFiles (es : Entries) : TorrentFiles → Type 0 where
   by-length : (n : ℕ) → HasLength es n → ((v : Value) → Has es filesKey v → ⊥) → HasFiles es (single n)
   by-files : (vs : Items) (fs : List OneFile) → Has es filesKey (list vs) → AreFiles vs fs → ((v : Value) → Has es lengthKey v → ⊥) → HasFiles es (many fs)
 
 -- how many files, the total, how many pieces, and the length of pieces
-pub record Sized (ns : List ℕ) (piece-length : ℕ) (pieces : List ℕ) (count : ℕ) : Type 0 where
+pub record GoodSizes (ns : List ℕ) (piece-length : ℕ) (pieces : List ℕ) (count : ℕ) : Type 0 where
   pub some-files : 1 ≤ length ns
   pub few-files : length ns ≤ mostFiles
   pub some-bytes : 1 ≤ sum ns
@@ -104,13 +104,13 @@ pub record Sized (ns : List ℕ) (piece-length : ℕ) (pieces : List ℕ) (count
   pub hashes : length pieces ≡ 20 * count
 
 -- info's dictionary says so
-pub record IsInfo (es : Entries) (t : Said) : Type 0 where
+pub record IsInfo (es : Entries) (t : TorrentSays) : Type 0 where
   pub has-name : HasName es (t .name)
   pub has-piece-length : HasPieceLength es (t .piece-length)
   pub has-pieces : Has es piecesKey (str (t .pieces))
   pub has-files : HasFiles es (t .files)
-  pub sized : Sized (lengthsIn (t .files)) (t .piece-length) (t .pieces) (t .count)
+  pub sized : GoodSizes (lengthsIn (t .files)) (t .piece-length) (t .pieces) (t .count)
 
 -- a value is a torrent that says so
-pub data IsTorrent : Value → Said → Type 0 where
-  is-torrent : (es : Entries) (t : Said) → Has es announceKey (str (t .announce)) → Has es infoKey (dict (t .info)) → IsInfo (t .info) t → IsTorrent (dict es) t
+pub data IsTorrent : Value → TorrentSays → Type 0 where
+  is-torrent : (es : Entries) (t : TorrentSays) → Has es announceKey (str (t .announce)) → Has es infoKey (dict (t .info)) → IsInfo (t .info) t → IsTorrent (dict es) t

@@ -27,7 +27,7 @@ use Rattle.fields.specs.Values.{partOf, stringAt, naturalAt, dictionaryAt, must
 use Rattle.fields.proofs.Standing.{begins, string-is, natural-is, dictionary-is}
 use Rattle.fields.proofs.Seeking.{Left, Seeks, all-left, seeks, asked, sought-next}
 use Rattle.tracker.specs.Keys.{failureReason, interval, peers, ip, peerId, port}
-use Rattle.tracker.specs.Entries.{Entry, packed, listed, Step, packedOf, idLength, idOf, pastPeer, peerFrom, peerBy, listedAt, countFrom}
+use Rattle.tracker.specs.Entries.{PeerEntry, packed, listed, PeerStep, packedOf, idLength, idOf, pastPeer, peerFrom, peerBy, listedAt, countFrom}
 use Rattle.tracker.specs.Reply.{Answer, failure, compact, listing, sixes, idAt, peerIn, peerAt, peersFrom, peersAt, answeredIn, replyBy, replyIn, replyOf, counted}
 use Rattle.tracker.specs.Reading.{compactOf, listingOf, peersIn, peersOf, answeredOf, failureOf, topBy, topOf, wholeOf}
 use Rattle.tracker.specs.declared.listed.Listed.{Listed}
@@ -36,7 +36,7 @@ use Rattle.tracker.specs.declared.listed.Listed.{Listed}
 abbrev made : Outcome Part → Outcome Part → Outcome ℕ → Outcome Listed
 made a b c = then a (λ id. then b (λ y. then c (λ n. taken (record { id = id; ip = y; port = n }))))
 
-joined : (a b : Outcome Part) (c : Outcome ℕ) (k : Listed → Outcome Step) (f : Listed → Step) → ((x : Listed) → k x ≡ taken (f x))
+joined : (a b : Outcome Part) (c : Outcome ℕ) (k : Listed → Outcome PeerStep) (f : Listed → PeerStep) → ((x : Listed) → k x ≡ taken (f x))
     → then a (λ id. then b (λ y. then c (λ n. k (record { id = id; ip = y; port = n })))) ≡ map f (made a b c)
 joined (refused m q) b c k f e = refl
 joined (taken x) (refused m q) c k f e = refl
@@ -109,13 +109,13 @@ module _ (s : List ℕ) where
   none-inside d p t = omega (arith, room s p (101 ∷ []) (t .rest) (t .inside) (t .text))
 
   count-by : (v : Value) (p : ℕ) (vs : Items) (g : ℕ → Outcome ℕ) → g (p + length (encode v)) ≡ map length (peersFrom (p + length (encode v)) vs) → (o : Outcome Listed)
-      → then (map (λ x. record { entry = listed x; next = p + length (encode v) }) o) (λ (x : Step). map suc (g (x .next)))
+      → then (map (λ x. record { entry = listed x; next = p + length (encode v) }) o) (λ (x : PeerStep). map suc (g (x .next)))
       ≡ map length (then o (λ x. map (λ l. listed x ∷ l) (peersFrom (p + length (encode v)) vs)))
   count-by v p vs g e (refused n q) = refl
   count-by v p vs g e (taken x) =
       ap (map suc) e
-      ∙ sym (map-map suc length (λ l. suc (length l)) (λ (l : List Entry). refl) (peersFrom (p + length (encode v)) vs))
-      ∙ map-map length (λ l. listed x ∷ l) (λ l. suc (length l)) (λ (l : List Entry). refl) (peersFrom (p + length (encode v)) vs)
+      ∙ sym (map-map suc length (λ l. suc (length l)) (λ (l : List PeerEntry). refl) (peersFrom (p + length (encode v)) vs))
+      ∙ map-map length (λ l. listed x ∷ l) (λ l. suc (length l)) (λ (l : List PeerEntry). refl) (peersFrom (p + length (encode v)) vs)
 
   pub count-is : (d : ℕ) → d ≤ 32 → (vs : Items) (f p : ℕ) → StandItems s d p vs → length s < p + f → countFrom f s p ≡ map length (peersFrom p vs)
   unfolding countFrom peersFrom
@@ -125,7 +125,7 @@ module _ (s : List ℕ) where
   count-is d levels (item v vs) (suc f) p t h =
       let i = items-next s d p v vs t in
       ap (λ (b : Bool). cond b (taken 0) (then (listedAt s p) (λ x. map suc (countFrom f s (x .next))))) (closes-item s d p v vs t)
-      ∙ ap (λ (o : Outcome Step). then o (λ x. map suc (countFrom f s (x .next)))) (peer-is d p levels v (i .0))
+      ∙ ap (λ (o : Outcome PeerStep). then o (λ x. map suc (countFrom f s (x .next)))) (peer-is d p levels v (i .0))
       ∙ count-by v p vs (λ q. countFrom f s q) (count-is d levels vs f (p + length (encode v)) (i .1) (omega (arith, encode-pos v))) (peerAt p v)
 
 pub sixes-length : (bs : List ℕ) → length (sixes bs) ≡ length bs / 6
@@ -156,8 +156,8 @@ module _ (s : List ℕ) (e : ℕ) (levels : e ≤ 32) where
       let l = list-stands s e p vs t in
       looked (peersIn s n p) p (l .0)
       ∙ ap (map (listing n (p + 1))) (count-is s (l .1 .0) (omega (arith, l .1 .1)) vs (suc (length s)) (p + 1) (l .1 .2) (omega arith))
-      ∙ sym (map-map (listing n (p + 1)) length (λ k. listing n (p + 1) (length k)) (λ (k : List Entry). refl) (peersFrom (p + 1) vs))
-      ∙ map-map counted (listing n (p + 1)) (λ k. listing n (p + 1) (length k)) (λ (k : List Entry). refl) (peersFrom (p + 1) vs)
+      ∙ sym (map-map (listing n (p + 1)) length (λ k. listing n (p + 1) (length k)) (λ (k : List PeerEntry). refl) (peersFrom (p + 1) vs))
+      ∙ map-map counted (listing n (p + 1)) (λ k. listing n (p + 1) (length k)) (λ (k : List PeerEntry). refl) (peersFrom (p + 1) vs)
   peers-is n p (dict es) t = looked (peersIn s n p) p (dictionary-stands s e p es t .0)
 
   module _ (es : Entries) (t : StandEntries s e 1 start es) where

@@ -15,11 +15,12 @@ use Rattle.bencode.specs.Value.{Value, Items, Entries, str, int, list, dict, no
 use Rattle.bencode.specs.Decode.{decode}
 use Rattle.walk.specs.Lookup.{Under, nothing, under, lookup}
 use Rattle.fields.specs.Values.{partOf, stringAt, naturalAt, dictionaryAt, must}
+use Rattle.fields.specs.Causes.{Lacks, missing, wrong, NoString, no-string, NoNumber, no-integer, out-of-range, UpTo}
 use Rattle.tracker.specs.Keys.{failureReason, interval, peers, ip, peerId, port}
-use Rattle.tracker.specs.Entries.{Entry, listed, idLength}
+use Rattle.tracker.specs.Entries.{PeerEntry, listed, idLength}
 use Rattle.tracker.specs.declared.listed.Listed.{Listed}
 use Rattle.tracker.specs.Reply.{Answer, failure, compact, listing, sixes, idAt, peerIn, peerAt, peersFrom, peersAt, replyBy, replyIn, replyOf}
-use Rattle.tracker.specs.Causes.{AString, AnId, ANumber, APeer, NoString, no-key, other, NoId, no-string, other-length, NoNumber, no-number-key, no-integer, out-of-range, NoPeer, no-dictionary, bad-id, bad-ip, bad-port, SomeNoPeer, this, later, NoPeers, other-kind, not-whole, bad-peer, NoReply, no-top, bad-reason, bad-interval, no-peers-key, bad-peers, WhyRefused, no-bencode, no-reply}
+use Rattle.tracker.specs.Causes.{AString, AnId, ANumber, APeer, NoId, no-id, other-length, NoPeer, no-dictionary, bad-id, bad-ip, bad-port, SomeNoPeer, this, later, NoPeers, other-kind, not-whole, bad-peer, NoReply, no-top, bad-reason, bad-interval, bad-peers, WhyRefused, no-bencode, no-reply}
 
 -- ---- a refusal has its cause
 
@@ -48,41 +49,46 @@ module _ (d : ℕ) (u : Under) where
       go nothing e = h e
       go (under p v) e = k p v e
 
-  string-at : (p : ℕ) (v : Value) → u ≡ under p v → Told (NoString d u) (AString u) (stringAt p v)
-  string-at p (str bs) e = (p, bs, e)
-  string-at p (int z) e = other p (int z) e (λ bs f. let x : _≡_ {A = ℕ} 0 1 = cc in omega arith)
-  string-at p (list vs) e = other p (list vs) e (λ bs f. let x : _≡_ {A = ℕ} 0 1 = cc in omega arith)
-  string-at p (dict es) e = other p (dict es) e (λ bs f. let x : _≡_ {A = ℕ} 0 1 = cc in omega arith)
+  lacks-told : {A : Type 0} (W : ℕ → Value → ℕ → ℕ → Type 0) (Q : Type 0) (g : ℕ → Value → Outcome A) → ((p : ℕ) (v : Value) → u ≡ under p v → Told (W p v) Q (g p v)) → Told (Lacks d u W) Q (must d u g)
+  lacks-told W Q g k = told-must (Lacks d u W) Q g missing (λ p v e. told-as (W p v) (Lacks d u W) Q Q (g p v) (k p v e) (λ n q. wrong p v n q e) (λ y. y))
 
-  id-at : (p : ℕ) (v : Value) → u ≡ under p v → Told (NoId d u) (AnId u) (idAt p v)
+module _ (u : Under) where
+  string-at : (p : ℕ) (v : Value) → u ≡ under p v → Told (NoString p v) (AString u) (stringAt p v)
+  string-at p (str bs) e = (p, bs, e)
+  string-at p (int z) e = no-string (int z) (λ bs f. let x : _≡_ {A = ℕ} 0 1 = cc in omega arith)
+  string-at p (list vs) e = no-string (list vs) (λ bs f. let x : _≡_ {A = ℕ} 0 1 = cc in omega arith)
+  string-at p (dict es) e = no-string (dict es) (λ bs f. let x : _≡_ {A = ℕ} 0 1 = cc in omega arith)
+
+  id-at : (p : ℕ) (v : Value) → u ≡ under p v → Told (NoId p v) (AnId u) (idAt p v)
   id-at p (str bs) e = go (eqb (length bs) 20) refl
     where
-      go : (b : Bool) → eqb (length bs) 20 ≡ b → Told (NoId d u) (AnId u) (cond b (taken (partOf p bs)) (refused 15 p))
+      go : (b : Bool) → eqb (length bs) 20 ≡ b → Told (NoId p (str bs)) (AnId u) (cond b (taken (partOf p bs)) (refused 15 p))
       go true f = (p, bs, e, eqb-true (length bs) 20 f)
-      go false f = other-length p bs e (λ l. let g = eq-eqb (length bs) 20 l in let x : _≡_ {A = ℕ} 0 1 = cc in omega arith)
-  id-at p (int z) e = no-string 10 p (string-at p (int z) e)
-  id-at p (list vs) e = no-string 10 p (string-at p (list vs) e)
-  id-at p (dict es) e = no-string 10 p (string-at p (dict es) e)
+      go false f = other-length bs (λ l. let g = eq-eqb (length bs) 20 l in let x : _≡_ {A = ℕ} 0 1 = cc in omega arith)
+  id-at p (int z) e = no-id (int z) 10 p (string-at p (int z) e)
+  id-at p (list vs) e = no-id (list vs) 10 p (string-at p (list vs) e)
+  id-at p (dict es) e = no-id (dict es) 10 p (string-at p (dict es) e)
 
-  number-at : (most p : ℕ) (v : Value) → u ≡ under p v → Told (NoNumber most d u) (ANumber most u) (naturalAt most p v)
-  number-at most p (str bs) e = no-integer p (str bs) e (λ bs f. let x : _≡_ {A = ℕ} 0 1 = cc in omega arith)
+  number-at : (most p : ℕ) (v : Value) → u ≡ under p v → Told (NoNumber (UpTo most) p v) (ANumber most u) (naturalAt most p v)
+  number-at most p (str bs) e = no-integer (str bs) (λ bs f. let x : _≡_ {A = ℕ} 0 1 = cc in omega arith)
   number-at most p (int (pos n)) e = go (leb n most) refl
     where
-      go : (b : Bool) → leb n most ≡ b → Told (NoNumber most d u) (ANumber most u) (cond b (taken n) (refused 11 p))
+      go : (b : Bool) → leb n most ≡ b → Told (NoNumber (UpTo most) p (int (pos n))) (ANumber most u) (cond b (taken n) (refused 11 p))
       go true f = (p, n, e, leb-true n most f)
-      go false f = out-of-range p (pos n) e (λ m g l. let h = leb-false n most f in let i : n ≡ m = cc in omega arith)
-  number-at most p (int (negsuc n)) e = out-of-range p (negsuc n) e (λ m g l. let x : _≡_ {A = ℕ} 0 1 = cc in omega arith)
-  number-at most p (list vs) e = no-integer p (list vs) e (λ bs f. let x : _≡_ {A = ℕ} 0 1 = cc in omega arith)
-  number-at most p (dict es) e = no-integer p (dict es) e (λ bs f. let x : _≡_ {A = ℕ} 0 1 = cc in omega arith)
+      go false f = out-of-range (pos n) (λ m g l. let h = leb-false n most f in let i : n ≡ m = cc in omega arith)
+  number-at most p (int (negsuc n)) e = out-of-range (negsuc n) (λ m g l. let x : _≡_ {A = ℕ} 0 1 = cc in omega arith)
+  number-at most p (list vs) e = no-integer (list vs) (λ bs f. let x : _≡_ {A = ℕ} 0 1 = cc in omega arith)
+  number-at most p (dict es) e = no-integer (dict es) (λ bs f. let x : _≡_ {A = ℕ} 0 1 = cc in omega arith)
 
-  string-told : Told (NoString d u) (AString u) (must d u stringAt)
-  string-told = told-must (NoString d u) (AString u) stringAt no-key string-at
+module _ (d : ℕ) (u : Under) where
+  string-told : Told (Lacks d u NoString) (AString u) (must d u stringAt)
+  string-told = lacks-told d u NoString (AString u) stringAt (string-at u)
 
-  id-told : Told (NoId d u) (AnId u) (must d u idAt)
-  id-told = told-must (NoId d u) (AnId u) idAt (λ e. no-string 10 d (no-key e)) id-at
+  id-told : Told (Lacks d u NoId) (AnId u) (must d u idAt)
+  id-told = lacks-told d u NoId (AnId u) idAt (id-at u)
 
-  number-told : (most : ℕ) → Told (NoNumber most d u) (ANumber most u) (must d u (naturalAt most))
-  number-told most = told-must (NoNumber most d u) (ANumber most u) (naturalAt most) no-number-key (number-at most)
+  number-told : (most : ℕ) → Told (Lacks d u (NoNumber (UpTo most))) (ANumber most u) (must d u (naturalAt most))
+  number-told most = lacks-told d u (NoNumber (UpTo most)) (ANumber most u) (naturalAt most) (number-at u most)
 
 peer-in : (p : ℕ) (es : Entries) → Told (NoPeer p (dict es)) (APeer p (dict es)) (peerIn p es)
 peer-in p es =
@@ -90,11 +96,11 @@ peer-in p es =
     let ips = lookup (p + 1) es ip in
     let ports = lookup (p + 1) es port in
     told-then (NoPeer p (dict es)) (AnId ids) (APeer p (dict es)) (must p ids idAt) _
-    (told-as (NoId p ids) (NoPeer p (dict es)) (AnId ids) (AnId ids) (must p ids idAt) (id-told p ids) (bad-id es) (λ y. y))
+    (told-as (Lacks p ids NoId) (NoPeer p (dict es)) (AnId ids) (AnId ids) (must p ids idAt) (id-told p ids) (bad-id es) (λ y. y))
     (λ i hi. told-then (NoPeer p (dict es)) (AString ips) (APeer p (dict es)) (must p ips stringAt) _
-    (told-as (NoString p ips) (NoPeer p (dict es)) (AString ips) (AString ips) (must p ips stringAt) (string-told p ips) (λ n q. bad-ip es n q hi) (λ y. y))
+    (told-as (Lacks p ips NoString) (NoPeer p (dict es)) (AString ips) (AString ips) (must p ips stringAt) (string-told p ips) (λ n q. bad-ip es n q hi) (λ y. y))
     (λ a ha. told-then (NoPeer p (dict es)) (ANumber 65535 ports) (APeer p (dict es)) (must p ports (naturalAt 65535)) _
-    (told-as (NoNumber 65535 p ports) (NoPeer p (dict es)) (ANumber 65535 ports) (ANumber 65535 ports) (must p ports (naturalAt 65535)) (number-told p ports 65535) (λ n q. bad-port es n q hi ha) (λ y. y))
+    (told-as (Lacks p ports (NoNumber (UpTo 65535))) (NoPeer p (dict es)) (ANumber 65535 ports) (ANumber 65535 ports) (must p ports (naturalAt 65535)) (number-told p ports 65535) (λ n q. bad-port es n q hi ha) (λ y. y))
     (λ n hn. (es, refl, hi, ha, hn))))
 
 peer-at : (p : ℕ) (v : Value) → Told (NoPeer p v) (APeer p v) (peerAt p v)
@@ -120,7 +126,7 @@ positive (suc m) g = omega arith
 peers-at : (n p : ℕ) (v : Value) → Told (NoPeers p v) Unit (peersAt n p v)
 peers-at n p (str bs) = go (eqb (length bs % 6) 0) refl
   where
-    go : (b : Bool) → eqb (length bs % 6) 0 ≡ b → Told (NoPeers p (str bs)) Unit (cond {A = Outcome (Answer (List Entry))} b (taken (compact n (partOf p bs .from) (sixes bs))) (refused 15 p))
+    go : (b : Bool) → eqb (length bs % 6) 0 ≡ b → Told (NoPeers p (str bs)) Unit (cond {A = Outcome (Answer (List PeerEntry))} b (taken (compact n (partOf p bs .from) (sixes bs))) (refused 15 p))
     go true f = tt
     go false f = not-whole bs (positive (length bs % 6) f)
 peers-at n p (int z) = other-kind (int z) (λ bs f. let x : _≡_ {A = ℕ} 0 1 = cc in omega arith) (λ bs f. let x : _≡_ {A = ℕ} 0 1 = cc in omega arith)
@@ -130,16 +136,13 @@ peers-at n p (dict es) = other-kind (dict es) (λ bs f. let x : _≡_ {A = ℕ} 
 reply-in : (es : Entries) (u : Under) → lookup 1 es failureReason ≡ u → Told (NoReply (dict es)) Unit (replyBy es u)
 reply-in es nothing e =
     let intervals = lookup 1 es interval in
+    let found = lookup 1 es peers in
     told-then (NoReply (dict es)) (ANumber 2147483647 intervals) Unit (must 0 intervals (naturalAt 2147483647)) (λ n. must 0 (lookup 1 es peers) (peersAt n))
-    (told-as (NoNumber 2147483647 0 intervals) (NoReply (dict es)) (ANumber 2147483647 intervals) (ANumber 2147483647 intervals) (must 0 intervals (naturalAt 2147483647)) (number-told 0 intervals 2147483647) (λ n q. bad-interval es n q e) (λ y. y))
-    (λ n hn. told-must 0 (lookup 1 es peers) (NoReply (dict es)) Unit (peersAt n) (no-peers-key es e hn) (λ p v f. told-as (NoPeers p v) (NoReply (dict es)) Unit Unit (peersAt n p v) (peers-at n p v) (λ m q. bad-peers es p v m q e hn f) (λ y. y)))
-reply-in es (under p v) e = told-map (NoReply (dict es)) Unit (stringAt p v) failure (reason-at v e)
-  where
-    reason-at : (v : Value) → lookup 1 es failureReason ≡ under p v → Told (NoReply (dict es)) Unit (stringAt p v)
-    reason-at (str bs) e = tt
-    reason-at (int z) e = bad-reason es p (int z) e (λ bs f. let x : _≡_ {A = ℕ} 0 1 = cc in omega arith)
-    reason-at (list vs) e = bad-reason es p (list vs) e (λ bs f. let x : _≡_ {A = ℕ} 0 1 = cc in omega arith)
-    reason-at (dict ds) e = bad-reason es p (dict ds) e (λ bs f. let x : _≡_ {A = ℕ} 0 1 = cc in omega arith)
+    (told-as (Lacks 0 intervals (NoNumber (UpTo 2147483647))) (NoReply (dict es)) (ANumber 2147483647 intervals) (ANumber 2147483647 intervals) (must 0 intervals (naturalAt 2147483647)) (number-told 0 intervals 2147483647) (λ n q. bad-interval es n q e) (λ y. y))
+    (λ n hn. told-as (Lacks 0 found NoPeers) (NoReply (dict es)) Unit Unit (must 0 found (peersAt n)) (lacks-told 0 found NoPeers Unit (peersAt n) (λ p v f. peers-at n p v)) (λ m q. bad-peers es m q e hn) (λ y. y))
+reply-in es (under p v) e =
+    told-map (NoReply (dict es)) Unit (stringAt p v) failure
+    (told-as (NoString p v) (NoReply (dict es)) (AString (lookup 1 es failureReason)) Unit (stringAt p v) (string-at (lookup 1 es failureReason) p v e) (λ n q. bad-reason es p v n q e) (λ y. tt))
 
 value-in : (v : Value) → Told (NoReply v) Unit (then (dictionaryAt 0 v) replyIn)
 value-in (str bs) = no-top (str bs) (λ bs f. let x : _≡_ {A = ℕ} 0 1 = cc in omega arith)
@@ -161,17 +164,14 @@ reply-causes s n p e = subst (Told (WhyRefused s) Unit) e (reply-told s)
 
 -- ---- a cause has its refusal
 
-no-string-value : (p : ℕ) (v : Value) → ((bs : List ℕ) → v ≡ str bs → ⊥) → stringAt p v ≡ refused 10 p
-no-string-value p (str bs) h = absurd (h bs refl)
-no-string-value p (int z) h = refl
-no-string-value p (list vs) h = refl
-no-string-value p (dict es) h = refl
-
-no-integer-value : (most p : ℕ) (v : Value) → ((z : ℤ) → v ≡ int z → ⊥) → naturalAt most p v ≡ refused 10 p
-no-integer-value most p (str bs) h = refl
-no-integer-value most p (int z) h = absurd (h z refl)
-no-integer-value most p (list vs) h = refl
-no-integer-value most p (dict es) h = refl
+string-value : (p : ℕ) (v : Value) (n q : ℕ) → NoString p v n q → stringAt p v ≡ refused n q
+string-value p v n q (no-string w h) = go w h
+  where
+    go : (w : Value) → ((bs : List ℕ) → w ≡ str bs → ⊥) → stringAt p w ≡ refused 10 p
+    go (str bs) h = absurd (h bs refl)
+    go (int z) h = refl
+    go (list vs) h = refl
+    go (dict es) h = refl
 
 no-dictionary-value : (p : ℕ) (v : Value) → ((es : Entries) → v ≡ dict es → ⊥) → dictionaryAt p v ≡ refused 10 p
 no-dictionary-value p (str bs) h = refl
@@ -179,20 +179,31 @@ no-dictionary-value p (int z) h = refl
 no-dictionary-value p (list vs) h = refl
 no-dictionary-value p (dict es) h = absurd (h es refl)
 
-other-length-value : (p : ℕ) (bs : List ℕ) → (length bs ≡ 20 → ⊥) → idAt p (str bs) ≡ refused 15 p
-other-length-value p bs h = go (eqb (length bs) 20) refl
+id-value : (p : ℕ) (v : Value) (n q : ℕ) → NoId p v n q → idAt p v ≡ refused n q
+id-value p v n q (no-id w m r h) = ap (λ (o : Outcome Part). then o (idLength p)) (string-value p w m r h)
+id-value p v n q (other-length bs h) = go (eqb (length bs) 20) refl
   where
     go : (b : Bool) → eqb (length bs) 20 ≡ b → cond b (taken (partOf p bs)) (refused 15 p) ≡ refused 15 p
     go true f = absurd (h (eqb-true (length bs) 20 f))
     go false f = refl
 
-out-of-range-value : (most p : ℕ) (z : ℤ) → ((n : ℕ) → z ≡ pos n → n ≤ most → ⊥) → naturalAt most p (int z) ≡ refused 11 p
-out-of-range-value most p (pos n) h = go (leb n most) refl
+number-value : (most p : ℕ) (v : Value) (n q : ℕ) → NoNumber (UpTo most) p v n q → naturalAt most p v ≡ refused n q
+number-value most p v n q (no-integer w h) = go w h
   where
-    go : (b : Bool) → leb n most ≡ b → cond b (taken n) (refused 11 p) ≡ refused 11 p
-    go true f = absurd (h n refl (leb-true n most f))
-    go false f = refl
-out-of-range-value most p (negsuc n) h = refl
+    go : (w : Value) → ((z : ℤ) → w ≡ int z → ⊥) → naturalAt most p w ≡ refused 10 p
+    go (str bs) h = refl
+    go (int z) h = absurd (h z refl)
+    go (list vs) h = refl
+    go (dict es) h = refl
+number-value most p v n q (out-of-range z h) = go z h
+  where
+    by : (k : ℕ) (b : Bool) → leb k most ≡ b → (k ≤ most → ⊥) → cond b (taken k) (refused 11 p) ≡ refused 11 p
+    by k true f i = absurd (i (leb-true k most f))
+    by k false f i = refl
+
+    go : (z : ℤ) → ((k : ℕ) → z ≡ pos k → k ≤ most → ⊥) → naturalAt most p (int z) ≡ refused 11 p
+    go (pos k) h = by k (leb k most) refl (h k refl)
+    go (negsuc k) h = refl
 
 module _ (d : ℕ) (u : Under) where
   must-none : {A : Type 0} (g : ℕ → Value → Outcome A) → u ≡ nothing → must d u g ≡ refused 10 d
@@ -201,22 +212,9 @@ module _ (d : ℕ) (u : Under) where
   must-under : {A : Type 0} (g : ℕ → Value → Outcome A) (p : ℕ) (v : Value) → u ≡ under p v → must d u g ≡ g p v
   must-under g p v e = ap (λ (w : Under). must d w g) e
 
-  string-fault : (n p : ℕ) → NoString d u n p → must d u stringAt ≡ refused n p
-  string-fault n p (no-key e) = must-none stringAt e
-  string-fault n p (other q v e h) = must-under stringAt q v e ∙ no-string-value q v h
-
-  id-of-string : (n p : ℕ) → NoString d u n p → must d u idAt ≡ refused n p
-  id-of-string n p (no-key e) = must-none idAt e
-  id-of-string n p (other q v e h) = must-under idAt q v e ∙ ap (λ (o : Outcome Part). then o (idLength q)) (no-string-value q v h)
-
-  id-fault : (n p : ℕ) → NoId d u n p → must d u idAt ≡ refused n p
-  id-fault n p (no-string m q h) = id-of-string m q h
-  id-fault n p (other-length q bs e h) = must-under idAt q (str bs) e ∙ other-length-value q bs h
-
-  number-fault : (most n p : ℕ) → NoNumber most d u n p → must d u (naturalAt most) ≡ refused n p
-  number-fault most n p (no-number-key e) = must-none (naturalAt most) e
-  number-fault most n p (no-integer q v e h) = must-under (naturalAt most) q v e ∙ no-integer-value most q v h
-  number-fault most n p (out-of-range q z e h) = must-under (naturalAt most) q (int z) e ∙ out-of-range-value most q z h
+  lacks-fault : {A : Type 0} (W : ℕ → Value → ℕ → ℕ → Type 0) (g : ℕ → Value → Outcome A) → ((p : ℕ) (v : Value) (n q : ℕ) → W p v n q → g p v ≡ refused n q) → (n q : ℕ) → Lacks d u W n q → must d u g ≡ refused n q
+  lacks-fault W g k n q (missing e) = must-none g e
+  lacks-fault W g k n q (wrong p v m r e h) = must-under g p v e ∙ k p v m r h
 
   string-fine : AString u → (x : Part) × (must d u stringAt ≡ taken x)
   string-fine (p, bs, e) = (partOf p bs, must-under stringAt p (str bs) e)
@@ -236,14 +234,14 @@ after o g (a, e) k = ap (λ z. then z g) e ∙ k a
 
 peer-fault : (p : ℕ) (v : Value) (n q : ℕ) → NoPeer p v n q → peerAt p v ≡ refused n q
 peer-fault p v n q (no-dictionary w h) = first-refused (dictionaryAt p w) (peerIn p) (no-dictionary-value p w h)
-peer-fault p v n q (bad-id es m r h) = first-refused (must p (lookup (p + 1) es peerId) idAt) _ (id-fault p (lookup (p + 1) es peerId) m r h)
+peer-fault p v n q (bad-id es m r h) = first-refused (must p (lookup (p + 1) es peerId) idAt) _ (lacks-fault p (lookup (p + 1) es peerId) NoId idAt id-value m r h)
 peer-fault p v n q (bad-ip es m r i h) =
     after (must p (lookup (p + 1) es peerId) idAt) _ (id-fine p (lookup (p + 1) es peerId) i) (λ x.
-    first-refused (must p (lookup (p + 1) es ip) stringAt) _ (string-fault p (lookup (p + 1) es ip) m r h))
+    first-refused (must p (lookup (p + 1) es ip) stringAt) _ (lacks-fault p (lookup (p + 1) es ip) NoString stringAt string-value m r h))
 peer-fault p v n q (bad-port es m r i a h) =
     after (must p (lookup (p + 1) es peerId) idAt) _ (id-fine p (lookup (p + 1) es peerId) i) (λ x.
     after (must p (lookup (p + 1) es ip) stringAt) _ (string-fine p (lookup (p + 1) es ip) a) (λ y.
-    first-refused (must p (lookup (p + 1) es port) (naturalAt 65535)) _ (number-fault p (lookup (p + 1) es port) 65535 m r h)))
+    first-refused (must p (lookup (p + 1) es port) (naturalAt 65535)) _ (lacks-fault p (lookup (p + 1) es port) (NoNumber (UpTo 65535)) (naturalAt 65535) (number-value 65535) m r h)))
 
 peer-fine : (p : ℕ) (v : Value) → APeer p v → (x : Listed) × (peerAt p v ≡ taken x)
 peer-fine p v (es, e, i, a, n) =
@@ -273,19 +271,18 @@ peers-fault i p v n q (other-kind w h k) = no-peers-value w h k
     no-peers-value (dict es) h k = refl
 peers-fault i p v n q (not-whole bs h) = go (eqb (length bs % 6) 0) refl
   where
-    go : (b : Bool) → eqb (length bs % 6) 0 ≡ b → cond {A = Outcome (Answer (List Entry))} b (taken (compact i (partOf p bs .from) (sixes bs))) (refused 15 p) ≡ refused 15 p
+    go : (b : Bool) → eqb (length bs % 6) 0 ≡ b → cond {A = Outcome (Answer (List PeerEntry))} b (taken (compact i (partOf p bs .from) (sixes bs))) (refused 15 p) ≡ refused 15 p
     go true f = let e = eqb-true (length bs % 6) 0 f in absurd (omega arith)
     go false f = refl
 peers-fault i p v n q (bad-peer vs m r h) = ap (map (listing i (p + 1))) (some-fault (p + 1) vs m r h)
 
 reply-fault : (v : Value) (n p : ℕ) → NoReply v n p → then (dictionaryAt 0 v) replyIn ≡ refused n p
 reply-fault v n p (no-top w h) = first-refused (dictionaryAt 0 w) replyIn (no-dictionary-value 0 w h)
-reply-fault v n p (bad-reason es q w e h) = ap (replyBy es) e ∙ ap (map failure) (no-string-value q w h)
-reply-fault v n p (bad-interval es m q e h) = ap (replyBy es) e ∙ first-refused (must 0 (lookup 1 es interval) (naturalAt 2147483647)) _ (number-fault 0 (lookup 1 es interval) 2147483647 m q h)
-reply-fault v n p (no-peers-key es e i f) =
-    ap (replyBy es) e ∙ after (must 0 (lookup 1 es interval) (naturalAt 2147483647)) _ (number-fine 0 (lookup 1 es interval) 2147483647 i) (λ x. must-none 0 (lookup 1 es peers) (peersAt x) f)
-reply-fault v n p (bad-peers es q w m r e i f h) =
-    ap (replyBy es) e ∙ after (must 0 (lookup 1 es interval) (naturalAt 2147483647)) _ (number-fine 0 (lookup 1 es interval) 2147483647 i) (λ x. must-under 0 (lookup 1 es peers) (peersAt x) q w f ∙ peers-fault x q w m r h)
+reply-fault v n p (bad-reason es q w m r e h) = ap (replyBy es) e ∙ ap (map failure) (string-value q w m r h)
+reply-fault v n p (bad-interval es m q e h) =
+    ap (replyBy es) e ∙ first-refused (must 0 (lookup 1 es interval) (naturalAt 2147483647)) _ (lacks-fault 0 (lookup 1 es interval) (NoNumber (UpTo 2147483647)) (naturalAt 2147483647) (number-value 2147483647) m q h)
+reply-fault v n p (bad-peers es m q e i h) =
+    ap (replyBy es) e ∙ after (must 0 (lookup 1 es interval) (naturalAt 2147483647)) _ (number-fine 0 (lookup 1 es interval) 2147483647 i) (λ x. lacks-fault 0 (lookup 1 es peers) NoPeers (peersAt x) (peers-fault x) m q h)
 
 -- and where a cause holds, that refusal is given
 pub reply-refused : (s : List ℕ) (n p : ℕ) → WhyRefused s n p → replyOf s ≡ refused n p

@@ -3,7 +3,7 @@ use mathlib.Core.Path.{_≡_, refl, sym, ap, _∙_}
 use Prim.Native.Nat.{ℕ}
 use Rattle.refusal.specs.Paper.{Outcome, taken, refused}
 use Rattle.refusal.specs.declared.Refusal.{Refusal}
-use Rattle.tracker.specs.Entries.{Entry, packed, listed, Step, packedPaper, listedPaper, countPaper}
+use Rattle.tracker.specs.Entries.{PeerEntry, packed, listed, PeerStep, packedPaper, listedPaper, countPaper}
 use Rattle.tracker.specs.Reply.{Answer, failure, compact, listing}
 use Rattle.tracker.specs.Reading.{paper, peerPaper}
 use Rattle.tracker.specs.declared.Reply.{Reply}
@@ -27,25 +27,25 @@ replyAs (taken (compact n p k)) = Compact (record { interval = n; count = k; fir
 replyAs (taken (listing n p k)) = Listing (record { interval = n; count = k; first = p })
 replyAs (refused n p) = Refused (refusalAs n p)
 
-abbrev foundAs : Outcome Entry → Found
+abbrev foundAs : Outcome PeerEntry → Found
 foundAs (taken (packed x)) = Packed x
 foundAs (taken (listed x)) = Listed x
 foundAs (refused n p) = NoPeer (refusalAs n p)
 
 -- what an entry of the other form would be is of no account
-abbrev packingBy : Entry → ℕ → Packing
+abbrev packingBy : PeerEntry → ℕ → Packing
 packingBy (packed x) q = PackedIs x q
 packingBy (listed x) q = PackedNot (refusalAs 0 q)
 
-abbrev packingAs : Outcome Step → Packing
+abbrev packingAs : Outcome PeerStep → Packing
 packingAs (taken x) = packingBy (x .entry) (x .next)
 packingAs (refused n p) = PackedNot (refusalAs n p)
 
-abbrev listingBy : Entry → ℕ → Listings
+abbrev listingBy : PeerEntry → ℕ → Listings
 listingBy (packed x) q = Not (refusalAs 0 q)
 listingBy (listed x) q = Is x q
 
-abbrev listingAs : Outcome Step → Listings
+abbrev listingAs : Outcome PeerStep → Listings
 listingAs (taken x) = listingBy (x .entry) (x .next)
 listingAs (refused n p) = Not (refusalAs n p)
 
@@ -80,14 +80,14 @@ counted-again (Bad r) = refl
 pub read-determined : (o : Outcome (Answer ℕ)) (r t : Reply) → paper r ≡ o → paper t ≡ o → r ≡ t
 read-determined o r t e f = sym (reply-again r) ∙ ap replyAs (e ∙ sym f) ∙ reply-again t
 
-pub peer-determined : (o : Outcome Entry) (r t : Found) → peerPaper r ≡ o → peerPaper t ≡ o → r ≡ t
+pub peer-determined : (o : Outcome PeerEntry) (r t : Found) → peerPaper r ≡ o → peerPaper t ≡ o → r ≡ t
 peer-determined o r t e f = sym (found-again r) ∙ ap foundAs (e ∙ sym f) ∙ found-again t
 
 -- packed_at and compact::nth, listed_at and listed::nth, count
-pub packed-determined : (o : Outcome Step) (r t : Packing) → packedPaper r ≡ o → packedPaper t ≡ o → r ≡ t
+pub packed-determined : (o : Outcome PeerStep) (r t : Packing) → packedPaper r ≡ o → packedPaper t ≡ o → r ≡ t
 packed-determined o r t e f = sym (packing-again r) ∙ ap packingAs (e ∙ sym f) ∙ packing-again t
 
-pub listed-determined : (o : Outcome Step) (r t : Listings) → listedPaper r ≡ o → listedPaper t ≡ o → r ≡ t
+pub listed-determined : (o : Outcome PeerStep) (r t : Listings) → listedPaper r ≡ o → listedPaper t ≡ o → r ≡ t
 listed-determined o r t e f = sym (listing-again r) ∙ ap listingAs (e ∙ sym f) ∙ listing-again t
 
 pub count-determined : (o : Outcome ℕ) (r t : Counted) → countPaper r ≡ o → countPaper t ≡ o → r ≡ t

@@ -23,9 +23,9 @@ use Rattle.fields.specs.Looks.{ranged}
 use Rattle.fields.specs.Values.{partOf, stringAt, naturalAt, dictionaryAt, must}
 use Rattle.fields.proofs.Standing.{part-bytes}
 use Rattle.tracker.specs.Keys.{failureReason, interval, peers, ip, peerId, port}
-use Rattle.tracker.specs.Entries.{Entry, packed, listed, idLength}
+use Rattle.tracker.specs.Entries.{PeerEntry, packed, listed, idLength}
 use Rattle.tracker.specs.Reply.{Answer, failure, compact, listing, sixes, idAt, peerIn, peerAt, peersFrom, peersAt, answeredIn, replyBy, replyIn, replyOf}
-use Rattle.tracker.specs.Exact.{Peer, IsPeer, ArePeers, no-more, one-more, Said, failed, packs, lists, Waits, IsReply, fails, has-string, has-list, Is, ShowsPeers, shows-none, shows-one, Shows, shows-failure, shows-packs, shows-lists, ReplyExact}
+use Rattle.tracker.specs.Exact.{Peer, IsPeer, ArePeers, no-more, one-more, ReplySays, failed, packs, lists, Waits, IsReply, fails, has-string, has-list, Is, ShowsPeers, shows-none, shows-one, ShowsReply, shows-failure, shows-packs, shows-lists, ReplyExact}
 use Rattle.tracker.specs.declared.listed.Listed.{Listed}
 use Rattle.walk.proofs.Having.{found-has, has-found, none-has, has-none}
 
@@ -105,10 +105,10 @@ module _ (s : List ℕ) where
         refl,
       ))))
 
-  abbrev Each : Items → List Entry → Type 0
+  abbrev Each : Items → List PeerEntry → Type 0
   Each vs l = (k : List Peer) × ArePeers vs k × ShowsPeers s l k
 
-  took-one : (d p : ℕ) (v : Value) (vs : Items) (m : Outcome (List Entry)) → Stands s d p v → Took (Each vs) m → Took (Each (item v vs)) (then (peerAt p v) (λ x. map (λ l. listed x ∷ l) m))
+  took-one : (d p : ℕ) (v : Value) (vs : Items) (m : Outcome (List PeerEntry)) → Stands s d p v → Took (Each vs) m → Took (Each (item v vs)) (then (peerAt p v) (λ x. map (λ l. listed x ∷ l) m))
   took-one d p (str bs) vs m t h = tt
   took-one d p (int z) vs m t h = tt
   took-one d p (list ws) vs m t h = tt
@@ -130,8 +130,8 @@ module _ (s : List ℕ) where
       took-one d p v vs (peersFrom (p + length (encode v)) vs) (i .0) (took-items d (p + length (encode v)) vs (i .1))
 
   module _ (e : ℕ) (es : Entries) (t : StandEntries s e 1 start es) where
-    abbrev Says : Answer (List Entry) → Type 0
-    Says x = (r : Said) × IsReply (dict es) r × Shows s x r
+    abbrev Says : Answer (List PeerEntry) → Type 0
+    Says x = (r : ReplySays) × IsReply (dict es) r × ShowsReply s x r
 
     took-peers : (n : ℕ) → Waits es n → (q : ℕ) (v : Value) → lookup 1 es peers ≡ under q v → Took Says (peersAt n q v)
     took-peers n w q (str bs) u = go (eqb (length bs % 6) 0) refl
@@ -160,8 +160,8 @@ module _ (s : List ℕ) where
         took-map (String s e 1 es t failureReason) Says (stringAt q v) failure (took-string s e 1 es t failureReason q v f)
         (λ x h. (failed (h .0), fails es (h .0) (h .1), shows-failure x (h .0) (h .2)))
 
-  abbrev SaysOf : Value → Answer (List Entry) → Type 0
-  SaysOf v x = (r : Said) × IsReply v r × Shows s x r
+  abbrev SaysOf : Value → Answer (List PeerEntry) → Type 0
+  SaysOf v x = (r : ReplySays) × IsReply v r × ShowsReply s x r
 
   took-value : (v : Value) → Stands s 32 0 v → Took (SaysOf v) (then (dictionaryAt 0 v) replyIn)
   took-value (str bs) t = tt
@@ -169,14 +169,14 @@ module _ (s : List ℕ) where
   took-value (list vs) t = tt
   took-value (dict es) t = let k = dictionary-stands s 32 0 es t .1 in took-reply (k .0) es (k .2) (lookup 1 es failureReason) refl
 
-  took-text : (x : Answer (List Entry)) (o : Outcome Value) → decode s ≡ o → then o (λ v. then (dictionaryAt 0 v) replyIn) ≡ taken x → (v : Value) × (r : Said) × Fine s v × IsReply v r × Shows s x r
+  took-text : (x : Answer (List PeerEntry)) (o : Outcome Value) → decode s ≡ o → then o (λ v. then (dictionaryAt 0 v) replyIn) ≡ taken x → (v : Value) × (r : ReplySays) × Fine s v × IsReply v r × ShowsReply s x r
   took-text x (taken v) d e =
       let f = taken-fine s v d in
       let h = subst (Took (SaysOf v)) e (took-value v (fine-stands s v f)) in
       (v, h .0, f, h .1, h .2)
   took-text x (refused n p) d e = no-way (cc)
 
-  pub reply-only : (x : Answer (List Entry)) → replyOf s ≡ taken x → (v : Value) × (r : Said) × Fine s v × IsReply v r × Shows s x r
+  pub reply-only : (x : Answer (List PeerEntry)) → replyOf s ≡ taken x → (v : Value) × (r : ReplySays) × Fine s v × IsReply v r × ShowsReply s x r
   unfolding replyOf
   reply-only x e = took-text x (decode s) refl e
 
@@ -218,32 +218,32 @@ module _ (s : List ℕ) where
       (λ a ha. made-then (λ (m : ℕ). m ≡ x .port) (Shown x) (must p (lookup (p + 1) es port) (naturalAt 65535)) _ (made-number e (p + 1) es t p port 65535 (x .port) (h .has-port) (h .port-small))
       (λ n hn. (record { id = i; ip = a; port = n }, refl, (hi, ha, hn)))))
 
-  made-items : (d p : ℕ) (vs : Items) (k : List Peer) → StandItems s d p vs → ArePeers vs k → Made (λ (l : List Entry). ShowsPeers s l k) (peersFrom p vs)
+  made-items : (d p : ℕ) (vs : Items) (k : List Peer) → StandItems s d p vs → ArePeers vs k → Made (λ (l : List PeerEntry). ShowsPeers s l k) (peersFrom p vs)
   unfolding peersFrom
   made-items d p vs k t no-more = ([], refl, shows-none)
   made-items d p vs k t (one-more es ws x l h more) =
       let i = items-next s d p (dict es) ws t in
       let g = dictionary-stands s d p es (i .0) .1 in
-      made-then (Shown x) (λ (m : List Entry). ShowsPeers s m (x ∷ l)) (peerIn p es) _ (made-peer (g .0) p es x (g .2) h)
-      (λ y hy. made-map (λ (m : List Entry). ShowsPeers s m l) (λ (m : List Entry). ShowsPeers s m (x ∷ l)) (peersFrom (p + length (encode (dict es))) ws) (λ m. listed y ∷ m) (made-items d (p + length (encode (dict es))) ws l (i .1) more)
+      made-then (Shown x) (λ (m : List PeerEntry). ShowsPeers s m (x ∷ l)) (peerIn p es) _ (made-peer (g .0) p es x (g .2) h)
+      (λ y hy. made-map (λ (m : List PeerEntry). ShowsPeers s m l) (λ (m : List PeerEntry). ShowsPeers s m (x ∷ l)) (peersFrom (p + length (encode (dict es))) ws) (λ m. listed y ∷ m) (made-items d (p + length (encode (dict es))) ws l (i .1) more)
       (λ m hm. subst (λ (n : ℕ). ShowsPeers s (listed (record { id = y .id; ip = y .ip; port = n }) ∷ m) (x ∷ l)) (sym (hy .2)) (shows-one (y .id) (y .ip) x m l (hy .0) (hy .1) hm)))
 
   module _ (e : ℕ) (es : Entries) (t : StandEntries s e 1 start es) where
-    made-waits : (n : ℕ) (v : Value) (r : Said) → Waits es n → Has es peers v → ((q : ℕ) → Stands s e q v → Made (λ x. Shows s x r) (peersAt n q v)) → Made (λ x. Shows s x r) (replyIn es)
+    made-waits : (n : ℕ) (v : Value) (r : ReplySays) → Waits es n → Has es peers v → ((q : ℕ) → Stands s e q v → Made (λ x. ShowsReply s x r) (peersAt n q v)) → Made (λ x. ShowsReply s x r) (replyIn es)
     made-waits n v r w h m =
         let f = has-none 1 es failureReason (w .no-failure) in
-        let y = made-then (λ (k : ℕ). k ≡ n) (λ x. Shows s x r) (must 0 (lookup 1 es interval) (naturalAt 2147483647)) (λ k. must 0 (lookup 1 es peers) (peersAt k))
+        let y = made-then (λ (k : ℕ). k ≡ n) (λ x. ShowsReply s x r) (must 0 (lookup 1 es interval) (naturalAt 2147483647)) (λ k. must 0 (lookup 1 es peers) (peersAt k))
         (made-number e 1 es t 0 interval 2147483647 n (w .has-interval) (w .interval-small))
-        (λ k hk. subst (λ (j : ℕ). Made (λ x. Shows s x r) (must 0 (lookup 1 es peers) (peersAt j))) (sym hk) (made-must e 1 es t (λ x. Shows s x r) 0 peers v (peersAt n) h m)) in
+        (λ k hk. subst (λ (j : ℕ). Made (λ x. ShowsReply s x r) (must 0 (lookup 1 es peers) (peersAt j))) (sym hk) (made-must e 1 es t (λ x. ShowsReply s x r) 0 peers v (peersAt n) h m)) in
         (y .0, ap (replyBy es) f ∙ y .1, y .2)
 
-    made-failure : (bs : List ℕ) → Has es failureReason (str bs) → Made (λ x. Shows s x (failed bs)) (replyIn es)
+    made-failure : (bs : List ℕ) → Has es failureReason (str bs) → Made (λ x. ShowsReply s x (failed bs)) (replyIn es)
     made-failure bs h =
         let r = has-found 1 es failureReason (str bs) e start h (t .keeps) in
         let u = found-stands s e 1 start es failureReason t (r .0) (str bs) (r .1) in
         (failure (partOf (r .0) bs), ap (replyBy es) (r .1), shows-failure (partOf (r .0) bs) bs (part-bytes s e (r .0) bs u))
 
-  made-value : (v : Value) (r : Said) → Stands s 32 0 v → IsReply v r → Made (λ x. Shows s x r) (then (dictionaryAt 0 v) replyIn)
+  made-value : (v : Value) (r : ReplySays) → Stands s 32 0 v → IsReply v r → Made (λ x. ShowsReply s x r) (then (dictionaryAt 0 v) replyIn)
   made-value v r t (fails es bs h) = let k = dictionary-stands s 32 0 es t .1 in made-failure (k .0) es (k .2) bs h
   made-value v r t (has-string es n bs w h l) =
       let k = dictionary-stands s 32 0 es t .1 in
@@ -253,10 +253,10 @@ module _ (s : List ℕ) where
       let k = dictionary-stands s 32 0 es t .1 in
       made-waits (k .0) es (k .2) n (list vs) (lists n l) w h
       (λ q u. let g = list-stands s (k .0) q vs u .1 in
-      made-map (λ (m : List Entry). ShowsPeers s m l) (λ x. Shows s x (lists n l)) (peersFrom (q + 1) vs) (listing n (q + 1)) (made-items (g .0) (q + 1) vs l (g .2) ps)
+      made-map (λ (m : List PeerEntry). ShowsPeers s m l) (λ x. ShowsReply s x (lists n l)) (peersFrom (q + 1) vs) (listing n (q + 1)) (made-items (g .0) (q + 1) vs l (g .2) ps)
       (λ m hm. shows-lists n (q + 1) m l hm))
 
-  pub reply-every : (v : Value) (r : Said) → Fine s v → IsReply v r → (x : Answer (List Entry)) × (replyOf s ≡ taken x) × Shows s x r
+  pub reply-every : (v : Value) (r : ReplySays) → Fine s v → IsReply v r → (x : Answer (List PeerEntry)) × (replyOf s ≡ taken x) × ShowsReply s x r
   unfolding replyOf
   reply-every v r f h =
       let y = made-value v r (fine-stands s v f) h in

@@ -5,41 +5,30 @@ use Prim.Native.Nat.{ℕ, zero, suc, _<_, _≤_}
 use native.Mathlib.Omega.{arith}
 use lib.ListN.{length}
 use Rattle.refusal.specs.Paper.{Outcome, taken, refused, map, then}
-use Rattle.tracker.specs.Entries.{Entry}
-use Rattle.tracker.specs.Reply.{Answer, failure, compact, listing, sixes, replyOf, counted, entryOf, nthOf}
+use Rattle.tracker.specs.Entries.{PeerEntry}
+use Rattle.tracker.specs.Reply.{Answer, failure, compact, listing, sixes, replyOf, counted, nthOf}
+use Rattle.fields.proofs.Nth.{nth-within, nth-beyond}
 use Rattle.tracker.specs.Reading.{entriesIn}
-use Rattle.tracker.specs.Exact.{Peer, Said, saidEntries, ShowsPeers, shows-none, shows-one, Shows, shows-failure, shows-packs, shows-lists}
+use Rattle.tracker.specs.Exact.{Peer, ReplySays, saidEntries, ShowsPeers, shows-none, shows-one, ShowsReply, shows-failure, shows-packs, shows-lists}
 use Rattle.tracker.proofs.Agreeing.{sixes-length}
 
-as-many : (s : List ℕ) (l : List Entry) (k : List Peer) → ShowsPeers s l k → length l ≡ length k
+as-many : (s : List ℕ) (l : List PeerEntry) (k : List Peer) → ShowsPeers s l k → length l ≡ length k
 as-many s l k shows-none = refl
 as-many s l k (shows-one i a x m j h g more) = ap suc (as-many s m j more)
 
 -- the number of entries is the value's
-pub entries-said : (s : List ℕ) (x : Answer (List Entry)) (r : Said) → Shows s x r → entriesIn (counted x) ≡ saidEntries r
+pub entries-said : (s : List ℕ) (x : Answer (List PeerEntry)) (r : ReplySays) → ShowsReply s x r → entriesIn (counted x) ≡ saidEntries r
 entries-said s x r (shows-failure p bs h) = refl
 entries-said s x r (shows-packs n p bs h) = sixes-length bs
 entries-said s x r (shows-lists n p l k h) = as-many s l k h
 
-within : (n : ℕ) (l : List Entry) → n < length l → (x : Entry) × (entryOf n l ≡ taken x)
-unfolding entryOf
-within n [] h = absurd (omega arith)
-within zero (x ∷ l) h = (x, refl)
-within (suc n) (x ∷ l) h = within n l (omega arith)
-
-beyond : (n : ℕ) (l : List Entry) → length l ≤ n → entryOf n l ≡ refused 31 0
-unfolding entryOf
-beyond n [] h = refl
-beyond zero (x ∷ l) h = absurd (omega arith)
-beyond (suc n) (x ∷ l) h = beyond n l (omega arith)
-
 -- a number below that of the entries has its entry, and every other is refused by 31
-pub entry-within : (n : ℕ) (x : Answer (List Entry)) → n < entriesIn (counted x) → (y : Entry) × (nthOf n x ≡ taken y)
+pub entry-within : (n : ℕ) (x : Answer (List PeerEntry)) → n < entriesIn (counted x) → (y : PeerEntry) × (nthOf n x ≡ taken y)
 entry-within n (failure p) h = absurd (omega arith)
-entry-within n (compact i p l) h = within n l h
-entry-within n (listing i p l) h = within n l h
+entry-within n (compact i p l) h = nth-within n l h
+entry-within n (listing i p l) h = nth-within n l h
 
-pub entry-beyond : (n : ℕ) (x : Answer (List Entry)) → entriesIn (counted x) ≤ n → nthOf n x ≡ refused 31 0
+pub entry-beyond : (n : ℕ) (x : Answer (List PeerEntry)) → entriesIn (counted x) ≤ n → nthOf n x ≡ refused 31 0
 entry-beyond n (failure p) h = refl
-entry-beyond n (compact i p l) h = beyond n l h
-entry-beyond n (listing i p l) h = beyond n l h
+entry-beyond n (compact i p l) h = nth-beyond n l h
+entry-beyond n (listing i p l) h = nth-beyond n l h

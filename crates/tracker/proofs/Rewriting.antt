@@ -22,11 +22,11 @@ use Rattle.writer.specs.Put.{Left, paper, left, putOf}
 use Rattle.writer.specs.declared.Put.{Put}
 use Rattle.writer.proofs.Laws.{paper-apart, Standing, put-whole, put-none, standing}
 use Rattle.tracker.specs.Keys.{failureReason, interval, peers}
-use Rattle.tracker.specs.Entries.{Entry}
+use Rattle.tracker.specs.Entries.{PeerEntry}
 use Rattle.tracker.specs.Reply.{Answer, failure, compact, listing, sixes, replyOf}
 use Rattle.tracker.specs.Writing.{compactReply, textOf, writeOf}
 use Rattle.tracker.specs.Faults.{NotWritten, too-late, not-sixes, too-long, no-room}
-use Rattle.tracker.specs.Exact.{Said, failed, packs, lists, Waits, IsReply, fails, has-string, has-list, Shows, shows-failure, shows-packs, shows-lists}
+use Rattle.tracker.specs.Exact.{ReplySays, failed, packs, lists, Waits, IsReply, fails, has-string, has-list, ShowsReply, shows-failure, shows-packs, shows-lists}
 use Rattle.walk.proofs.Having.{found-has, has-found, has-none}
 use Rattle.tracker.proofs.Exact.{reply-only, reply-every}
 use Rattle.tracker.proofs.Agreeing.{sixes-length}
@@ -64,7 +64,7 @@ module _ (n : ℕ) (bs : List ℕ) (small : n ≤ 2147483647) (whole : length bs
   written-reply : IsReply (compactReply n bs) (packs n bs)
   written-reply = has-string (entry interval (int (pos n)) (entry peers (str bs) empty)) n bs reply-waits (there interval (int (pos n)) (entry peers (str bs) empty) peers (str bs) (here peers (str bs) empty)) whole
 
-  shown : (s : List ℕ) (x : Answer (List Entry)) (r : Said) → Shows s x r → r ≡ packs n bs → (p : ℕ) × (x ≡ compact n p (sixes bs)) × (take (length bs) (drop p s) ≡ bs)
+  shown : (s : List ℕ) (x : Answer (List PeerEntry)) (r : ReplySays) → ShowsReply s x r → r ≡ packs n bs → (p : ℕ) × (x ≡ compact n p (sixes bs)) × (take (length bs) (drop p s) ≡ bs)
   shown s x r (shows-failure p cs h) e = no-way (cc)
   shown s x r (shows-packs m p cs h) e =
       let a : m ≡ n = cc in
@@ -145,7 +145,7 @@ module _ (s : List ℕ) (v w : Value) (f : Fine s (dict (entry interval v (entry
   unfolding Keeps lookup sameKey
   peers-next u h = let r = has-found 1 (entry interval v (entry peers w empty)) peers u (f .keeps .0) start h (f .keeps .2) in let a = r .1 in cc
 
-  packs-only : (n : ℕ) (bs : List ℕ) (y : Value) (r : Said) → IsReply y r → y ≡ dict (entry interval v (entry peers w empty)) → r ≡ packs n bs → (v ≡ int (pos n)) × (w ≡ str bs)
+  packs-only : (n : ℕ) (bs : List ℕ) (y : Value) (r : ReplySays) → IsReply y r → y ≡ dict (entry interval v (entry peers w empty)) → r ≡ packs n bs → (v ≡ int (pos n)) × (w ≡ str bs)
   packs-only n bs y r (fails es cs h) e g = no-way (cc)
   packs-only n bs y r (has-string es m cs t h l) e g =
       let a : es ≡ entry interval v (entry peers w empty) = cc in
@@ -156,7 +156,7 @@ module _ (s : List ℕ) (v w : Value) (f : Fine s (dict (entry interval v (entry
       )
   packs-only n bs y r (has-list es m vs l t h ps) e g = no-way (cc)
 
-  compact-said : (n p : ℕ) (l : List Entry) (x : Answer (List Entry)) (r : Said) → Shows s x r → x ≡ compact n p l → (bs : List ℕ) × (r ≡ packs n bs) × (take (length bs) (drop p s) ≡ bs) × (l ≡ sixes bs)
+  compact-said : (n p : ℕ) (l : List PeerEntry) (x : Answer (List PeerEntry)) (r : ReplySays) → ShowsReply s x r → x ≡ compact n p l → (bs : List ℕ) × (r ≡ packs n bs) × (take (length bs) (drop p s) ≡ bs) × (l ≡ sixes bs)
   compact-said n p l x r (shows-failure q cs h) e = no-way (cc)
   compact-said n p l x r (shows-packs m q cs h) e =
       let a : m ≡ n = cc in
@@ -166,7 +166,7 @@ module _ (s : List ℕ) (v w : Value) (f : Fine s (dict (entry interval v (entry
   compact-said n p l x r (shows-lists m q k j h) e = no-way (cc)
 
   -- a text that is read with only those keys, its peers a string, is written again from the fields that were read
-  pub rewrite : (n p : ℕ) (l : List Entry) → replyOf s ≡ taken (compact n p l) → (bs : List ℕ) × (take (length bs) (drop p s) ≡ bs) × (l ≡ sixes bs) × (textOf n bs ≡ s)
+  pub rewrite : (n p : ℕ) (l : List PeerEntry) → replyOf s ≡ taken (compact n p l) → (bs : List ℕ) × (take (length bs) (drop p s) ≡ bs) × (l ≡ sixes bs) × (textOf n bs ≡ s)
   rewrite n p l e =
       let o = reply-only s (compact n p l) e in
       let c = compact-said n p l (compact n p l) (o .1) (o .4) refl in

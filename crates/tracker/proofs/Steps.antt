@@ -26,7 +26,7 @@ use Rattle.fields.specs.declared.Bytes.the-variants.{Are, Unread}
 use Rattle.fields.specs.declared.Natural.{Natural}
 use Rattle.fields.specs.declared.Natural.the-variants.{Is as Number, Not as NoNumber}
 use Rattle.tracker.specs.Keys.{interval, peers, ip, peerId, port}
-use Rattle.tracker.specs.Entries.{Entry, packed, listed, Step, idLength, idOf, sixAt, packedAt, pastPeer, peerFrom, peerBy, listedPaper, listedAt, countFrom, nthAt}
+use Rattle.tracker.specs.Entries.{PeerEntry, packed, listed, PeerStep, idLength, idOf, sixAt, packedAt, pastPeer, peerFrom, peerBy, listedPaper, listedAt, countFrom, nthAt}
 use Rattle.tracker.specs.Reply.{Answer, compact}
 use Rattle.tracker.specs.Reading.{compactOf, peersOf, answeredOf}
 use Rattle.tracker.specs.declared.listed.Listing.{Listing}
@@ -46,13 +46,13 @@ module _ (q : ℕ) (x : Part) where
   id-bad h = rw (ne-eqb (x .len) 20 h)
 
 -- the continuation of each check of a peer
-abbrev pub afterPort : List ℕ → ℕ → Part → Part → ℕ → Outcome Step
+abbrev pub afterPort : List ℕ → ℕ → Part → Part → ℕ → Outcome PeerStep
 afterPort s p id a n = pastPeer s p (record { id = id; ip = a; port = n })
 
-abbrev pub afterIp : List ℕ → ℕ → Outcome Hit → Part → Part → Outcome Step
+abbrev pub afterIp : List ℕ → ℕ → Outcome Hit → Part → Part → Outcome PeerStep
 afterIp s p ports id a = then (needed p ports (naturalOf 65535 s)) (afterPort s p id a)
 
-abbrev pub afterId : List ℕ → ℕ → Outcome Hit → Outcome Hit → Part → Outcome Step
+abbrev pub afterId : List ℕ → ℕ → Outcome Hit → Outcome Hit → Part → Outcome PeerStep
 afterId s p ips ports id = then (needed p ips (stringOf s)) (afterIp s p ports id)
 
 pub hits : (s : List ℕ) (p first : ℕ) (ips ids ports : Outcome Hit) → ips ≡ soughtFrom s first ip → ids ≡ soughtAfter s ips peerId → ports ≡ soughtAfter s ids port
@@ -75,15 +75,15 @@ module _ (s : List ℕ) (p : ℕ) where
   packed-cut h = rw (lt-leb (p + 6) (length s) h)
 
 -- the place past a peer that was read: further on, and within the text
-taken-past : {A : Type 0} (o : Outcome A) (f : A → Outcome Step) (x : Step) → then o f ≡ taken x → (a : A) × (f a ≡ taken x)
+taken-past : {A : Type 0} (o : Outcome A) (f : A → Outcome PeerStep) (x : PeerStep) → then o f ≡ taken x → (a : A) × (f a ≡ taken x)
 taken-past (taken a) f x e = (a, e)
 taken-past (refused n p) f x e = absurd (let z : _≡_ {A = ℕ} 0 1 = cc in omega arith)
 
-mapped : (o : Outcome ℕ) (y : Listed) (x : Step) → map (λ q. record { entry = listed y; next = q }) o ≡ taken x → o ≡ taken (x .next)
-mapped (taken q) y x e = let f : _≡_ {A = Step} (record { entry = listed y; next = q }) x = cc in ap (λ (z : Step). taken (z .next)) f
+mapped : (o : Outcome ℕ) (y : Listed) (x : PeerStep) → map (λ q. record { entry = listed y; next = q }) o ≡ taken x → o ≡ taken (x .next)
+mapped (taken q) y x e = let f : _≡_ {A = PeerStep} (record { entry = listed y; next = q }) x = cc in ap (λ (z : PeerStep). taken (z .next)) f
 mapped (refused n p) y x e = absurd (let z : _≡_ {A = ℕ} 0 1 = cc in omega arith)
 
-pub listed-skips : (s : List ℕ) (p : ℕ) (x : Step) → listedAt s p ≡ taken x → skipOf s p ≡ taken (x .next)
+pub listed-skips : (s : List ℕ) (p : ℕ) (x : PeerStep) → listedAt s p ≡ taken x → skipOf s p ≡ taken (x .next)
 unfolding listedAt
 listed-skips s p x e =
     let a = taken-past (dictionaryOf s p) (peerBy s p) x e in
@@ -218,7 +218,7 @@ module _ (n p a m : ℕ) where
   sixes-cut h = rw (ne-eqb (m % 6) 0 (λ e. omega arith))
 
 -- an entry's number against how many there are
-module _ (x : Outcome Entry) (count n : ℕ) where
+module _ (x : Outcome PeerEntry) (count n : ℕ) where
   pub in-count : n < count → x ≡ cond (ltb n count) x (refused 31 0)
   in-count h = rw (lt-ltb n count h)
 

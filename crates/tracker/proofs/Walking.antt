@@ -21,8 +21,9 @@ use Rattle.walk.proofs.Standing.{past, room, fine-stands, list-stands, items-ne
 use Rattle.walk.proofs.Finding.{found-stands}
 use Rattle.fields.specs.Values.{partOf, stringAt, naturalAt, dictionaryAt, must}
 use Rattle.tracker.specs.Keys.{failureReason, interval, peers}
-use Rattle.tracker.specs.Entries.{Entry, packed, listed, Step, packedOf, sixAt, packedAt, listedAt, nthAt}
-use Rattle.tracker.specs.Reply.{Answer, failure, compact, listing, sixes, peerAt, peersFrom, peersAt, answeredIn, replyBy, replyIn, replyOf, counted, entryOf, nthOf}
+use Rattle.tracker.specs.Entries.{PeerEntry, packed, listed, PeerStep, packedOf, sixAt, packedAt, listedAt, nthAt}
+use Rattle.tracker.specs.Reply.{Answer, failure, compact, listing, sixes, peerAt, peersFrom, peersAt, answeredIn, replyBy, replyIn, replyOf, counted, nthOf}
+use Rattle.fields.specs.Nth.{nth}
 use Rattle.tracker.specs.Reading.{paper, entryAt}
 use Rattle.tracker.specs.Walks.{Walks, ends, goes, Walked}
 use Rattle.tracker.specs.declared.Reply.{Reply}
@@ -56,8 +57,8 @@ packed-walks s (a ∷ b ∷ c ∷ d ∷ e ∷ f ∷ more) rest p h t =
     (packed-walks s more rest (p + 6) r (past s p (a ∷ b ∷ c ∷ d ∷ e ∷ f ∷ []) (more ++ rest) t))
 
 module _ (s : List ℕ) (d : ℕ) (levels : d ≤ 32) where
-  walks-more : (p : ℕ) (v : Value) (l : List Entry) (o : Outcome Listed) (m : Outcome (List Entry)) → listedAt s p ≡ map (λ x. record { entry = listed x; next = p + length (encode v) }) o
-      → ((k : List Entry) → m ≡ taken k → Walks (listedAt s) (p + length (encode v)) k) → then o (λ x. map (λ k. listed x ∷ k) m) ≡ taken l → Walks (listedAt s) p l
+  walks-more : (p : ℕ) (v : Value) (l : List PeerEntry) (o : Outcome Listed) (m : Outcome (List PeerEntry)) → listedAt s p ≡ map (λ x. record { entry = listed x; next = p + length (encode v) }) o
+      → ((k : List PeerEntry) → m ≡ taken k → Walks (listedAt s) (p + length (encode v)) k) → then o (λ x. map (λ k. listed x ∷ k) m) ≡ taken l → Walks (listedAt s) p l
   walks-more p v l (refused n q) m e more t = absurd (let z : _≡_ {A = ℕ} 0 1 = cc in omega arith)
   walks-more p v l (taken x) (refused n q) e more t = absurd (let z : _≡_ {A = ℕ} 0 1 = cc in omega arith)
   walks-more p v l (taken x) (taken k) e more t =
@@ -65,9 +66,9 @@ module _ (s : List ℕ) (d : ℕ) (levels : d ≤ 32) where
       let z : listed x ∷ k ≡ l = cc in
       subst (Walks (listedAt s) p) z w
 
-  pub listed-walks : (vs : Items) (p : ℕ) (l : List Entry) → StandItems s d p vs → peersFrom p vs ≡ taken l → Walks (listedAt s) p l
+  pub listed-walks : (vs : Items) (p : ℕ) (l : List PeerEntry) → StandItems s d p vs → peersFrom p vs ≡ taken l → Walks (listedAt s) p l
   unfolding peersFrom
-  listed-walks none p l t e = let z : _≡_ {A = List Entry} [] l = cc in subst (Walks (listedAt s) p) z (ends p)
+  listed-walks none p l t e = let z : _≡_ {A = List PeerEntry} [] l = cc in subst (Walks (listedAt s) p) z (ends p)
   listed-walks (item v vs) p l t e =
       let i = items-next s d p v vs t in
       walks-more p v l (peerAt p v) (peersFrom (p + length (encode v)) vs) (peer-is s d p levels v (i .0)) (λ k g. listed-walks vs (p + length (encode v)) k (i .1) g) e
@@ -80,39 +81,39 @@ ltb-suc n m = go (ltb n m) refl
     go true e = let h = ltb-true n m e in lt-ltb (suc n) (suc m) (omega arith)
     go false e = let h = ltb-false n m e in le-ltb (suc n) (suc m) (omega arith)
 
-packed-next : (s : List ℕ) (p : ℕ) (x : Entry) (q : ℕ) → packedAt s p ≡ taken (record { entry = x; next = q }) → q ≡ p + 6
+packed-next : (s : List ℕ) (p : ℕ) (x : PeerEntry) (q : ℕ) → packedAt s p ≡ taken (record { entry = x; next = q }) → q ≡ p + 6
 packed-next s p x q e = go (leb (p + 6) (length s)) e
   where
-    go : (b : Bool) → cond {A = Outcome Step} b (taken (record { entry = packed (sixAt s p); next = p + 6 })) (refused 1 (length s)) ≡ taken (record { entry = x; next = q }) → q ≡ p + 6
-    go true f = let g : _≡_ {A = Step} (record { entry = packed (sixAt s p); next = p + 6 }) (record { entry = x; next = q }) = cc in sym (ap (λ (z : Step). z .next) g)
+    go : (b : Bool) → cond {A = Outcome PeerStep} b (taken (record { entry = packed (sixAt s p); next = p + 6 })) (refused 1 (length s)) ≡ taken (record { entry = x; next = q }) → q ≡ p + 6
+    go true f = let g : _≡_ {A = PeerStep} (record { entry = packed (sixAt s p); next = p + 6 }) (record { entry = x; next = q }) = cc in sym (ap (λ (z : PeerStep). z .next) g)
     go false f = absurd (let z : _≡_ {A = ℕ} 0 1 = cc in omega arith)
 
-pub packed-nth : (s : List ℕ) (p : ℕ) (l : List Entry) → Walks (packedAt s) p l → (n : ℕ) → cond (ltb n (length l)) (map (λ x. x .entry) (packedAt s (p + n * 6))) (refused 31 0) ≡ entryOf n l
-unfolding entryOf
+pub packed-nth : (s : List ℕ) (p : ℕ) (l : List PeerEntry) → Walks (packedAt s) p l → (n : ℕ) → cond (ltb n (length l)) (map (λ x. x .entry) (packedAt s (p + n * 6))) (refused 31 0) ≡ nth n l
+unfolding nth
 packed-nth s p l (ends q) n = rw (le-ltb n 0 (omega arith))
 packed-nth s p l (goes q x r m e w) zero =
     let z : q + 0 * 6 ≡ q = omega arith in
     let y : packedAt s (q + 0 * 6) ≡ taken (record { entry = x; next = r }) = ap (packedAt s) z ∙ e in
-    ap (λ o. cond (ltb 0 (suc (length m))) (map (λ (i : Step). i .entry) o) (refused 31 0)) y ∙ rw (lt-ltb 0 (suc (length m)) (omega arith))
+    ap (λ o. cond (ltb 0 (suc (length m))) (map (λ (i : PeerStep). i .entry) o) (refused 31 0)) y ∙ rw (lt-ltb 0 (suc (length m)) (omega arith))
 packed-nth s p l (goes q x r m e w) (suc n) =
     let k = packed-next s q x r e in
     let z : q + suc n * 6 ≡ r + n * 6 = omega arith in
-    ap (λ (i : ℕ). cond (ltb (suc n) (suc (length m))) (map (λ (j : Step). j .entry) (packedAt s i)) (refused 31 0)) z
-    ∙ ap (λ (t : Bool). cond t (map (λ (j : Step). j .entry) (packedAt s (r + n * 6))) (refused 31 0)) (ltb-suc n (length m))
+    ap (λ (i : ℕ). cond (ltb (suc n) (suc (length m))) (map (λ (j : PeerStep). j .entry) (packedAt s i)) (refused 31 0)) z
+    ∙ ap (λ (t : Bool). cond t (map (λ (j : PeerStep). j .entry) (packedAt s (r + n * 6))) (refused 31 0)) (ltb-suc n (length m))
     ∙ packed-nth s r m w n
 
-pub listed-nth : (s : List ℕ) (p : ℕ) (l : List Entry) → Walks (listedAt s) p l → (n : ℕ) → cond (ltb n (length l)) (map (λ x. x .entry) (nthAt n s p)) (refused 31 0) ≡ entryOf n l
-unfolding entryOf nthAt
+pub listed-nth : (s : List ℕ) (p : ℕ) (l : List PeerEntry) → Walks (listedAt s) p l → (n : ℕ) → cond (ltb n (length l)) (map (λ x. x .entry) (nthAt n s p)) (refused 31 0) ≡ nth n l
+unfolding nth nthAt
 listed-nth s p l (ends q) n = rw (le-ltb n 0 (omega arith))
 listed-nth s p l (goes q x r m e w) zero = rw (lt-ltb 0 (suc (length m)) (omega arith), e)
 listed-nth s p l (goes q x r m e w) (suc n) =
-    ap (λ (o : Outcome ℕ). cond (ltb (suc n) (suc (length m))) (map (λ (j : Step). j .entry) (then o (λ i. nthAt n s i))) (refused 31 0)) (listed-skips s q (record { entry = x; next = r }) e)
-    ∙ ap (λ (t : Bool). cond t (map (λ (j : Step). j .entry) (nthAt n s r)) (refused 31 0)) (ltb-suc n (length m))
+    ap (λ (o : Outcome ℕ). cond (ltb (suc n) (suc (length m))) (map (λ (j : PeerStep). j .entry) (then o (λ i. nthAt n s i))) (refused 31 0)) (listed-skips s q (record { entry = x; next = r }) e)
+    ∙ ap (λ (t : Bool). cond t (map (λ (j : PeerStep). j .entry) (nthAt n s r)) (refused 31 0)) (ltb-suc n (length m))
     ∙ listed-nth s r m w n
 
 -- what is taken can be walked
 module _ (s : List ℕ) where
-  abbrev Fit : Outcome (Answer (List Entry)) → Type 0
+  abbrev Fit : Outcome (Answer (List PeerEntry)) → Type 0
   Fit (taken x) = Walked s x
   Fit (refused n p) = Unit
 
@@ -120,19 +121,19 @@ module _ (s : List ℕ) where
   fit-failure (taken x) = tt
   fit-failure (refused n p) = tt
 
-  fit-then : (o : Outcome ℕ) (g : ℕ → Outcome (Answer (List Entry))) → ((n : ℕ) → Fit (g n)) → Fit (then o g)
+  fit-then : (o : Outcome ℕ) (g : ℕ → Outcome (Answer (List PeerEntry))) → ((n : ℕ) → Fit (g n)) → Fit (then o g)
   fit-then (taken n) g h = h n
   fit-then (refused n p) g h = tt
 
-  fit-must : (u : Under) (g : ℕ → Value → Outcome (Answer (List Entry))) → ((q : ℕ) (v : Value) → u ≡ under q v → Fit (g q v)) → Fit (must 0 u g)
+  fit-must : (u : Under) (g : ℕ → Value → Outcome (Answer (List PeerEntry))) → ((q : ℕ) (v : Value) → u ≡ under q v → Fit (g q v)) → Fit (must 0 u g)
   fit-must nothing g h = tt
   fit-must (under q v) g h = h q v refl
 
-  fit-cond : (t : Bool) (x : Answer (List Entry)) (p : ℕ) → Walked s x → Fit (cond t (taken x) (refused 15 p))
+  fit-cond : (t : Bool) (x : Answer (List PeerEntry)) (p : ℕ) → Walked s x → Fit (cond t (taken x) (refused 15 p))
   fit-cond true x p h = h
   fit-cond false x p h = tt
 
-  fit-list : (n p : ℕ) (o : Outcome (List Entry)) → ((l : List Entry) → o ≡ taken l → Walks (listedAt s) p l) → Fit (map (listing n p) o)
+  fit-list : (n p : ℕ) (o : Outcome (List PeerEntry)) → ((l : List PeerEntry) → o ≡ taken l → Walks (listedAt s) p l) → Fit (map (listing n p) o)
   fit-list n p (taken l) h = h l refl
   fit-list n p (refused m q) h = tt
 
@@ -172,10 +173,10 @@ module _ (s : List ℕ) where
   fit = fit-text (decode s) refl
 
   -- from the place of the first entry on, the entries of a reply come in order
-  pub walked : (x : Answer (List Entry)) → replyOf s ≡ taken x → Walked s x
+  pub walked : (x : Answer (List PeerEntry)) → replyOf s ≡ taken x → Walked s x
   walked x e = subst Fit e fit
 
-  nth-by : (n : ℕ) (o : Outcome (Answer (List Entry))) → Fit o → then (map counted o) (entryAt s n) ≡ then o (nthOf n)
+  nth-by : (n : ℕ) (o : Outcome (Answer (List PeerEntry))) → Fit o → then (map counted o) (entryAt s n) ≡ then o (nthOf n)
   nth-by n (taken (failure p)) h = refl
   nth-by n (taken (compact i p l)) h = packed-nth s p l h n
   nth-by n (taken (listing i p l)) h = listed-nth s p l h n

@@ -2,7 +2,7 @@
 use mathlib.Core.Path.{_≡_, sym, ap, _∙_, subst}
 use mathlib.Core.Bool.{Bool, true, false, cond}
 use mathlib.Core.List.{List, [], _∷_, _++_, append-assoc}
-use Prim.Native.Nat.{ℕ, suc, _+_, _%_, _^_, _<_, _≤_}
+use Prim.Native.Nat.{ℕ, _+_, _%_, _<_, _≤_}
 use native.Mathlib.Omega.{arith}
 use lib.Dec.{ltb}
 use lib.IntN.{pos}
@@ -12,14 +12,13 @@ use borrow.Author.Tests.{lt-ltb, le-ltb}
 use Rattle.refusal.specs.Paper.{Outcome, taken, refused}
 use Rattle.scalar.specs.Written.{decimal, decimalIn, writtenString, writtenInt}
 use Rattle.bencode.specs.Value.{encode}
-use Rattle.writer.specs.Put.{Left, paper, left, putOf}
+use Rattle.writer.specs.Put.{paper, left, putOf, placePast}
 use Rattle.writer.specs.declared.Put.{Put}
 use Rattle.writer.specs.declared.Put.the-variants.{To, Refused}
 use Rattle.writer.proofs.Laws.{put-whole, put-none}
-use Rattle.writer.proofs.Decimals.{length-most}
 use Rattle.writer.proofs.Runs.{ran-as, ran-put, put-ran}
 use Rattle.tracker.specs.Keys.{interval, peers}
-use Rattle.tracker.specs.Writing.{compactReply, textOf, writeOf, placePast}
+use Rattle.tracker.specs.Writing.{compactReply, textOf, writeOf}
 
 -- what stands before the number of seconds, and between that and the entries
 abbrev pub opening : List ℕ
@@ -64,14 +63,6 @@ module _ (o : List ℕ) (n : ℕ) (bs : List ℕ) (h : length (textOf n bs) ≤ 
       let r₄ = ran-put r₃ (writtenString bs) (omega arith) e₄ f₄ in
       let r₅ = ran-as (ran-put r₄ (101 ∷ []) (omega arith) e₅ f₅) (joined n bs) in
       (omega (arith, r₅ .place), r₅ .out)
-
--- the digits of a number, from the room that they take
-pub counted-digits : (n : ℕ) (room : List ℕ) {r : Outcome ℕ} {out : List ℕ} {at : ℕ} → n < 2 ^ 64 → length room ≡ 20 → left r out ≡ putOf (decimal n) 0 room → at ≡ placePast r → (at ≡ length (decimal n)) × (at ≤ 20)
-counted-digits n room {at = at} h l e f =
-    let m : length (decimal n) ≤ 20 = length-most 19 n (omega arith) in
-    let g = e ∙ put-whole (decimal n) 0 room (omega arith) in
-    let k : at ≡ length (decimal n) = f ∙ ap (λ (x : Left). placePast (x .answer)) g ∙ omega arith in
-    (k, omega arith)
 
 -- what the code answers, test by test
 module _ (n : ℕ) (bs o : List ℕ) where

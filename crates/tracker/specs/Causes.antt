@@ -2,14 +2,15 @@
 use mathlib.Core.Path.{_≡_}
 use mathlib.Core.List.{List}
 use Prim.Native.Nat.{ℕ, _+_, _%_, _<_, _≤_}
-use lib.IntN.{ℤ, pos}
+use lib.IntN.{pos}
 use lib.ListN.{length}
 use Rattle.refusal.specs.Paper.{Outcome, taken, refused}
-use Rattle.refusal.specs.Numbers.{kind, range, peer}
+use Rattle.refusal.specs.Numbers.{kind, peer}
 use Rattle.refusal.specs.Limits.{longestInterval, largestPort}
 use Rattle.bencode.specs.Value.{Value, Items, Entries, str, int, list, dict, none, item, encode}
 use Rattle.bencode.specs.Decode.{decode}
 use Rattle.walk.specs.Lookup.{Under, nothing, under, lookup}
+use Rattle.fields.specs.Causes.{Lacks, NoString, NoNumber, UpTo}
 use Rattle.tracker.specs.Keys.{failureReason, interval, peers, ip, peerId, port}
 
 -- what is under a key is a string, a string of 20 bytes, a number from 0 to most
@@ -26,28 +27,17 @@ ANumber most u = (p : ℕ) × (n : ℕ) × (u ≡ under p (int (pos n))) × (n �
 abbrev pub APeer : ℕ → Value → Type 0
 APeer p v = (es : Entries) × (v ≡ dict es) × AnId (lookup (p + 1) es peerId) × AString (lookup (p + 1) es ip) × ANumber largestPort (lookup (p + 1) es port)
 
--- what is under a key of the dictionary at d is no string
-pub data NoString (d : ℕ) (u : Under) : ℕ → ℕ → Type 0 where
-  no-key : u ≡ nothing → NoString d u kind d
-  other : (p : ℕ) (v : Value) → u ≡ under p v → ((bs : List ℕ) → v ≡ str bs → ⊥) → NoString d u kind p
-
--- or no string of 20 bytes
-pub data NoId (d : ℕ) (u : Under) : ℕ → ℕ → Type 0 where
-  no-string : (n p : ℕ) → NoString d u n p → NoId d u n p
-  other-length : (p : ℕ) (bs : List ℕ) → u ≡ under p (str bs) → (length bs ≡ 20 → ⊥) → NoId d u peer p
-
--- or no number from 0 to most
-pub data NoNumber (most d : ℕ) (u : Under) : ℕ → ℕ → Type 0 where
-  no-number-key : u ≡ nothing → NoNumber most d u kind d
-  no-integer : (p : ℕ) (v : Value) → u ≡ under p v → ((z : ℤ) → v ≡ int z → ⊥) → NoNumber most d u kind p
-  out-of-range : (p : ℕ) (z : ℤ) → u ≡ under p (int z) → ((n : ℕ) → z ≡ pos n → n ≤ most → ⊥) → NoNumber most d u range p
+-- the value at p is no string, or none of 20 bytes
+pub data NoId (p : ℕ) : Value → ℕ → ℕ → Type 0 where
+  no-id : (v : Value) (n q : ℕ) → NoString p v n q → NoId p v n q
+  other-length : (bs : List ℕ) → (length bs ≡ 20 → ⊥) → NoId p (str bs) peer p
 
 -- the value at p is no peer
 pub data NoPeer (p : ℕ) : Value → ℕ → ℕ → Type 0 where
   no-dictionary : (v : Value) → ((es : Entries) → v ≡ dict es → ⊥) → NoPeer p v kind p
-  bad-id : (es : Entries) (n q : ℕ) → NoId p (lookup (p + 1) es peerId) n q → NoPeer p (dict es) n q
-  bad-ip : (es : Entries) (n q : ℕ) → AnId (lookup (p + 1) es peerId) → NoString p (lookup (p + 1) es ip) n q → NoPeer p (dict es) n q
-  bad-port : (es : Entries) (n q : ℕ) → AnId (lookup (p + 1) es peerId) → AString (lookup (p + 1) es ip) → NoNumber largestPort p (lookup (p + 1) es port) n q → NoPeer p (dict es) n q
+  bad-id : (es : Entries) (n q : ℕ) → Lacks p (lookup (p + 1) es peerId) NoId n q → NoPeer p (dict es) n q
+  bad-ip : (es : Entries) (n q : ℕ) → AnId (lookup (p + 1) es peerId) → Lacks p (lookup (p + 1) es ip) NoString n q → NoPeer p (dict es) n q
+  bad-port : (es : Entries) (n q : ℕ) → AnId (lookup (p + 1) es peerId) → AString (lookup (p + 1) es ip) → Lacks p (lookup (p + 1) es port) (NoNumber (UpTo largestPort)) n q → NoPeer p (dict es) n q
 
 -- the first of the items from p on that is no peer
 pub data SomeNoPeer : ℕ → Items → ℕ → ℕ → Type 0 where
@@ -63,10 +53,9 @@ pub data NoPeers (p : ℕ) : Value → ℕ → ℕ → Type 0 where
 -- the value is no reply
 pub data NoReply : Value → ℕ → ℕ → Type 0 where
   no-top : (v : Value) → ((es : Entries) → v ≡ dict es → ⊥) → NoReply v kind 0
-  bad-reason : (es : Entries) (p : ℕ) (v : Value) → lookup 1 es failureReason ≡ under p v → ((bs : List ℕ) → v ≡ str bs → ⊥) → NoReply (dict es) kind p
-  bad-interval : (es : Entries) (n p : ℕ) → lookup 1 es failureReason ≡ nothing → NoNumber longestInterval 0 (lookup 1 es interval) n p → NoReply (dict es) n p
-  no-peers-key : (es : Entries) → lookup 1 es failureReason ≡ nothing → ANumber longestInterval (lookup 1 es interval) → lookup 1 es peers ≡ nothing → NoReply (dict es) kind 0
-  bad-peers : (es : Entries) (p : ℕ) (v : Value) (n q : ℕ) → lookup 1 es failureReason ≡ nothing → ANumber longestInterval (lookup 1 es interval) → lookup 1 es peers ≡ under p v → NoPeers p v n q → NoReply (dict es) n q
+  bad-reason : (es : Entries) (p : ℕ) (v : Value) (n q : ℕ) → lookup 1 es failureReason ≡ under p v → NoString p v n q → NoReply (dict es) n q
+  bad-interval : (es : Entries) (n p : ℕ) → lookup 1 es failureReason ≡ nothing → Lacks 0 (lookup 1 es interval) (NoNumber (UpTo longestInterval)) n p → NoReply (dict es) n p
+  bad-peers : (es : Entries) (n p : ℕ) → lookup 1 es failureReason ≡ nothing → ANumber longestInterval (lookup 1 es interval) → Lacks 0 (lookup 1 es peers) NoPeers n p → NoReply (dict es) n p
 
 -- the text is no bencode, or its value is no reply
 pub data WhyRefused (s : List ℕ) : ℕ → ℕ → Type 0 where

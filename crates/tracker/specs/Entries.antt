@@ -23,20 +23,20 @@ use Rattle.tracker.specs.declared.listed.Counted.{Counted}
 use Rattle.tracker.specs.declared.listed.Counted.the-variants.{Of, Bad}
 
 -- an entry of six bytes, or a dictionary's peer id, ip and port
-pub data Entry : Type 0 where
-  packed : Packed → Entry
-  listed : Listed → Entry
+pub data PeerEntry : Type 0 where
+  packed : Packed → PeerEntry
+  listed : Listed → PeerEntry
 
 -- an entry and the place past it
-pub record Step : Type 0 where
-  pub entry : Entry
+pub record PeerStep : Type 0 where
+  pub entry : PeerEntry
   pub next : ℕ
 
 -- four bytes of address and two of port, the most significant first
 abbrev pub packedOf : ℕ → ℕ → ℕ → ℕ → ℕ → ℕ → Packed
 packedOf a b c d e f = record { address = record { 0 = a; 1 = b; 2 = c; 3 = d }; port = e * 256 + f }
 
-abbrev pub packedPaper : Packing → Outcome Step
+abbrev pub packedPaper : Packing → Outcome PeerStep
 packedPaper (PackedIs x q) = taken (record { entry = packed x; next = q })
 packedPaper (PackedNot r) = refusal r
 
@@ -44,10 +44,10 @@ packedPaper (PackedNot r) = refusal r
 abbrev pub sixAt : List ℕ → ℕ → Packed
 sixAt s p = packedOf (getD s p 0) (getD s (p + 1) 0) (getD s (p + 2) 0) (getD s (p + 3) 0) (getD s (p + 4) 0) (getD s (p + 5) 0)
 
-abbrev pub packedAt : List ℕ → ℕ → Outcome Step
+abbrev pub packedAt : List ℕ → ℕ → Outcome PeerStep
 packedAt s p = cond (leb (p + 6) (length s)) (taken (record { entry = packed (sixAt s p); next = p + 6 })) (refused cut (length s))
 
-abbrev pub listedPaper : Listing → Outcome Step
+abbrev pub listedPaper : Listing → Outcome PeerStep
 listedPaper (Is x q) = taken (record { entry = listed x; next = q })
 listedPaper (Not r) = refusal r
 
@@ -59,11 +59,11 @@ abbrev pub idOf : List ℕ → ℕ → Outcome Part
 idOf s q = then (stringOf s q) (idLength q)
 
 -- the peer whose dictionary stands at p, once it is read: the place past it
-abbrev pub pastPeer : List ℕ → ℕ → Listed → Outcome Step
+abbrev pub pastPeer : List ℕ → ℕ → Listed → Outcome PeerStep
 pastPeer s p x = map (λ q. record { entry = listed x; next = q }) (skipOf s p)
 
 -- peer id, ip and port of the dictionary at p, by what the search for each gave
-abbrev pub peerFrom : List ℕ → ℕ → Outcome Hit → Outcome Hit → Outcome Hit → Outcome Step
+abbrev pub peerFrom : List ℕ → ℕ → Outcome Hit → Outcome Hit → Outcome Hit → Outcome PeerStep
 peerFrom s p ips ids ports =
     then (needed p ids (idOf s)) (λ id.
     then (needed p ips (stringOf s)) (λ a.
@@ -71,14 +71,14 @@ peerFrom s p ips ids ports =
     pastPeer s p (record { id = id; ip = a; port = n }))))
 
 -- the keys are sought from the dictionary's first key on, in the order of their bytes
-abbrev pub peerBy : List ℕ → ℕ → ℕ → Outcome Step
+abbrev pub peerBy : List ℕ → ℕ → ℕ → Outcome PeerStep
 peerBy s p first =
     peerFrom s p
     (soughtFrom s first ip)
     (soughtAfter s (soughtFrom s first ip) peerId)
     (soughtAfter s (soughtAfter s (soughtFrom s first ip) peerId) port)
 
-unfoldable pub listedAt : List ℕ → ℕ → Outcome Step
+unfoldable pub listedAt : List ℕ → ℕ → Outcome PeerStep
 listedAt s p = then (dictionaryOf s p) (peerBy s p)
 
 -- how many entries stand from p on, up to the e; f bounds their number
@@ -93,6 +93,6 @@ countFrom (suc f) s p =
     cond (closes (drop p s)) (taken 0) r
 
 -- entry number n of those that stand from p on
-unfoldable pub nthAt : ℕ → List ℕ → ℕ → Outcome Step
+unfoldable pub nthAt : ℕ → List ℕ → ℕ → Outcome PeerStep
 nthAt zero s p = listedAt s p
 nthAt (suc n) s p = then (skipOf s p) (λ q. nthAt n s q)

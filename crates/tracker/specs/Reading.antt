@@ -11,7 +11,7 @@ use Rattle.refusal.specs.Limits.{longestInterval}
 use Rattle.walk.specs.Walk.{Head, string, integer, long, list, dictionary, end, lookOf, Hit, found, missing}
 use Rattle.fields.specs.Looks.{stringOf, naturalOf, dictionaryOf, needed, soughtFrom, soughtAfter}
 use Rattle.tracker.specs.Keys.{failureReason, interval, peers}
-use Rattle.tracker.specs.Entries.{Entry, packed, listed, Step, packedAt, countFrom, nthAt}
+use Rattle.tracker.specs.Entries.{PeerEntry, packed, listed, PeerStep, packedAt, countFrom, nthAt}
 use Rattle.tracker.specs.Reply.{Answer, failure, compact, listing}
 use Rattle.tracker.specs.declared.Reply.{Reply}
 use Rattle.tracker.specs.declared.Reply.the-variants.{Failure, Compact, List as Listing, Refused}
@@ -30,11 +30,11 @@ entriesIn (failure p) = 0
 entriesIn (compact n p k) = k
 entriesIn (listing n p k) = k
 
-abbrev pub entriesOf : Outcome (Answer ℕ) → ℕ
-entriesOf (taken x) = entriesIn x
-entriesOf (refused n p) = 0
+abbrev pub entryCount : Outcome (Answer ℕ) → ℕ
+entryCount (taken x) = entriesIn x
+entryCount (refused n p) = 0
 
-abbrev pub peerPaper : Found → Outcome Entry
+abbrev pub peerPaper : Found → Outcome PeerEntry
 peerPaper (Packed x) = taken (packed x)
 peerPaper (Listed x) = taken (listed x)
 peerPaper (NoPeer r) = refusal r
@@ -76,7 +76,7 @@ abbrev pub wholeOf : List ℕ → Outcome (Answer ℕ)
 wholeOf s = then (dictionaryOf s 0) (topOf s)
 
 -- entry number n of a reply that was read
-abbrev pub entryAt : List ℕ → ℕ → Answer ℕ → Outcome Entry
+abbrev pub entryAt : List ℕ → ℕ → Answer ℕ → Outcome PeerEntry
 entryAt s n (failure p) = refused beyond 0
 entryAt s n (compact i first count) = cond (ltb n count) (map (λ x. x .entry) (packedAt s (first + n * 6))) (refused beyond 0)
 entryAt s n (listing i first count) = cond (ltb n count) (map (λ x. x .entry) (nthAt n s first)) (refused beyond 0)

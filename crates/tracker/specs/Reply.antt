@@ -2,7 +2,7 @@
 -- Assumes nothing: these are definitions.
 use mathlib.Core.Bool.{cond}
 use mathlib.Core.List.{List, [], _∷_}
-use Prim.Native.Nat.{ℕ, zero, suc, _+_, _%_}
+use Prim.Native.Nat.{ℕ, _+_, _%_}
 use lib.Dec.{eqb}
 use lib.ListN.{length}
 use Rattle.refusal.specs.Paper.{Outcome, taken, refused, map, then}
@@ -13,8 +13,9 @@ use Rattle.bencode.specs.Value.{Value, Items, Entries, str, int, list, dict, no
 use Rattle.bencode.specs.Decode.{decode}
 use Rattle.walk.specs.Lookup.{Under, nothing, under, lookup}
 use Rattle.fields.specs.Values.{partOf, stringAt, naturalAt, dictionaryAt, must}
+use Rattle.fields.specs.Nth.{nth}
 use Rattle.tracker.specs.Keys.{failureReason, interval, peers, ip, peerId, port}
-use Rattle.tracker.specs.Entries.{Entry, packed, listed, packedOf, idLength}
+use Rattle.tracker.specs.Entries.{PeerEntry, packed, listed, packedOf, idLength}
 use Rattle.tracker.specs.declared.listed.Listed.{Listed}
 
 -- a failure reason; or the seconds to wait, the place of the first entry, and the entries: of six bytes, or of a list
@@ -24,7 +25,7 @@ pub data Answer (E : Type 0) : Type 0 where
   listing : ℕ → ℕ → E → Answer E
 
 -- six bytes to an entry
-unfoldable pub sixes : List ℕ → List Entry
+unfoldable pub sixes : List ℕ → List PeerEntry
 sixes [] = []
 sixes (a ∷ []) = []
 sixes (a ∷ b ∷ []) = []
@@ -49,46 +50,41 @@ abbrev pub peerAt : ℕ → Value → Outcome Listed
 peerAt p v = then (dictionaryAt p v) (peerIn p)
 
 -- the items that stand from p on, each a peer
-unfoldable pub peersFrom : ℕ → Items → Outcome (List Entry)
+unfoldable pub peersFrom : ℕ → Items → Outcome (List PeerEntry)
 peersFrom p none = taken []
 peersFrom p (item v vs) = then (peerAt p v) (λ x. map (λ l. listed x ∷ l) (peersFrom (p + length (encode v)) vs))
 
 -- the peers at p: a string of 6-byte entries, else 15; or a list
-abbrev pub peersAt : ℕ → ℕ → Value → Outcome (Answer (List Entry))
+abbrev pub peersAt : ℕ → ℕ → Value → Outcome (Answer (List PeerEntry))
 peersAt n p (str bs) = cond (eqb (length bs % 6) 0) (taken (compact n (partOf p bs .from) (sixes bs))) (refused peer p)
 peersAt n p (int z) = refused kind p
 peersAt n p (list vs) = map (listing n (p + 1)) (peersFrom (p + 1) vs)
 peersAt n p (dict es) = refused kind p
 
 -- interval, then peers
-abbrev pub answeredIn : Entries → Outcome (Answer (List Entry))
+abbrev pub answeredIn : Entries → Outcome (Answer (List PeerEntry))
 answeredIn es = then (must 0 (lookup 1 es interval) (naturalAt longestInterval)) (λ n. must 0 (lookup 1 es peers) (peersAt n))
 
 -- a failure reason is the answer, and the rest is not looked at
-abbrev pub replyBy : Entries → Under → Outcome (Answer (List Entry))
+abbrev pub replyBy : Entries → Under → Outcome (Answer (List PeerEntry))
 replyBy es nothing = answeredIn es
 replyBy es (under p v) = map failure (stringAt p v)
 
-abbrev pub replyIn : Entries → Outcome (Answer (List Entry))
+abbrev pub replyIn : Entries → Outcome (Answer (List PeerEntry))
 replyIn es = replyBy es (lookup 1 es failureReason)
 
 -- the reply that a text is
-unfoldable pub replyOf : List ℕ → Outcome (Answer (List Entry))
+unfoldable pub replyOf : List ℕ → Outcome (Answer (List PeerEntry))
 replyOf s = then (decode s) (λ v. then (dictionaryAt 0 v) replyIn)
 
 -- the same with the number of entries in their place
-abbrev pub counted : Answer (List Entry) → Answer ℕ
+abbrev pub counted : Answer (List PeerEntry) → Answer ℕ
 counted (failure p) = failure p
 counted (compact n p l) = compact n p (length l)
 counted (listing n p l) = listing n p (length l)
 
--- entry number n; beyond the last it is 31
-unfoldable pub entryOf : ℕ → List Entry → Outcome Entry
-entryOf n [] = refused beyond 0
-entryOf zero (x ∷ l) = taken x
-entryOf (suc n) (x ∷ l) = entryOf n l
-
-abbrev pub nthOf : ℕ → Answer (List Entry) → Outcome Entry
+-- entry number n; past the last it is 31
+abbrev pub nthOf : ℕ → Answer (List PeerEntry) → Outcome PeerEntry
 nthOf n (failure p) = refused beyond 0
-nthOf n (compact i p l) = entryOf n l
-nthOf n (listing i p l) = entryOf n l
+nthOf n (compact i p l) = nth n l
+nthOf n (listing i p l) = nth n l

@@ -3,16 +3,16 @@ use mathlib.Core.Path.{_≡_}
 use mathlib.Core.List.{List, [], _∷_}
 use Prim.Native.Nat.{ℕ}
 use Rattle.refusal.specs.Paper.{Outcome, taken}
-use Rattle.tracker.specs.Entries.{Entry, Step, packedAt, listedAt}
+use Rattle.tracker.specs.Entries.{PeerEntry, PeerStep, packedAt, listedAt}
 use Rattle.tracker.specs.Reply.{Answer, failure, compact, listing}
 
 -- from p on, `at` gives the entries of a list in order
-pub data Walks (at : ℕ → Outcome Step) : ℕ → List Entry → Type 0 where
+pub data Walks (at : ℕ → Outcome PeerStep) : ℕ → List PeerEntry → Type 0 where
   ends : (p : ℕ) → Walks at p []
-  goes : (p : ℕ) (x : Entry) (q : ℕ) (l : List Entry) → at p ≡ taken (record { entry = x; next = q }) → Walks at q l → Walks at p (x ∷ l)
+  goes : (p : ℕ) (x : PeerEntry) (q : ℕ) (l : List PeerEntry) → at p ≡ taken (record { entry = x; next = q }) → Walks at q l → Walks at p (x ∷ l)
 
 -- the entries of a reply, from the place of the first on
-abbrev pub Walked : List ℕ → Answer (List Entry) → Type 0
+abbrev pub Walked : List ℕ → Answer (List PeerEntry) → Type 0
 Walked s (failure p) = Unit
 Walked s (compact n p l) = Walks (packedAt s) p l
 Walked s (listing n p l) = Walks (listedAt s) p l

@@ -10,7 +10,6 @@ use Rattle.refusal.specs.Numbers.{long, range, peer}
 use Rattle.refusal.specs.Limits.{mostText, longestInterval}
 use Rattle.bencode.specs.Value.{Value, Entries, str, int, dict, empty, entry, encode}
 use Rattle.writer.specs.Put.{Left, left, putOf}
-pub use Rattle.writer.specs.Put.{placePast}
 use Rattle.tracker.specs.Keys.{interval, peers}
 
 -- the reply with n seconds to wait and the entries bs: interval and peers, and no other key

@@ -4,7 +4,7 @@ ghost use Rattle.refusal.specs.Numbers.{beyond};
 ghost use Rattle.refusal.specs.Paper.{then, map};
 ghost use Rattle.fields.specs.Looks.{dictionaryOf};
 ghost use Rattle.tracker.specs.Reply.{counted, replyOf, nthOf, compact, listing};
-ghost use Rattle.tracker.specs.Reading.{paper, entriesOf, peerPaper, wholeOf, topOf, failureOf, answeredOf, peersOf, compactOf, listingOf, entryAt};
+ghost use Rattle.tracker.specs.Reading.{paper, entryCount, peerPaper, wholeOf, topOf, failureOf, answeredOf, peersOf, compactOf, listingOf, entryAt};
 use bencode::Checked;
 use compact::Packed;
 use compact::Packing;
@@ -72,7 +72,7 @@ pub fn peer(text: &[u8], n: usize) -> Found
 
 // How many entries a reply has: 0 beside a failure reason.
 pub fn entries(reply: Reply) -> usize
-    ensures { λ r. ⌜ r ≡ entriesOf (paper reply) ⌝ }
+    ensures { λ r. ⌜ r ≡ entryCount (paper reply) ⌝ }
 {
     match reply {
         Reply::Failure(_) => 0,

@@ -3,9 +3,8 @@ ghost use mathlib.Core.Path.{_≡_};
 ghost use Prim.Native.Nat.{_+_, _≤_};
 ghost use lib.ListN.{length};
 ghost use lib.Seq.{sets};
-ghost use Rattle.scalar.specs.Written.{decimal};
 ghost use Rattle.writer.specs.Put.{paper, left};
-ghost use Rattle.tracker.specs.Writing.{textOf, writeOf, placePast};
+ghost use Rattle.tracker.specs.Writing.{textOf, writeOf};
 use refusal::Refusal;
 use refusal::limit;
 use refusal::number;
@@ -25,7 +24,7 @@ pub fn write(out: &mut [u8], interval: u64, peers: &[u8]) -> Put
     if limit::TEXT < peers.len() {
         return refused(number::LONG);
     }
-    let size = digits(interval) + digits(peers.len() as u64) + peers.len() + 22;
+    let size = writer::digits(interval) + writer::digits(peers.len() as u64) + peers.len() + 22;
     if limit::TEXT < size {
         return refused(number::LONG);
     }
@@ -39,28 +38,11 @@ fn put_all(out: &mut [u8], interval: u64, peers: &[u8]) -> usize
     requires { ⌜ length (textOf interval (now peers)) ≤ length (now out) ⌝ }
     ensures { λ r. ⌜ (r ≡ length (textOf interval (now (peers .entry)))) × (now (out .exit) ≡ sets (now (out .entry)) 0 (textOf interval (now (peers .entry)))) ⌝ }
 {
-    let a = end(writer::literal(out, 0, b"d8:intervali"));
-    let b = end(writer::decimal(out, a, interval));
-    let c = end(writer::literal(out, b, b"e5:peers"));
-    let d = end(writer::string(out, c, peers));
-    end(writer::literal(out, d, b"e"))
-}
-
-fn digits(n: u64) -> usize
-    ensures { λ r. ⌜ (r ≡ length (decimal n)) × (r ≤ 20) ⌝ }
-{
-    let mut room = [0u8; 20];
-    end(writer::decimal(&mut room, 0, n))
-}
-
-// The place past what was put.
-fn end(put: Put) -> usize
-    ensures { λ r. ⌜ r ≡ placePast (paper put) ⌝ }
-{
-    match put {
-        Put::To(at) => at,
-        Put::Refused(_) => 0,
-    }
+    let a = writer::end(writer::literal(out, 0, b"d8:intervali"));
+    let b = writer::end(writer::decimal(out, a, interval));
+    let c = writer::end(writer::literal(out, b, b"e5:peers"));
+    let d = writer::end(writer::string(out, c, peers));
+    writer::end(writer::literal(out, d, b"e"))
 }
 
 fn refused(number: u8) -> Put

@@ -35,12 +35,15 @@ use Rattle.wire.specs.Causes.{Cause as FrameCause}
 use Rattle.wire.proofs.Decided.{exactly}
 use Rattle.wire.proofs.Shaking.{shake-exactly}
 use Rattle.tracker.specs.Reply.{Answer, replyOf, counted, nthOf}
-use Rattle.tracker.specs.Entries.{Entry}
+use Rattle.tracker.specs.Entries.{PeerEntry}
 use Rattle.tracker.specs.Reading.{entriesIn}
 use Rattle.tracker.specs.Writing.{textOf}
 use Rattle.tracker.specs.Writing.{writeOf as replyText}
 use Rattle.tracker.specs.Faults.{NotWritten, too-late, not-sixes, too-long, no-room}
-use Rattle.tracker.specs.Causes.{NoString, no-key, other, NoId, no-string, other-length, NoNumber, no-number-key, no-integer, out-of-range, NoPeer, no-dictionary, bad-id, bad-ip, bad-port, SomeNoPeer, this, later, NoPeers, other-kind, not-whole, bad-peer, NoReply, no-top, bad-reason, bad-interval, no-peers-key, bad-peers, WhyRefused, no-bencode, no-reply}
+use Rattle.fields.specs.Causes.{Lacks, missing, wrong, NoString, no-string, NoNumber, no-integer, out-of-range}
+use Rattle.fields.specs.Nth.{nth}
+use Rattle.fields.proofs.Nth.{nth-within}
+use Rattle.tracker.specs.Causes.{NoId, no-id, other-length, NoPeer, no-dictionary, bad-id, bad-ip, bad-port, SomeNoPeer, this, later, NoPeers, other-kind, not-whole, bad-peer, NoReply, no-top, bad-reason, bad-interval, bad-peers, WhyRefused, no-bencode, no-reply}
 use Rattle.tracker.proofs.Causes.{reply-causes, reply-refused}
 use Rattle.tracker.proofs.Numbering.{entry-within, entry-beyond}
 use Rattle.tracker.proofs.Rewriting as replies
@@ -181,24 +184,26 @@ module _ (rest o : List ℕ) (p : ℕ) where
 abbrev Ours : ℕ → Type 0
 Ours n = (10 ≤ n) × (n ≤ 15)
 
-string-ours : (d : ℕ) (u : Under) (n q : ℕ) → NoString d u n q → Ours n
-string-ours d u n q (no-key e) = (omega arith, omega arith)
-string-ours d u n q (other p v e h) = (omega arith, omega arith)
+lacks-ours : (d : ℕ) (u : Under) (W : ℕ → Value → ℕ → ℕ → Type 0) → ((p : ℕ) (v : Value) (n q : ℕ) → W p v n q → Ours n) → (n q : ℕ) → Lacks d u W n q → Ours n
+lacks-ours d u W h n q (missing e) = (omega arith, omega arith)
+lacks-ours d u W h n q (wrong p v m r e i) = h p v m r i
 
-id-ours : (d : ℕ) (u : Under) (n q : ℕ) → NoId d u n q → Ours n
-id-ours d u n q (no-string m r h) = string-ours d u m r h
-id-ours d u n q (other-length p bs e h) = (omega arith, omega arith)
+string-ours : (p : ℕ) (v : Value) (n q : ℕ) → NoString p v n q → Ours n
+string-ours p v n q (no-string w h) = (omega arith, omega arith)
 
-number-ours : (most d : ℕ) (u : Under) (n q : ℕ) → NoNumber most d u n q → Ours n
-number-ours most d u n q (no-number-key e) = (omega arith, omega arith)
-number-ours most d u n q (no-integer p v e h) = (omega arith, omega arith)
-number-ours most d u n q (out-of-range p z e h) = (omega arith, omega arith)
+id-ours : (p : ℕ) (v : Value) (n q : ℕ) → NoId p v n q → Ours n
+id-ours p v n q (no-id w m r h) = string-ours p w m r h
+id-ours p v n q (other-length bs h) = (omega arith, omega arith)
+
+number-ours : (R : ℕ → Type 0) (p : ℕ) (v : Value) (n q : ℕ) → NoNumber R p v n q → Ours n
+number-ours R p v n q (no-integer w h) = (omega arith, omega arith)
+number-ours R p v n q (out-of-range z h) = (omega arith, omega arith)
 
 peer-ours : (p : ℕ) (v : Value) (n q : ℕ) → NoPeer p v n q → Ours n
 peer-ours p v n q (no-dictionary w h) = (omega arith, omega arith)
-peer-ours p v n q (bad-id es m r h) = id-ours _ _ m r h
-peer-ours p v n q (bad-ip es m r i h) = string-ours _ _ m r h
-peer-ours p v n q (bad-port es m r i j h) = number-ours _ _ _ m r h
+peer-ours p v n q (bad-id es m r h) = lacks-ours _ _ _ id-ours m r h
+peer-ours p v n q (bad-ip es m r i h) = lacks-ours _ _ _ string-ours m r h
+peer-ours p v n q (bad-port es m r i j h) = lacks-ours _ _ _ (number-ours _) m r h
 
 some-ours : (p : ℕ) (vs : Items) (n q : ℕ) → SomeNoPeer p vs n q → Ours n
 some-ours p vs n q (this o v ws m r h) = peer-ours o v m r h
@@ -211,10 +216,9 @@ peers-ours p v n q (bad-peer vs m r h) = some-ours _ vs m r h
 
 reply-ours : (v : Value) (n q : ℕ) → NoReply v n q → Ours n
 reply-ours v n q (no-top w h) = (omega arith, omega arith)
-reply-ours v n q (bad-reason es p w e h) = (omega arith, omega arith)
-reply-ours v n q (bad-interval es m p e h) = number-ours _ _ _ m p h
-reply-ours v n q (no-peers-key es e i h) = (omega arith, omega arith)
-reply-ours v n q (bad-peers es p w m r e i f h) = peers-ours p w m r h
+reply-ours v n q (bad-reason es p w m r e h) = string-ours p w m r h
+reply-ours v n q (bad-interval es m p e h) = lacks-ours _ _ _ (number-ours _) m p h
+reply-ours v n q (bad-peers es m r e i h) = lacks-ours _ _ _ peers-ours m r h
 
 module _ (s : List ℕ) (n p : ℕ) where
   why : WhyRefused s n p → (decode s ≡ refused n p) ⊎ NoReplyText s n p
@@ -237,17 +241,17 @@ module _ (s : List ℕ) (n p : ℕ) where
   reply-numbers : replyOf s ≡ refused n p → n ≤ 15
   reply-numbers e = ⊎-elim (λ (h : decode s ≡ refused n p). let o = bencode.none-other s n p h in omega arith) (λ (h : NoReplyText s n p). reply-ours (h .0) n p (h .2) .1) (why (reply-causes s n p e))
 
-past-entries : (n p : ℕ) (x : Answer (List Entry)) → nthOf n x ≡ refused 31 p → (entriesIn (counted x) ≤ n) × (p ≡ 0)
+past-entries : (n p : ℕ) (x : Answer (List PeerEntry)) → nthOf n x ≡ refused 31 p → (entriesIn (counted x) ≤ n) × (p ≡ 0)
 past-entries n p x e = go (leb (entriesIn (counted x)) n) refl
   where
     go : (b : Bool) → leb (entriesIn (counted x)) n ≡ b → (entriesIn (counted x) ≤ n) × (p ≡ 0)
-    go true f = let l = leb-true (entriesIn (counted x)) n f in (l, sym (same-refusal {A = Entry} 31 0 31 p (sym (entry-beyond n x l) ∙ e) .1))
+    go true f = let l = leb-true (entriesIn (counted x)) n f in (l, sym (same-refusal {A = PeerEntry} 31 0 31 p (sym (entry-beyond n x l) ∙ e) .1))
     go false f = let y = entry-within n x (leb-false (entriesIn (counted x)) n f) in taken-not (sym (y .1) ∙ e)
 
 -- an entry by its number: 31 exactly beyond the last
-pub peer-exactly : (s : List ℕ) (n p : ℕ) → then (replyOf s) (nthOf n) ≡ refused 31 p ↔ ((x : Answer (List Entry)) × (replyOf s ≡ taken x) × (entriesIn (counted x) ≤ n) × (p ≡ 0))
+pub peer-exactly : (s : List ℕ) (n p : ℕ) → then (replyOf s) (nthOf n) ≡ refused 31 p ↔ ((x : Answer (List PeerEntry)) × (replyOf s ≡ taken x) × (entriesIn (counted x) ≤ n) × (p ≡ 0))
 peer-exactly s n p = both-ways (then-refused (replyOf s) (nthOf n) 31 p) (
-  ⊎-elim (λ (h : replyOf s ≡ refused 31 p). absurd (let l = reply-numbers s 31 p h in omega arith)) (λ (h : (x : Answer (List Entry)) × (replyOf s ≡ taken x) × (nthOf n x ≡ refused 31 p)). let c = past-entries n p (h .0) (h .2) in (h .0, h .1, c .0, c .1)),
+  ⊎-elim (λ (h : replyOf s ≡ refused 31 p). absurd (let l = reply-numbers s 31 p h in omega arith)) (λ (h : (x : Answer (List PeerEntry)) × (replyOf s ≡ taken x) × (nthOf n x ≡ refused 31 p)). let c = past-entries n p (h .0) (h .2) in (h .0, h .1, c .0, c .1)),
   λ h. inr (h .0, h .1, entry-beyond n (h .0) (h .2) ∙ refusal-is refl (sym (h .3))),
 )
 
@@ -362,17 +366,11 @@ check-own s n m k p l = both-ways (check-exactly s n m k p) (
 )
 
 -- a file by its number: 31 exactly beyond the last
-number-within : (es : List FileEntry) (n : ℕ) → n < length es → (x : FileEntry) × (file.number n es ≡ taken x)
-unfolding file.number
-number-within [] n h = absurd (omega arith)
-number-within (x ∷ es) zero h = (x, refl)
-number-within (x ∷ es) (suc n) h = number-within es n (omega arith)
-
 module _ (s : List ℕ) (t : Torrent) (e : readOf s ≡ taken t) (n : ℕ) where
-  entry-is : file.entryOf s n ≡ then (file.entriesOf (numbering.value-of s t e .value) t) (file.number n)
+  entry-is : file.entryOf s n ≡ then (file.allEntries (numbering.value-of s t e .value) t) (nth n)
   entry-is =
       let v = numbering.value-of s t e in
-      ap (λ (o : Outcome Value). then o (file.entryIn n)) (v .decoded) ∙ ap (λ (o : Outcome Torrent). then o (λ t. then (file.entriesOf (v .value) t) (file.number n))) (v .torrent)
+      ap (λ (o : Outcome Value). then o (file.entryIn n)) (v .decoded) ∙ ap (λ (o : Outcome Torrent). then o (λ t. then (file.allEntries (v .value) t) (nth n))) (v .torrent)
 
   entry-there : n < t .content .files → (x : FileEntry) × (file.entryOf s n ≡ taken x)
   entry-there l = go (t .content .single) refl
@@ -382,8 +380,8 @@ module _ (s : List ℕ) (t : Torrent) (e : readOf s ≡ taken t) (n : ℕ) where
       go false f =
           let k = numbering.listed s t e n f in
           let m = numbering.entries-taken (k .items) (t .content .place + 1) 0 (k .lengths) (k .taken-lengths) in
-          let y = number-within (m .0) n (omega (arith, m .2, k .files)) in
-          (y .0, entry-is ∙ ap (λ (o : Outcome (List FileEntry)). then o (file.number n)) (k .entries ∙ m .1) ∙ y .1)
+          let y = nth-within n (m .0) (omega (arith, m .2, k .files)) in
+          (y .0, entry-is ∙ ap (λ (o : Outcome (List FileEntry)). then o (nth n)) (k .entries ∙ m .1) ∙ y .1)
 
 pub file-exactly : (s : List ℕ) (n p : ℕ) → file.entryOf s n ≡ refused 31 p ↔ ((t : Torrent) × (readOf s ≡ taken t) × (t .content .files ≤ n) × (p ≡ 0))
 file-exactly s n p = (λ e. go (readOf s) refl e, λ h. sym (numbering.number-past s (h .0) (h .1) n (h .2)) ∙ refusal-is refl (sym (h .3)))
@@ -439,11 +437,11 @@ file-alike s n k p l = (λ e. go (readOf s) refl e, λ h. sym (numbering.entry-r
 
 pub peer-alike : (s : List ℕ) (n k p : ℕ) → k ≤ 30 → then (replyOf s) (nthOf n) ≡ refused k p ↔ map counted (replyOf s) ≡ refused k p
 peer-alike s n k p l = both-ways (then-refused (replyOf s) (nthOf n) k p) (
-  ⊎-elim (λ (h : replyOf s ≡ refused k p). map-refused counted (replyOf s) k p .1 h) (λ (h : (x : Answer (List Entry)) × (replyOf s ≡ taken x) × (nthOf n x ≡ refused k p)). not-there (h .0) (h .2)),
+  ⊎-elim (λ (h : replyOf s ≡ refused k p). map-refused counted (replyOf s) k p .1 h) (λ (h : (x : Answer (List PeerEntry)) × (replyOf s ≡ taken x) × (nthOf n x ≡ refused k p)). not-there (h .0) (h .2)),
   λ h. inl (map-refused counted (replyOf s) k p .0 h),
 )
   where
-    not-there : {P : Type 0} (x : Answer (List Entry)) → nthOf n x ≡ refused k p → P
+    not-there : {P : Type 0} (x : Answer (List PeerEntry)) → nthOf n x ≡ refused k p → P
     not-there x e = by-count (entriesIn (counted x)) n
         (λ h. let y = entry-within n x h in taken-not (sym (y .1) ∙ e))
-        (λ h. absurd (let z = same-refusal {A = Entry} 31 0 k p (sym (entry-beyond n x h) ∙ e) .0 in omega arith))
+        (λ h. absurd (let z = same-refusal {A = PeerEntry} 31 0 k p (sym (entry-beyond n x h) ∙ e) .0 in omega arith))

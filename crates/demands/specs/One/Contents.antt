@@ -3,7 +3,7 @@ use mathlib.Core.List.{List}
 use mathlib.Core.Path.{_≡_}
 use Prim.Native.Nat.{ℕ}
 use Rattle.blocks.specs.declared.PieceNumber.{PieceNumber}
-use Rattle.contents.specs.Files.{filePaper, entryOf}
+use Rattle.contents.specs.Files.{foundPaper, entryOf}
 use Rattle.contents.specs.Paths.{elementPaper, elementOf}
 use Rattle.contents.specs.Pieces.{hashPaper, hashOf, checkPaper, checkOf}
 use Rattle.contents.specs.declared.Checked.{Checked}
@@ -15,7 +15,7 @@ use Rattle.demands.specs.One.{Lent, now, Determined}
 
 -- contents::file
 abbrev file-ensures : (text : Lent (List ℕ)) (number : ℕ) → Found → Type 0
-file-ensures text number r = filePaper r ≡ entryOf (now (text .entry)) number
+file-ensures text number r = foundPaper r ≡ entryOf (now (text .entry)) number
 
 pub file-determined : (text : Lent (List ℕ)) (number : ℕ) → Determined (file-ensures text number)
 file-determined text number r r′ e f = laws.file-determined _ _ r r′ e f

@@ -34,7 +34,7 @@ use Rattle.wire.specs.Causes.{TooLong, All, Right, Few, Misnamed, Named, infoIn
 use Rattle.wire.proofs.Decided.{wait-exactly}
 use Rattle.wire.proofs.Shaking.{shake-wait-exactly}
 use Rattle.tracker.specs.Reply.{Answer, replyOf, counted, nthOf}
-use Rattle.tracker.specs.Entries.{Entry}
+use Rattle.tracker.specs.Entries.{PeerEntry}
 use Rattle.tracker.specs.Reading.{entriesIn}
 use Rattle.tracker.specs.Writing.{writeOf as replyText}
 use Rattle.tracker.specs.Faults.{NotWritten}
@@ -389,7 +389,7 @@ pub piece-hash-31 : (s : List ℕ) (n p : ℕ) → piece.hashOf s n ≡ refused 
 piece-hash-31 s n p = cited.hash-exactly s n p
 
 -- given by tracker::peer
-pub peer-31 : (s : List ℕ) (n p : ℕ) → then (replyOf s) (nthOf n) ≡ refused 31 p ↔ ((x : Answer (List Entry)) × (replyOf s ≡ taken x) × (entriesIn (counted x) ≤ n) × (p ≡ 0))
+pub peer-31 : (s : List ℕ) (n p : ℕ) → then (replyOf s) (nthOf n) ≡ refused 31 p ↔ ((x : Answer (List PeerEntry)) × (replyOf s ≡ taken x) × (entriesIn (counted x) ≤ n) × (p ≡ 0))
 peer-31 s n p = cited.peer-exactly s n p
 
 -- given by contents::check_piece

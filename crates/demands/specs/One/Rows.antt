@@ -30,7 +30,7 @@ use Rattle.metainfo.specs.declared.Filed.{Filed}
 use Rattle.metainfo.specs.declared.Reading.{Reading}
 use Rattle.authoring.specs.Writing.{paper as sizedPaper}
 use Rattle.authoring.specs.declared.Sized.{Sized}
-use Rattle.contents.specs.Files.{filePaper}
+use Rattle.contents.specs.Files.{foundPaper}
 use Rattle.contents.specs.Paths.{elementPaper}
 use Rattle.contents.specs.Pieces.{hashPaper, checkPaper as checkedPaper}
 use Rattle.contents.specs.declared.Checked.{Checked as PieceChecked}
@@ -70,14 +70,14 @@ check-detail-determined c r r′ x y = x ∙ sym y
 
 -- rows::files::file_number
 abbrev file-number-ensures : (f : Found) → ℕ → Type 0
-file-number-ensures f r = r ≡ numberOf (filePaper f)
+file-number-ensures f r = r ≡ numberOf (foundPaper f)
 
 pub file-number-determined : (f : Found) → Determined (file-number-ensures f)
 file-number-determined f r r′ x y = x ∙ sym y
 
 -- rows::files::file_detail
 abbrev file-detail-ensures : (f : Found) → List ℕ → Type 0
-file-detail-ensures f r = r ≡ fileDetail (filePaper f)
+file-detail-ensures f r = r ≡ fileDetail (foundPaper f)
 
 pub file-detail-determined : (f : Found) → Determined (file-detail-ensures f)
 file-detail-determined f r r′ x y = x ∙ sym y

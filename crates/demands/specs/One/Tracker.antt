@@ -5,7 +5,7 @@ use Prim.Native.Nat.{ℕ, _+_, _*_, suc}
 use lib.ListN.{length}
 use Rattle.refusal.specs.Paper.{map, then}
 use Rattle.tracker.specs.Entries.{packedPaper, packedAt, listedPaper, listedAt, countPaper, countFrom, nthAt}
-use Rattle.tracker.specs.Reading.{paper, peerPaper, entriesOf}
+use Rattle.tracker.specs.Reading.{paper, peerPaper, entryCount}
 use Rattle.tracker.specs.Reply.{counted, replyOf, nthOf}
 use Rattle.tracker.specs.declared.Found.{Found}
 use Rattle.tracker.specs.declared.Reply.{Reply}
@@ -31,7 +31,7 @@ peer-determined text n r r′ e f = laws.peer-determined _ r r′ e f
 
 -- tracker::entries
 abbrev entries-ensures : (reply : Reply) → ℕ → Type 0
-entries-ensures reply r = r ≡ entriesOf (paper reply)
+entries-ensures reply r = r ≡ entryCount (paper reply)
 
 pub entries-determined : (reply : Reply) → Determined (entries-ensures reply)
 entries-determined reply r r′ e f = e ∙ sym f

@@ -34,18 +34,18 @@ use Rattle.blocks.proofs.Whole.{passed as all-passed}
 use Rattle.blocks.proofs.Joined.{joined-laid, joined-start, joined-count, joined-size, joined-keeps, joined-held, joined-end}
 use Rattle.metainfo.specs.Reading.{readOf}
 use Rattle.metainfo.specs.declared.Torrent.{Torrent}
-use Rattle.torrents.specs.Torrent.{Said, IsTorrent, is-torrent, lengthsIn}
-use Rattle.torrents.specs.Exact.{Shows}
+use Rattle.torrents.specs.Torrent.{TorrentSays, IsTorrent, is-torrent, lengthsIn}
+use Rattle.torrents.specs.Exact.{ShowsTorrent}
 use Rattle.torrents.proofs.Laws.{torrent-exact}
 use Rattle.contents.specs.Pieces.{hashPart, pieceBytes, checkIn, checkOf}
 use Rattle.contents.proofs.Hashing.{piece-check}
 use Rattle.contents.specs.Pieces.{hashIn, hashOf}
 use Rattle.tracker.specs.Keys.{interval, peers}
-use Rattle.tracker.specs.Entries.{Entry}
+use Rattle.tracker.specs.Entries.{PeerEntry}
 use Rattle.tracker.specs.Reply.{Answer, compact, sixes, replyIn, replyOf}
 use Rattle.tracker.specs.Writing.{compactReply, textOf, writeOf}
 use Rattle.tracker.specs.Exact.{packs, IsReply, fails, has-string, has-list, shows-failure, shows-packs, shows-lists}
-use Rattle.tracker.specs.Exact.{Said as Told, Shows as Shown}
+use Rattle.tracker.specs.Exact.{ReplySays, ShowsReply}
 use Rattle.tracker.proofs.Exact.{reply-only}
 use Rattle.tracker.proofs.Rewriting.{rewrite}
 
@@ -55,7 +55,7 @@ no-way e = absurd (omega arith)
 -- ---- the check of a piece
 
 -- the n-th 20 bytes of pieces, in the text and in what the torrent says
-hash-bytes : (s : List ℕ) (x : Torrent) (t : Said) (n : ℕ) → bytesAt s (x .pieces) ≡ t .pieces → length (t .pieces) ≡ 20 * t .count → n < t .count
+hash-bytes : (s : List ℕ) (x : Torrent) (t : TorrentSays) (n : ℕ) → bytesAt s (x .pieces) ≡ t .pieces → length (t .pieces) ≡ 20 * t .count → n < t .count
     → bytesAt s (hashPart n (x .pieces)) ≡ take 20 (drop (20 * n) (t .pieces))
 hash-bytes s x t n e l h =
     let rest = drop (x .pieces .from) s in
@@ -67,7 +67,7 @@ hash-bytes s x t n e l h =
     ∙ take-append-le 20 (drop (20 * n) (take len rest)) (drop len rest) b
     ∙ ap (λ (y : List ℕ). take 20 (drop (20 * n) y)) e
 
-hashes-of : (v : Value) (t : Said) → IsTorrent v t → length (t .pieces) ≡ 20 * t .count
+hashes-of : (v : Value) (t : TorrentSays) → IsTorrent v t → length (t .pieces) ≡ 20 * t .count
 hashes-of v t (is-torrent es u a i h) = h .sized .hashes
 
 module _ (s : List ℕ) (n : ℕ) (m : List ℕ) where
@@ -86,21 +86,21 @@ module _ (s : List ℕ) (n : ℕ) (m : List ℕ) where
       go true f false k g e = no-way (cc)
       go false f j k g e = no-way (cc)
 
-  abbrev Long : Said → Type 0
+  abbrev Long : TorrentSays → Type 0
   Long t = length m ≡ min (t .piece-length) (sum (lengthsIn (t .files)) - n * t .piece-length)
 
-  abbrev Agrees : Said → Type 0
+  abbrev Agrees : TorrentSays → Type 0
   Agrees t = sha1 m ≡ take 20 (drop (20 * n) (t .pieces))
 
   -- between what was read and what is said
-  module _ (x : Torrent) (v : Value) (t : Said) (i : IsTorrent v t) (w : Shows s x t) where
+  module _ (x : Torrent) (v : Value) (t : TorrentSays) (i : IsTorrent v t) (w : ShowsTorrent s x t) where
     as-long : held x ≡ min (t .piece-length) (sum (lengthsIn (t .files)) - n * t .piece-length)
     as-long = ap (λ (k : ℕ). pieceBytes k (x .«piece_length») n) (w .files .total) ∙ ap (λ (k : ℕ). pieceBytes (sum (lengthsIn (t .files))) k n) (w .piece-length)
 
     as-hashed : n < t .count → bytesAt s (hashPart n (x .pieces)) ≡ take 20 (drop (20 * n) (t .pieces))
     as-hashed h = hash-bytes s x t n (w .pieces) (hashes-of v t i) h
 
-  pub piece-tells : (v : Value) (t : Said) → Fine s v → IsTorrent v t → n < t .count → Long t → (Agrees t → checkOf s n m ≡ taken true) × ((Agrees t → ⊥) → checkOf s n m ≡ taken false)
+  pub piece-tells : (v : Value) (t : TorrentSays) → Fine s v → IsTorrent v t → n < t .count → Long t → (Agrees t → checkOf s n m ≡ taken true) × ((Agrees t → ⊥) → checkOf s n m ≡ taken false)
   piece-tells v t f i h l =
       let y = torrent-exact s .every v t f i in
       let x = y .0 in
@@ -109,27 +109,27 @@ module _ (s : List ℕ) (n : ℕ) (m : List ℕ) where
       let g = as-hashed x v t i (y .2) h in
       (λ a. piece-check s n m .every x (y .1) k e (a ∙ sym g), λ a. piece-check s n m .other x (y .1) k e (λ d. a (d ∙ g)))
 
-  told : (b : Bool) → checkOf s n m ≡ taken b → (v : Value) × (t : Said) × Fine s v × IsTorrent v t × (n < t .count) × Long t
+  told : (b : Bool) → checkOf s n m ≡ taken b → (v : Value) × (t : TorrentSays) × Fine s v × IsTorrent v t × (n < t .count) × Long t
   told b e =
       let y = then-taken (readOf s) (checkIn s n m) b e in
       let p = passed (y .0) b (y .2) in
       let h = torrent-exact s .only (y .0) (y .1) in
       (h .0, h .1, h .2, h .3, omega (arith, p .0, h .4 .count), p .1 ∙ as-long (y .0) (h .0) (h .1) (h .3) (h .4))
 
-  pub piece-yes : checkOf s n m ≡ taken true → (v : Value) × (t : Said) × Fine s v × IsTorrent v t × (n < t .count) × Long t × Agrees t
+  pub piece-yes : checkOf s n m ≡ taken true → (v : Value) × (t : TorrentSays) × Fine s v × IsTorrent v t × (n < t .count) × Long t × Agrees t
   piece-yes e =
       let h = piece-check s n m .only e in
       let x = torrent-exact s .only (h .0) (h .1) in
       let k : n < x .1 .count = omega (arith, h .2, x .4 .count) in
       (x .0, x .1, x .2, x .3, k, h .3 ∙ as-long (h .0) (x .0) (x .1) (x .3) (x .4), h .4 ∙ as-hashed (h .0) (x .0) (x .1) (x .3) (x .4) k)
 
-  pub piece-no : checkOf s n m ≡ taken false → (v : Value) × (t : Said) × Fine s v × IsTorrent v t × (n < t .count) × Long t × (Agrees t → ⊥)
+  pub piece-no : checkOf s n m ≡ taken false → (v : Value) × (t : TorrentSays) × Fine s v × IsTorrent v t × (n < t .count) × Long t × (Agrees t → ⊥)
   piece-no e =
       let h = told false e in
       (h .0, h .1, h .2, h .3, h .4, h .5, λ a. let q = piece-tells (h .0) (h .1) (h .2) (h .3) (h .4) (h .5) .0 a in let z : _≡_ {A = ℕ} 0 1 = cc in omega arith)
 
 -- the hash of a piece by its number
-pub piece-hashed : (s : List ℕ) (n : ℕ) (v : Value) (t : Said) → Fine s v → IsTorrent v t
+pub piece-hashed : (s : List ℕ) (n : ℕ) (v : Value) (t : TorrentSays) → Fine s v → IsTorrent v t
     → (n < t .count → (x : Part) × (hashOf s n ≡ taken x) × (bytesAt s x ≡ take 20 (drop (20 * n) (t .pieces)))) × (t .count ≤ n → hashOf s n ≡ refused 31 0)
 piece-hashed s n v t f i =
     let y = torrent-exact s .every v t f i in
@@ -147,18 +147,18 @@ interval-peers : keyLt interval peers ≡ true
 unfolding keyLt
 interval-peers = refl
 
-said-small : (v : Value) (t : Told) (n : ℕ) (bs : List ℕ) → IsReply v t → t ≡ packs n bs → n ≤ 2147483647
+said-small : (v : Value) (t : ReplySays) (n : ℕ) (bs : List ℕ) → IsReply v t → t ≡ packs n bs → n ≤ 2147483647
 said-small v t n bs (fails es cs h) e = no-way (cc)
 said-small v t n bs (has-string es m cs w h l) e = let a : m ≡ n = cc in omega (arith, a, w .interval-small)
 said-small v t n bs (has-list es m vs l w h ps) e = no-way (cc)
 
-shown-small : (s : List ℕ) (x : Answer (List Entry)) (v : Value) (t : Told) (n p : ℕ) (l : List Entry) → Shown s x t → IsReply v t → x ≡ compact n p l → n ≤ 2147483647
+shown-small : (s : List ℕ) (x : Answer (List PeerEntry)) (v : Value) (t : ReplySays) (n p : ℕ) (l : List PeerEntry) → ShowsReply s x t → IsReply v t → x ≡ compact n p l → n ≤ 2147483647
 shown-small s x v t n p l (shows-failure q cs h) i e = no-way (cc)
 shown-small s x v t n p l (shows-packs m q cs h) i e = let a : m ≡ n = cc in omega (arith, a, said-small v (packs m cs) m cs i refl)
 shown-small s x v t n p l (shows-lists m q k j h) i e = no-way (cc)
 
 -- its entries are whole
-whole-sixes : (s : List ℕ) (n : ℕ) (bs : List ℕ) → Fine s (compactReply n bs) → (p : ℕ) (l : List Entry) → replyOf s ≡ taken (compact n p l) → length bs % 6 ≡ 0
+whole-sixes : (s : List ℕ) (n : ℕ) (bs : List ℕ) → Fine s (compactReply n bs) → (p : ℕ) (l : List PeerEntry) → replyOf s ≡ taken (compact n p l) → length bs % 6 ≡ 0
 unfolding replyOf lookup sameKey
 whole-sixes s n bs f p l e =
     go _ _ (leb n 2147483647) (eqb (length bs % 6) 0) refl (sym (ap (λ (o : Outcome Value). then o (λ v. then (dictionaryAt 0 v) replyIn)) (fine-taken s (compactReply n bs) f)) ∙ e)
@@ -173,7 +173,7 @@ writes-again : (n : ℕ) (bs o s : List ℕ) → n ≤ 2147483647 → length bs 
 unfolding writeOf
 writes-again n bs o s a b c g = rw (le-ltb 2147483647 n a, le-ltb 0 (length bs % 6) (omega (arith, b)), g, le-ltb 1048576 (length s) c)
 
-pub reply-again : (s : List ℕ) (v w : Value) → Fine s (dict (entry interval v (entry peers w empty))) → (n p : ℕ) (l : List Entry) → replyOf s ≡ taken (compact n p l)
+pub reply-again : (s : List ℕ) (v w : Value) → Fine s (dict (entry interval v (entry peers w empty))) → (n p : ℕ) (l : List PeerEntry) → replyOf s ≡ taken (compact n p l)
     → (bs : List ℕ) × (take (length bs) (drop p s) ≡ bs) × (l ≡ sixes bs) × ((o : List ℕ) → writeOf n bs o ≡ putOf s 0 o)
 unfolding Keeps count
 reply-again s v w f n p l e =

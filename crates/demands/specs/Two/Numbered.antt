@@ -20,10 +20,12 @@ use Rattle.metainfo.specs.declared.File.{File}
 use Rattle.metainfo.specs.declared.Torrent.{Torrent}
 use Rattle.torrents.specs.Torrent.{OneFile, sizesOf}
 use Rattle.torrents.specs.Exact.{PathAt, FilesAt, none-left, file-at}
-use Rattle.contents.specs.Files.{inInfo, entry, entriesUnder, entriesOf, number, entryIn, entryOf}
+use Rattle.contents.specs.Files.{inInfo, entry, entriesUnder, allEntries, entryIn, entryOf}
+use Rattle.fields.specs.Nth.{nth}
+use Rattle.fields.proofs.Nth.{nth-beyond}
 use Rattle.contents.specs.Files.{single as oneEntry}
 use Rattle.contents.specs.Walks.{last, next, Walked}
-use Rattle.contents.specs.Walks.{Files as Walk}
+use Rattle.contents.specs.Walks.{FilesWalked}
 use Rattle.contents.specs.declared.Entry.{Entry}
 use Rattle.contents.proofs.Walking.{files-walked}
 
@@ -39,8 +41,8 @@ abbrev pub IsNumber : List ℕ → ℕ → ℕ → List OneFile → Entry → Ty
 IsNumber s n o fs e = (e .offset .0 ≡ o + sum (take n (sizesOf fs))) × (e .length ≡ getD fs n noFile .size) × PathAt s (e .path) (getD fs n noFile .path) × (e .single ≡ false)
 
 module _ (s : List ℕ) where
-  numbered : (p o : ℕ) (vs : Items) (es : List Entry) → Walk s p o vs es → (n : ℕ) (fs : List OneFile) → FilesAt s p fs → n < length fs → (e : Entry) × (number n es ≡ taken e) × IsNumber s n o fs e
-  unfolding number sizesOf sum
+  numbered : (p o : ℕ) (vs : Items) (es : List Entry) → FilesWalked s p o vs es → (n : ℕ) (fs : List OneFile) → FilesAt s p fs → n < length fs → (e : Entry) × (nth n es ≡ taken e) × IsNumber s n o fs e
+  unfolding nth sizesOf sum
   numbered p o vs es (last q i g) n fs (none-left r) l = absurd (omega arith)
   numbered p o vs es (last q i g) n fs (file-at r x f gs a b c d) l = let z : refused 2 q ≡ taken x = sym g ∙ a in no-way (cc)
   numbered p o vs es (next q i v us y ks g h w) n fs (none-left r) l = absurd (omega arith)
@@ -55,12 +57,6 @@ module _ (s : List ℕ) where
       let m : y .length ≡ f .size = ap (λ (j : File). j .length) u ∙ b in
       (k .0, k .1, (omega (arith, k .2 .0, m), k .2 .1, k .2 .2, k .2 .3))
 
-  beyond : (n : ℕ) (es : List Entry) → length es ≤ n → number n es ≡ refused 31 0
-  unfolding number
-  beyond n [] l = refl
-  beyond zero (e ∷ es) l = absurd (omega arith)
-  beyond (suc n) (e ∷ es) l = beyond n es (omega arith)
-
 sizes-length : (fs : List OneFile) → length (sizesOf fs) ≡ length fs
 unfolding sizesOf
 sizes-length [] = refl
@@ -68,16 +64,16 @@ sizes-length (f ∷ fs) = ap suc (sizes-length fs)
 
 module _ (s : List ℕ) (n : ℕ) (x : Torrent) (e : readOf s ≡ taken x) where
   -- the call goes by the number among the entries
-  by-number : (v : Value) (es : List Entry) → decode s ≡ taken v → entriesOf v x ≡ taken es → entryOf s n ≡ number n es
+  by-number : (v : Value) (es : List Entry) → decode s ≡ taken v → allEntries v x ≡ taken es → entryOf s n ≡ nth n es
   by-number v es d g =
       let t : torrentOf v ≡ taken x = sym (ap (λ (o : Outcome Value). then o torrentOf) d) ∙ e in
-      ap (λ (o : Outcome Value). then o (entryIn n)) d ∙ ap (λ (o : Outcome Torrent). then o (λ t. then (entriesOf v t) (number n))) t ∙ ap (λ (o : Outcome (List Entry)). then o (number n)) g
+      ap (λ (o : Outcome Value). then o (entryIn n)) d ∙ ap (λ (o : Outcome Torrent). then o (λ t. then (allEntries v t) (nth n))) t ∙ ap (λ (o : Outcome (List Entry)). then o (nth n)) g
 
   module _ (fs : List OneFile) (one : x .content .single ≡ false) (all : x .content .files ≡ length (sizesOf fs)) (each : FilesAt s (x .content .place + 1) fs) where
     walk : Walked s x
     walk = files-walked s x e one
 
-    there : entryOf s n ≡ number n (walk .entries)
+    there : entryOf s n ≡ nth n (walk .entries)
     there = by-number (walk .value) (walk .entries) (walk .decoded) (walk .numbered)
 
     pub many-within : n < length fs → (y : Entry) × (entryOf s n ≡ taken y) × IsNumber s n 0 fs y
@@ -86,19 +82,19 @@ module _ (s : List ℕ) (n : ℕ) (x : Torrent) (e : readOf s ≡ taken x) where
         (k .0, there ∙ k .1, k .2)
 
     pub many-beyond : length fs ≤ n → entryOf s n ≡ refused 31 0
-    many-beyond l = there ∙ beyond s n (walk .entries) (omega (arith, walk .counted, all, sizes-length fs, l))
+    many-beyond l = there ∙ nth-beyond n (walk .entries) (omega (arith, walk .counted, all, sizes-length fs, l))
 
-  one-file : x .content .single ≡ true → entryOf s n ≡ number n (oneEntry x ∷ [])
+  one-file : x .content .single ≡ true → entryOf s n ≡ nth n (oneEntry x ∷ [])
   one-file one =
       let v = then-taken (decode s) torrentOf x e in
       by-number (v .0) (oneEntry x ∷ []) (v .1) (ap (λ (b : Bool). cond b (taken (oneEntry x ∷ [])) (entriesUnder (inInfo (v .0) filesKey))) one)
 
   pub one-within : x .content .single ≡ true → n ≡ 0 → entryOf s n ≡ taken (oneEntry x)
-  unfolding number
-  one-within one z = one-file one ∙ ap (λ (k : ℕ). number k (oneEntry x ∷ [])) z
+  unfolding nth
+  one-within one z = one-file one ∙ ap (λ (k : ℕ). nth k (oneEntry x ∷ [])) z
 
   pub one-beyond : x .content .single ≡ true → 1 ≤ n → entryOf s n ≡ refused 31 0
-  one-beyond one l = one-file one ∙ beyond s n (oneEntry x ∷ []) l
+  one-beyond one l = one-file one ∙ nth-beyond n (oneEntry x ∷ []) l
 
 -- the bytes of a part, by how many they are
 pub part-bytes : (s : List ℕ) (p : Part) (bs : List ℕ) → bytesAt s p ≡ bs → take (length bs) (drop (p .from) s) ≡ bs

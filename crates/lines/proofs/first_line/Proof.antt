@@ -1,5 +1,6 @@
 use borrow.Author.Needs.{needs}
-use Rattle.lines.proofs.Running.{ran-then, ran-as, first-joined}
+use Rattle.lines.proofs.Running.{first-joined}
+use Rattle.writer.proofs.Runs.{ran-then, ran-as}
 use Rattle.lines.specs.Lines.{escaped}
 use Rattle.scalar.specs.Written.{decimal}
 use native.Mathlib.Omega.{arith}

@@ -1,5 +1,6 @@
 use borrow.Author.Needs.{needs}
-use Rattle.lines.proofs.Running.{ran-then, ran-as, refused-joined}
+use Rattle.lines.proofs.Running.{refused-joined}
+use Rattle.writer.proofs.Runs.{ran-then, ran-as}
 use Rattle.scalar.specs.Written.{decimal}
 use native.Mathlib.Omega.{arith}
 use Rattle.lines.proofs.refused.Statement.{statement}

@@ -1,5 +1,5 @@
 use borrow.Author.Needs.{needs}
-use Rattle.lines.proofs.Running.{ran-then, ran-as}
+use Rattle.writer.proofs.Runs.{ran-then, ran-as}
 use Rattle.lines.proofs.Reading.{ready}
 use native.Mathlib.Omega.{arith}
 use Rattle.lines.proofs.torrent.Statement.{statement}

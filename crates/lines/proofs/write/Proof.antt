@@ -1,5 +1,5 @@
 use borrow.Author.Needs.{needs}
-use Rattle.lines.proofs.Running.{ran-as}
+use Rattle.writer.proofs.Runs.{ran-as}
 use Rattle.lines.proofs.Reading.{listing-long, listing-refused}
 use Rattle.metainfo.specs.Reading.{paper}
 use mathlib.Core.Path.{sym, ap, _∙_}

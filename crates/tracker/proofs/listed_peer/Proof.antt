@@ -1,9 +1,9 @@
 -- `tracker::listed_peer` meets its contract. Assumes nothing.
 use borrow.Author.Needs.{needs}
 use Prim.Native.Nat.{_+_, _*_}
-use Rattle.tracker.specs.Entries.{Entry, Step, packedAt, nthAt, listedPaper}
+use Rattle.tracker.specs.Entries.{PeerEntry, PeerStep, packedAt, nthAt, listedPaper}
 use Rattle.tracker.specs.Reading.{peerPaper}
-use Rattle.tracker.specs.Entries.{Entry, Step, listedPaper}
+use Rattle.tracker.specs.Entries.{PeerEntry, PeerStep, listedPaper}
 use Rattle.tracker.proofs.Steps.{via, in-count, no-count}
 use Rattle.refusal.specs.Paper.{Outcome, taken, refused, map, then}
 use native.Mathlib.Omega.{arith}

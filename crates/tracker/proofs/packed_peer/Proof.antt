@@ -1,9 +1,9 @@
 -- `tracker::packed_peer` meets its contract. Assumes nothing.
 use borrow.Author.Needs.{needs}
 use Prim.Native.Nat.{_+_, _*_}
-use Rattle.tracker.specs.Entries.{Entry, Step, packedAt, nthAt, packedPaper}
+use Rattle.tracker.specs.Entries.{PeerEntry, PeerStep, packedAt, nthAt, packedPaper}
 use Rattle.tracker.specs.Reading.{peerPaper}
-use Rattle.tracker.specs.Entries.{Entry, Step, packedPaper}
+use Rattle.tracker.specs.Entries.{PeerEntry, PeerStep, packedPaper}
 use Rattle.tracker.proofs.Steps.{via, in-count, no-count}
 use Rattle.refusal.specs.Paper.{Outcome, taken, refused, map, then}
 use native.Mathlib.Omega.{arith}

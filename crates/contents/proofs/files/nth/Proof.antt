@@ -1,7 +1,7 @@
 -- `contents::files::nth` meets its contract. Assumes nothing.
 use Rattle.contents.proofs.Numbering.{walk-here, walk-bad, walk-more}
 use Rattle.contents.specs.Steps.{walkTo}
-use Rattle.contents.specs.Files as files
+use Rattle.contents.specs.Files.{foundPaper}
 use Rattle.metainfo.specs.Reading.{filePaper}
 use borrow.Author.Needs.{needs}
 use native.Mathlib.Omega.{arith}
@@ -28,7 +28,7 @@ listed-requires : tie.Need-listed-requires Inv-loop μ-loop
 listed-requires c κs = search needs
 
 returns : tie.Need-returns Inv-loop μ-loop
-returns c = ap files.filePaper (c .listed .ensures) ∙ walk-here (c .before .before .before .before .before .before .before .before .args .text .now) (c .before .before .before .before .before .before .loop .at) (c .before .before .before .before .before .before .loop .passed .0) (c .before .before .before .before .before .before .loop .left) (c .before .before .before .f .given .0 .0) (omega arith) (ap filePaper (sym (c .before .before .before .f .given .1)) ∙ c .before .before .before .before .before .file-at .ensures) ∙ c .before .before .before .before .before .before .loop .inv
+returns c = ap foundPaper (c .listed .ensures) ∙ walk-here (c .before .before .before .before .before .before .before .before .args .text .now) (c .before .before .before .before .before .before .loop .at) (c .before .before .before .before .before .before .loop .passed .0) (c .before .before .before .before .before .before .loop .left) (c .before .before .before .f .given .0 .0) (omega arith) (ap filePaper (sym (c .before .before .before .f .given .1)) ∙ c .before .before .before .before .before .file-at .ensures) ∙ c .before .before .before .before .before .before .loop .inv
 
 sub-left : tie.Need-sub-left Inv-loop μ-loop
 sub-left c = omega arith

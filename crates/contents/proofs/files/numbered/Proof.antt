@@ -1,7 +1,7 @@
 -- `contents::files::numbered` meets its contract. Assumes nothing.
 use borrow.Author.Needs.{needs}
 use Rattle.contents.proofs.Numbering.{number-past, number-only, number-listed, place-fits}
-use Rattle.contents.specs.Files.{filePaper}
+use Rattle.contents.specs.Files.{foundPaper}
 use native.Mathlib.Omega.{arith}
 use mathlib.Core.Path.{ap, _∙_}
 use Rattle.contents.proofs.files.numbered.Statement.{statement}
@@ -11,13 +11,13 @@ no-file-requires : tie.Need-no-file-requires
 no-file-requires c κs = search needs
 
 returns : tie.Need-returns
-returns c = ap filePaper (c .no-file .ensures) ∙ number-past (c .before .before .before .before .before .args .text .now) (c .before .before .before .before .before .args .t) (c .before .before .before .before .before .pre) (c .before .before .before .before .before .args .number) (omega arith)
+returns c = ap foundPaper (c .no-file .ensures) ∙ number-past (c .before .before .before .before .before .args .text .now) (c .before .before .before .before .before .args .t) (c .before .before .before .before .before .pre) (c .before .before .before .before .before .args .number) (omega arith)
 
 only-requires : tie.Need-only-requires
 only-requires c κs = search needs
 
 returns-2 : tie.Need-returns-2
-returns-2 c = ap filePaper (c .only .ensures) ∙ number-only (c .before .before .before .before .before .before .args .text .now) (c .before .before .before .before .before .before .args .t) (c .before .before .before .before .before .before .pre) (c .before .before .before .before .before .before .args .number) (c .before .if2 .taken) (omega arith)
+returns-2 c = ap foundPaper (c .only .ensures) ∙ number-only (c .before .before .before .before .before .before .args .text .now) (c .before .before .before .before .before .before .args .t) (c .before .before .before .before .before .before .pre) (c .before .before .before .before .before .before .args .number) (c .before .if2 .taken) (omega arith)
 
 add-first : tie.Need-add-first
 add-first c = omega (arith, place-fits (c .before .before .before .before .before .before .args .text .now) (c .before .before .before .before .before .before .args .t) (c .before .before .before .before .before .before .pre) (c .before .before .before .before .before .before .args .number) (c .before .if2 .left))

@@ -1,5 +1,6 @@
 use borrow.Author.Needs.{needs}
-use Rattle.lines.proofs.Running.{ran-then, ran-as, digits-most}
+use Rattle.lines.proofs.Running.{digits-most}
+use Rattle.writer.proofs.Runs.{ran-then, ran-as}
 use Rattle.scalar.specs.Written.{decimal}
 use mathlib.Core.List.{[], _∷_, _++_, append-assoc}
 use native.Mathlib.Omega.{arith}

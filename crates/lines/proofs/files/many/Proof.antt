@@ -1,5 +1,5 @@
 use Rattle.lines.proofs.Walking.{FilesGoing, files-start, files-done, files-again, files-room, files-small}
-use Rattle.lines.proofs.Running.{ran-length}
+use Rattle.writer.proofs.Runs.{ran-length}
 use Rattle.metainfo.proofs.Filing.{file-further}
 use Rattle.metainfo.specs.Reading.{filePaper}
 use Prim.Native.Nat.{_-_}

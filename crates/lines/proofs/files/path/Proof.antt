@@ -2,7 +2,7 @@ use mathlib.Core.List.{List}
 use Prim.Native.Nat.{ℕ}
 use Rattle.lines.specs.Lines.{escaped}
 use Rattle.lines.proofs.Walking.{PathGoing, path-start, path-done, path-again, path-room, path-further}
-use Rattle.lines.proofs.Running.{ran-length}
+use Rattle.writer.proofs.Runs.{ran-length}
 use Rattle.fields.specs.Looks.{stringPaper}
 use Prim.Native.Nat.{_-_}
 use lib.ListN.{length}

@@ -4,7 +4,8 @@ use mathlib.Core.Path.{sym, ap, _∙_}
 use mathlib.Core.List.{[], _∷_, _++_}
 use Rattle.scalar.specs.Written.{decimal}
 use Rattle.writer.proofs.Decimals.{decimal-one, decimal-last}
-use Rattle.lines.proofs.Running.{ran-length, ran-then, ran-as, digits-most}
+use Rattle.lines.proofs.Running.{digits-most}
+use Rattle.writer.proofs.Runs.{ran-length, ran-then, ran-as}
 use borrow.Fn.Kinds.{In}
 use borrow.Fn.PlainCycle.{Measures, is, falls, and}
 use Rattle.lines.proofs.ink.decimal.Reads as decimal-reads

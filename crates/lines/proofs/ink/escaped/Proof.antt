@@ -1,4 +1,5 @@
-use Rattle.lines.proofs.Running.{Going, going-start, going-more, going-end, going-near, escaped-more, escaped-none, ran-length}
+use Rattle.lines.proofs.Running.{Going, going-start, going-more, going-end, going-near, escaped-more, escaped-none}
+use Rattle.writer.proofs.Runs.{ran-length}
 use Rattle.lines.specs.Lines.{escaped}
 use Prim.Native.Nat.{_-_, _≤_}
 use lib.ListN.{length, drop}

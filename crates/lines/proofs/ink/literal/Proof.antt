@@ -1,5 +1,6 @@
 use native.Mathlib.Omega.{arith}
-use Rattle.lines.proofs.Running.{ran-length, Going, going-start, going-more, going-end, going-near, one-more, none-left}
+use Rattle.lines.proofs.Running.{Going, going-start, going-more, going-end, going-near, one-more, none-left}
+use Rattle.writer.proofs.Runs.{ran-length}
 use lib.ListN.{length, drop}
 use Prim.Native.Nat.{_-_, _≤_}
 use Rattle.lines.proofs.ink.literal.Statement.{statement}

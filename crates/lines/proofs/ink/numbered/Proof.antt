@@ -1,5 +1,6 @@
 use borrow.Author.Needs.{needs}
-use Rattle.lines.proofs.Running.{ran-then, digits-most}
+use Rattle.lines.proofs.Running.{digits-most}
+use Rattle.writer.proofs.Runs.{ran-then}
 use native.Mathlib.Omega.{arith}
 use Rattle.lines.proofs.ink.numbered.Statement.{statement}
 use Rattle.lines.proofs.ink.numbered.Tie as tie

@@ -1,5 +1,6 @@
 use borrow.Author.Needs.{needs}
-use Rattle.lines.proofs.Running.{ran-as, ran-then, escape-plain, escape-other}
+use Rattle.lines.proofs.Running.{escape-plain, escape-other}
+use Rattle.writer.proofs.Runs.{ran-as, ran-then}
 use mathlib.Core.Path.{sym, _∙_}
 use Rattle.lines.proofs.ink.one.Statement.{statement}
 use Rattle.lines.proofs.ink.one.Tie as tie

@@ -1,6 +1,7 @@
 use Rattle.metainfo.proofs.Closing.{noted}
 use Prim.Native.Nat.{ℕ}
-use Rattle.metainfo.specs.Keys.{lengthKey, nameKey, pieceLengthKey, piecesKey, soughtFrom}
+use Rattle.metainfo.specs.Keys.{lengthKey, nameKey, pieceLengthKey, piecesKey}
+use Rattle.fields.specs.Looks.{soughtFrom}
 use mathlib.Core.Path.{_≡_, refl, sym, ap, _∙_, subst}
 use native.Mathlib.Omega.{arith}
 use borrow.Author.Needs.{needs}

@@ -1,6 +1,6 @@
 -- `file_detail` meets its contract. Assumes nothing.
 use Rattle.rows.specs.Files.{fileDetail}
-use Rattle.contents.specs.Files.{filePaper}
+use Rattle.contents.specs.Files.{foundPaper}
 use Rattle.contents.specs.declared.Found.{Found}
 use mathlib.Core.Path.{sym, ap, _∙_}
 use borrow.Author.Needs.{needs}
@@ -20,10 +20,10 @@ four-requires : tie.Need-four-requires
 four-requires c κs = search needs
 
 returns : tie.Need-returns
-returns c = c .entry-words .ensures ∙ ap (λ (x : Found). fileDetail (filePaper x)) (sym (c .before .before .f .given .1))
+returns c = c .entry-words .ensures ∙ ap (λ (x : Found). fileDetail (foundPaper x)) (sym (c .before .before .f .given .1))
 
 returns-2 : tie.Need-returns-2
-returns-2 c = c .four .ensures ∙ ap (λ (x : Found). fileDetail (filePaper x)) (sym (c .before .before .f2 .given .1))
+returns-2 c = c .four .ensures ∙ ap (λ (x : Found). fileDetail (foundPaper x)) (sym (c .before .before .f2 .given .1))
 
 pub file-detail-spec : {M : Type 1} → statement M
 file-detail-spec =

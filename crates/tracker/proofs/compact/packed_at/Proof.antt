@@ -1,7 +1,7 @@
 -- `tracker::compact::packed_at` meets its contract. Assumes nothing.
 use borrow.Author.Needs.{needs}
 use Prim.Native.Nat.{_+_}
-use Rattle.tracker.specs.Entries.{packed, packedPaper, Step, Entry}
+use Rattle.tracker.specs.Entries.{packed, packedPaper, PeerStep, PeerEntry}
 use Rattle.tracker.proofs.Steps.{packed-whole, packed-cut}
 use Rattle.refusal.specs.Paper.{Outcome, taken, refused, map, then}
 use native.Mathlib.Omega.{arith}

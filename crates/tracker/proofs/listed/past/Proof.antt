@@ -1,7 +1,7 @@
 -- `tracker::listed::past` meets its contract. Assumes nothing.
 use borrow.Author.Needs.{needs}
 use Prim.Native.Nat.{ℕ}
-use Rattle.tracker.specs.Entries.{Entry, listed, Step}
+use Rattle.tracker.specs.Entries.{PeerEntry, listed, PeerStep}
 use Rattle.walk.specs.Walk.{pastPaper}
 use Rattle.tracker.proofs.Steps.{via}
 use Rattle.refusal.specs.Paper.{Outcome, taken, refused, map, then}
