@@ -1,5 +1,4 @@
-// A line for each word: the text that it stands in, and what `metainfo` and `contents` answer to that.
-use crate::words::find;
+// A line for each text: the word that it is written as, and what `metainfo` and `contents` answer to it.
 use crate::words::write_out;
 use blocks::PieceNumber;
 use contents::Checked;
@@ -15,38 +14,12 @@ use metainfo::Torrent;
 use refusal::Part;
 use sha1::Hashed;
 
-// Each word of a line, by spaces, between what stands before and after it.
-pub fn each(before: &[u8], line: &[u8], after: &[u8]) {
-    let mut space = [0u8; 1048577];
-    lend(&mut space, before, line, after);
-}
-
-// The array as a slice, whose length is known here from its type alone.
-fn lend(space: &mut [u8; 1048577], before: &[u8], line: &[u8], after: &[u8]) {
-    each_in(space, before, line, after);
-}
-
-fn each_in(space: &mut [u8], before: &[u8], line: &[u8], after: &[u8]) {
-    let mut from = 0;
-    while from < line.len() {
-        let to = find(line, from, b' ');
-        show(space, before, &line[from..to], after);
-        from = to + 1;
-    }
-}
-
-fn show(space: &mut [u8], before: &[u8], word: &[u8], after: &[u8]) {
-    say(before);
-    say(word);
-    say(after);
-    say(b":");
-    let head = write_out(space, 0, before);
-    let body = write_out(space, head, word);
-    let size = write_out(space, body, after);
+// What is answered to a text that is written as a word.
+pub fn show(word: &[u8], space: &mut [u8]) {
+    let size = write_out(space, word);
     if size <= space.len() {
         answer(&space[0..size]);
     }
-    say(b"\n");
 }
 
 fn answer(text: &[u8]) {
@@ -57,20 +30,20 @@ fn answer(text: &[u8]) {
 }
 
 fn torrent(text: &[u8], t: Torrent) {
-    say(b" announce");
-    part(t.announce);
-    say(b" ");
-    say(metainfo::announce(text));
-    say(b" name");
-    part(t.name);
-    say(b" ");
-    say(metainfo::name(text));
-    say(b" info");
-    part(t.info);
-    say(b" ");
+    said(b" announce", t.announce, metainfo::announce(text));
+    said(b" name", t.name, metainfo::name(text));
+    said(b" info", t.info, b"");
     info_hash(text);
     pieces(text, t);
     content(text, t.content);
+}
+
+// A part by its place, and its bytes.
+fn said(label: &[u8], p: Part, bytes: &[u8]) {
+    say(label);
+    part(p);
+    say(b" ");
+    say(bytes);
 }
 
 fn info_hash(text: &[u8]) {
@@ -95,8 +68,7 @@ fn pieces(text: &[u8], t: Torrent) {
 }
 
 fn hash(text: &[u8], n: u64) {
-    say(b";");
-    number(n);
+    labelled(b";", n);
     if 4294967295 < n {
         return;
     }
@@ -108,8 +80,7 @@ fn hash(text: &[u8], n: u64) {
 
 // How many files, their total, how far one can walk, and the first file, the last and the one past it.
 fn content(text: &[u8], c: Content) {
-    say(b" files");
-    number(c.files as u64);
+    labelled(b" files", c.files as u64);
     number(c.total);
     if c.single {
         say(b" single");
@@ -143,10 +114,8 @@ fn walk_files(text: &[u8], place: usize, count: usize) {
 
 // No file stands past the last.
 fn walked(text: &[u8], place: usize, at: usize) {
-    say(b" in");
-    number(place as u64);
-    say(b" to");
-    number(at as u64);
+    labelled(b" in", place as u64);
+    labelled(b" to", at as u64);
     match metainfo::file_at(text, at) {
         Filed::Is(f) => number(f.length),
         Filed::Not(r) => refused(r.number, r.place),
@@ -154,8 +123,7 @@ fn walked(text: &[u8], place: usize, at: usize) {
 }
 
 fn file(text: &[u8], n: usize) {
-    say(b";");
-    number(n as u64);
+    labelled(b";", n as u64);
     match contents::file(text, n) {
         Found::Is(e) => entry(text, e),
         Found::Not(r) => refused(r.number, r.place),
@@ -167,8 +135,7 @@ fn entry(text: &[u8], e: Entry) {
     number(offset.0);
     number(e.length);
     if e.single {
-        say(b" name");
-        number(e.path as u64);
+        labelled(b" name", e.path as u64);
     } else {
         path(text, e.path);
     }
@@ -196,41 +163,29 @@ fn element(text: &[u8], x: Part) {
     say(walk::bytes(text, x));
 }
 
-// Whether the bytes of a word are a piece of the torrent of another.
-pub fn check(torrent: &[u8], n: u32, piece: &[u8]) {
-    let mut space = [0u8; 1048577];
-    let mut other = [0u8; 1048577];
-    check_with(&mut space, &mut other, torrent, n, piece);
-}
-
-fn check_with(
-    space: &mut [u8; 1048577],
-    other: &mut [u8; 1048577],
-    torrent: &[u8],
-    n: u32,
-    piece: &[u8],
-) {
-    check_in(space, other, torrent, n, piece);
-}
-
-fn check_in(space: &mut [u8], other: &mut [u8], torrent: &[u8], n: u32, piece: &[u8]) {
-    say(b"check");
-    number(n as u64);
-    say(b" ");
-    say(piece);
-    say(b":");
-    let size = write_out(space, 0, torrent);
-    let len = write_out(other, 0, piece);
+// Whether the bytes of a word are piece n of a torrent of two pieces, the second of one byte.
+pub fn check(n: usize, word: &[u8], space: &mut [u8], other: &mut [u8]) {
+    let size = two_pieces(space);
+    let len = write_out(other, word);
     if size <= space.len() {
         if len <= other.len() {
             checked(&space[0..size], n, &other[0..len]);
         }
     }
-    say(b"\n");
 }
 
-fn checked(text: &[u8], n: u32, piece: &[u8]) {
-    match contents::check_piece(text, PieceNumber(n), piece) {
+fn two_pieces(space: &mut [u8]) -> usize {
+    write_out(
+        space,
+        b"d8:announce1:u4:infod6:lengthi16385e4:name1:n12:piece%20lengthi16384e6:pieces40:%12%FF4%7BO%27%D6%9E%1F2%8EoKUs%E3fn%12%2F%E9%D7%1F%5E%E7%C9%2Dm%C9%E9%2F%FD%AD%17%B8%BDIA%8F%98ee",
+    )
+}
+
+fn checked(text: &[u8], n: usize, piece: &[u8]) {
+    if 4294967295 < n {
+        return;
+    }
+    match contents::check_piece(text, PieceNumber(n as u32), piece) {
         Checked::Yes => say(b" yes"),
         Checked::No => say(b" no"),
         Checked::Refused(r) => refused(r.number, r.place),
@@ -255,10 +210,13 @@ fn hex_byte(b: u8) {
 }
 
 fn refused(number_of: u8, place: usize) {
-    say(b" refused");
-    number(number_of as u64);
-    say(b" at");
-    number(place as u64);
+    labelled(b" refused", number_of as u64);
+    labelled(b" at", place as u64);
+}
+
+fn labelled(label: &[u8], n: u64) {
+    say(label);
+    number(n);
 }
 
 fn number(n: u64) {
@@ -266,6 +224,6 @@ fn number(n: u64) {
     io::print_decimal(STDOUT_FILENO, n);
 }
 
-fn say(bytes: &[u8]) {
+pub fn say(bytes: &[u8]) {
     io::write_all(STDOUT_FILENO, bytes);
 }

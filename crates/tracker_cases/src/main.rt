@@ -1,11 +1,24 @@
-// What `tracker` answers to each of a table of texts, a line each, held to the file stdout.
-// tests/tracker_cases.py has the same table and a reader of its own, and prints the same lines.
+// What `tracker` answers to each of a table of texts, a line each, held to the file stdout. The table is the file stdin.
+// tests/tracker_cases.py has a table and a reader of its own, and prints the same lines.
 mod report;
-mod texts;
+mod table;
 mod words;
-mod writes;
+
+use libc::STDIN_FILENO;
 
 fn main() {
-    texts::all();
-    writes::all();
+    let mut table = [0u8; 16384];
+    let mut space = [0u8; 1048577];
+    let mut out = [0u8; 2097152];
+    whole(&mut table, &mut space, &mut out);
+}
+
+// The arrays as slices: their lengths are known here from their types alone.
+fn whole(table: &mut [u8; 16384], space: &mut [u8; 1048577], out: &mut [u8; 2097152]) {
+    work(table, space, out);
+}
+
+fn work(table: &mut [u8], space: &mut [u8], out: &mut [u8]) {
+    let n = io::read_full(STDIN_FILENO, table);
+    table::all(&table[..n], space, out);
 }

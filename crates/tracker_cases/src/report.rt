@@ -1,5 +1,4 @@
-// A line for each word: the word, and what `tracker` answers to its text.
-use crate::words::find;
+// A line for each text: the word that it is written as, and what `tracker` answers to it.
 use crate::words::write_out;
 use libc::STDOUT_FILENO;
 use refusal::Part;
@@ -12,34 +11,12 @@ use tracker::listed::Listed;
 use tracker::listed::Listing;
 use writer::Put;
 
-// Each word of a line, by spaces.
-pub fn each(line: &[u8]) {
-    let mut space = [0u8; 262144];
-    lend(&mut space, line);
-}
-
-// The array as a slice, whose length is known here from its type alone.
-fn lend(space: &mut [u8; 262144], line: &[u8]) {
-    each_in(space, line);
-}
-
-fn each_in(space: &mut [u8], line: &[u8]) {
-    let mut from = 0;
-    while from < line.len() {
-        let to = find(line, from, b' ');
-        show(space, &line[from..to]);
-        from = to + 1;
-    }
-}
-
-fn show(space: &mut [u8], word: &[u8]) {
-    say(word);
-    say(b":");
+// What is answered to a text that is written as a word.
+pub fn show(word: &[u8], space: &mut [u8]) {
     let size = write_out(space, word);
     if size <= space.len() {
         answer(&space[0..size]);
     }
-    say(b"\n");
 }
 
 fn answer(text: &[u8]) {
@@ -108,10 +85,8 @@ fn walk_listed(text: &[u8], first: usize, count: usize) {
 }
 
 fn walked(first: usize, at: usize) {
-    say(b" from");
-    number(first as u64);
-    say(b" to");
-    number(at as u64);
+    labelled(b" from", first as u64);
+    labelled(b" to", at as u64);
 }
 
 // The first entry, the last, and the one past it.
@@ -124,8 +99,7 @@ fn ends(text: &[u8], count: usize) {
 }
 
 fn ask(text: &[u8], n: usize) {
-    say(b";");
-    number(n as u64);
+    labelled(b";", n as u64);
     match tracker::peer(text, n) {
         Found::Packed(x) => one_packed(x),
         Found::Listed(x) => one_listed(x),
@@ -154,10 +128,13 @@ fn part(p: Part) {
 }
 
 fn refused(number_of: u8, place: usize) {
-    say(b" refused");
-    number(number_of as u64);
-    say(b" at");
-    number(place as u64);
+    labelled(b" refused", number_of as u64);
+    labelled(b" at", place as u64);
+}
+
+fn labelled(label: &[u8], n: u64) {
+    say(label);
+    number(n);
 }
 
 fn number(n: u64) {
@@ -165,39 +142,16 @@ fn number(n: u64) {
     io::print_decimal(STDOUT_FILENO, n);
 }
 
-fn say(bytes: &[u8]) {
+pub fn say(bytes: &[u8]) {
     io::write_all(STDOUT_FILENO, bytes);
 }
 
 // What is written with the entries of a word, into an output of so many bytes.
-pub fn write(interval: u64, word: &[u8], room: usize) {
-    let mut out = [0u8; 2097152];
-    let mut space = [0u8; 1048577];
-    write_with(&mut out, &mut space, interval, word, room);
-}
-
-fn write_with(
-    out: &mut [u8; 2097152],
-    space: &mut [u8; 1048577],
-    interval: u64,
-    word: &[u8],
-    room: usize,
-) {
-    write_in(out, space, interval, word, room);
-}
-
-fn write_in(out: &mut [u8], space: &mut [u8], interval: u64, word: &[u8], room: usize) {
-    say(b"write");
-    number(interval);
-    say(b" ");
-    say(word);
-    number(room as u64);
-    say(b":");
+pub fn write(interval: usize, word: &[u8], room: usize, space: &mut [u8], out: &mut [u8]) {
     let size = write_out(space, word);
-    if space.len() < size {
-        return;
+    if size <= space.len() {
+        put_within(out, room, interval as u64, &space[0..size]);
     }
-    put_within(out, room, interval, &space[0..size]);
 }
 
 // Into the first `room` bytes of the output.
@@ -213,7 +167,6 @@ fn put(out: &mut [u8], interval: u64, peers: &[u8]) {
         Put::To(end) => put_to(out, end),
         Put::Refused(r) => refused(r.number, r.place),
     }
-    say(b"\n");
 }
 
 // A short text is shown whole.

@@ -7,10 +7,10 @@ use Rattle.metainfo_cases.proofs.words.write_out.Statement.{statement}
 use Rattle.metainfo_cases.proofs.words.write_out.Tie as tie
 
 abbrev Inv-loop : tie.InvT-loop
-Inv-loop space₀ at word read₀ written₀ space read written = length space ≡ length space₀
+Inv-loop space₀ word read₀ written₀ space read written = length space ≡ length space₀
 
 abbrev μ-loop : tie.MeasureT-loop
-μ-loop space₀ at word read₀ written₀ space read written = length word - read
+μ-loop space₀ word read₀ written₀ space read written = length word - read
 
 loop-holds : tie.Need-loop-holds Inv-loop μ-loop
 loop-holds c = search needs
