@@ -2,17 +2,11 @@
 
 Run in the repository: python3 tools/calls.py [NAME ..]; then rt fmt.
 """
-import os, sys
-sys.path.insert(0, os.path.dirname(os.path.abspath(__file__)))
+import sys
+from lent import val, HEAD, HEAD_MUT, SEATS, SEATS_MUT, ROWS, ROWS_MUT, HOLDERS, HOLDERS_MUT, FRAME, PAGE, SEAT, ON
 from walker import Thin
 
-val = lambda n, t: (n, 'val', t)
-HEAD, HEAD_MUT = val('head', 'Head'), ('head', 'mref', 'Head')
-SEATS, SEATS_MUT = ('seats', 'slice', 'Seat'), ('seats', 'mslice', 'Seat')
-ROWS, ROWS_MUT = ('rows', 'slice', 'u8'), ('rows', 'mslice', 'u8')
-HOLDERS, HOLDERS_MUT = ('holders', 'slice', 'u16'), ('holders', 'mslice', 'u16')
 H, S, I, N = val('h', 'Head'), val('s', 'Seat'), val('i', 'usize'), val('n', 'usize')
-FRAME, PAGE, SEAT, ON = ('sheet', 'mslice', 'u8'), ('page', 'mslice', 'u32'), val('seat', 'usize'), val('on', 'bool')
 OUT = ('out', 'mslice', 'u8')
 AROUND = lambda v: f"(around {v['h']} {v['s']} {v['rows']} {v['holders']})"
 def mark(f, frame):

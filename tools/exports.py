@@ -2,16 +2,11 @@
 
 Run in the repository: python3 tools/exports.py [NAME ..].
 """
-import os, sys
-sys.path.insert(0, os.path.dirname(os.path.abspath(__file__)))
+import sys
+from lent import val, HEAD, HEAD_MUT, SEATS, SEATS_MUT, ROWS, ROWS_MUT, HOLDERS, HOLDERS_MUT, FRAME, PAGE, SEAT, ON
 from walker import Thin
 
-val = lambda n, t: (n, 'val', t)
-HEAD, HEAD_MUT = val('head', 'Head'), ('head', 'mref', 'Head')
-SEATS, SEATS_MUT = ('seats', 'slice', 'Seat'), ('seats', 'mslice', 'Seat')
-ROWS, ROWS_MUT = ('rows', 'slice', 'u8'), ('rows', 'mslice', 'u8')
-HOLDERS, HOLDERS_MUT = ('holders', 'slice', 'u16'), ('holders', 'mslice', 'u16')
-SEAT, PIECE, ON, FRAME, PAGE = val('seat', 'usize'), val('piece', 'usize'), val('on', 'bool'), ('sheet', 'mslice', 'u8'), ('page', 'mslice', 'u32')
+PIECE = val('piece', 'usize')
 TOLD, SEEN = ('told', 'mref', 'Told'), ('seen', 'mref', 'Seat')
 # name: how the tables are lent, what else is, the call's words, what is told, and what is written into
 CALLS = {

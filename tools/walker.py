@@ -2,7 +2,7 @@
 calls of functions whose contracts are given. A slice that is passed on is lent for a lifetime of the call and comes back, so
 any number of calls may use it. tools/calls.py has the tables of `yard`'s calls."""
 import sys, os; sys.path.insert(0, os.path.dirname(__file__))
-from walkgen import Walk
+from walkgen import Walk, Framed
 import mirlib
 ROOT = os.getcwd()
 W_ = {'u8':'w8','u16':'w16','u32':'w32','u64':'w64','usize':'w64'}; B_ = {'u8':8,'u16':16,'u32':32,'u64':64,'usize':64}
@@ -32,8 +32,7 @@ use ghost.Atoms.{Atoms}
 use contract.Monad.{Fun, fact}
 use contract.Running.{givenOf, tables, tablesOf}
 use types.Kit.{Given, Item, ‵, raw, _⊛_, some, later, ⋆, _$_, _∵_, !, qed, by, move, keep, drop, use0, use1, use2, use3, split, join, pick, rewrite, fsplit, fsplit3, fjoin, fjoin3, feqI, feqL, suffices, frame, await, done}
-use types.Run.{look, look-raw, init, store, store-raw, forget, stop, hop, fld, from, load, lit, unit-lit, true-lit, false-lit, addr, of-opd, and-then, no-more, assigns, land, returns, enter, alloc1, alloc0, params1, pass1, pass0, free1, free0}
-use types.Part.{agg, whole, sub, look-in}
+RUN
 use types.SemTy.{Body}
 use types.Tokens.{lft-new, lft-end}
 use sound.WpLaws.{FmC, fmOf, WpFn-mono}
@@ -60,13 +59,21 @@ use denote.Triple.Walked.{says, Stays, stay-ref, stay-none, stay-none-slice, sta
 use Rattle.KIT.Shared.{LentShared, lends-shared, shared-back}
 use Rattle.KIT.Again.{LentAgain, lends-again, comes-back}
 use Rattle.KIT.Local.{packs, unpacks}
+LOCALS
 use denote.Lend.{lends-ref, ref-back}'''
+
+# the rules of memory: each local an entry of its own, as in a loop's invariant, or all of them one entry
+CELLS = '''use types.Run.{look, look-raw, init, store, store-raw, forget, stop, hop, fld, from, load, lit, unit-lit, true-lit, false-lit, addr, of-opd, and-then, no-more, assigns, land, returns, enter, alloc1, alloc0, params1, pass1, pass0, free1, free0}
+use types.Part.{agg, whole, sub, look-in}'''
+FRAMED = '''use types.Run.{look-raw, store-raw, stop, hop, fld, from, load, lit, unit-lit, true-lit, false-lit, addr, of-opd, and-then, no-more, assigns, land, returns, enter}
+use types.Part.{agg, sub, look-in}'''
+LOCALS = 'use Rattle.KIT.Locals.{at-local, puts, respells, allots, takes, frees-all}'
 
 class Thin:
     # structs: name -> [(field, type)], or None where the code reads no field of it; enums: set of names. A type is u8.., usize, bool, or the name of a struct or an enum.
     # fn(params=[(name, mode, type)], result=type): mode is val, mref (&mut T), mslice (&mut [T]), slice (&[T])
     def __init__(s, crate, structs, enums, fns, uses, owner, kit): s.cr, s.st, s.en, s.fns, s.uses, s.owner, s.kit = crate, structs, enums, fns, uses, owner, kit
-    # owner: type -> the crate that declares it; kit: the crate that has Again, Shared and Local
+    # owner: type -> the crate that declares it; kit: the crate that has Again, Shared, Local and Locals
     def P(s, crate, m): return f'Rattle.{crate}.proofs.{m}' if crate == s.cr else f'Rattle.{crate}.proofs.{m}'
     def S(s, crate, m): return f'Rattle.{crate}.specs.{m}' if crate == s.cr else f'Rattle.{crate}.specs.{m}'
     def data(s, t): return t in s.st or t in s.en
@@ -95,7 +102,7 @@ class Thin:
     def landed(s, t, r, i): # a value that a call gave, typed
         law = f'uint-lawful 𝓤 H A W {W_[t]}' if t in W_ else 'bool-lawful 𝓤 H A W' if t=='bool' else 'nothing-lawful 𝓤 H A W' if t=='unit' else f"{s.L(t)}.lawful T-{t}.the-type L-{t}.the-laws 𝓤 H A W{' tt' if t in s.en else ''}"
         return f'({law} .typed {r} _ {i} .0)'
-    def header(s): return HEADER.replace('Rattle.KIT.', s.P(s.kit, ''))
+    def header(s, framed=False): return HEADER.replace('RUN', FRAMED if framed else CELLS).replace('LOCALS\n', LOCALS + '\n' if framed else '').replace('Rattle.KIT.', s.P(s.kit, ''))
     def type_uses(s, t): c, *m = s.owner.get(t, s.cr).split('::'); at = '.'.join([*m, t]); return f'use {s.S(c, "declared." + at)}.{{{t}}}\nuse {s.P(c, at)} as T-{t}\nuse {s.P(c, at)}.Laws as L-{t}'
     def stay(s, p, J): return {'val':f'stay-none (λ _. {s.row(p[2])}) yes','mref':f'stay-ref ({J.get(p[0])} ∷ []) tt (plain (λ _. {s.row(p[2])}))','mslice':f'stay-slice ({J.get(p[0])} ∷ []) tt (plain (λ _. {s.row(p[2])}))','slice':f'stay-none-slice ({J.get(p[0])} ∷ []) tt (plain (λ _. {s.row(p[2])})) yes'}[p[1]]
     def goes(s, p, J, n): return {'val':f'goes-none 𝓤 H A W {n} (λ _. {s.row(p[2])}) yes (λ κs x f. refl)','mref':f'goes-ref 𝓤 H A W {n} {J.get(p[0])} tt (plain (λ _. {s.row(p[2])}))','mslice':f'goes-slice 𝓤 H A W {n} {J.get(p[0])} tt (plain (λ _. {s.row(p[2])}))','slice':f'goes-none-slice 𝓤 H A W {n} ({J.get(p[0])} ∷ []) tt (plain (λ _. {s.row(p[2])})) yes'}[p[1]]
@@ -127,7 +134,7 @@ class Thin:
         facts = [(f'g-{p[0]}', f'Is {s.row(p[2])} {p[0]} ({mach(p)} ∷ [])' if p[1]=='val' else f'Room {s.row(p[2])} (length {p[0]})') for p in ps if p[1]!='mref']
         o = []; A = o.append
         A(f"-- `{cr}::{fn}` meets its contract: a walk of its MIR, by hand, written by tools/walker.py. Of its callees the proof knows the contracts alone. No field that the code does not name is named.\n-- Assumes nothing.")
-        A(s.header()); A(s.uses)
+        A(s.header(framed=True)); A(s.uses)
         for t in used: A(s.type_uses(t))
         for k,c in enumerate(callees): A(f'use {mod(c)} as c{k}\nuse {mod(c)}.Symbol as c{k}-def\nuse {mod(c)}.Symbol.{{name as #{key(c)}}}\nuse {mod(c)}.Met as c{k}-thm')
         me = f'{cr}::{fn}'; A(f'use {mod(me)}.Key.{{name as #{key(me)}}}\nuse {mod(me)} as f\nuse {mod(me)}.Statement as stated\nuse {mod(me)}.Code as code\n')
@@ -159,8 +166,8 @@ class Thin:
   Post = walkOf 𝓤 H A f.ended stayed (f.clauses {X}) .post bound
 ''')
         # ---- the walk
-        w = Walk(['toks','owns']); w.alloc(N)
-        w.passes(*[s.typed(p[2],p[0],f'g-{p[0]}') if p[1]=='val' else '(tt, tt)' if p[1]=='mref' else f'(tt, (tt, (record {{ fits = g-{p[0]} .0 }}, tt)))' for p in ps])
+        w = Framed(['toks','owns']); w.alloc()
+        w.passes(tup([s.typed(p[2],p[0],f'g-{p[0]}') if p[1]=='val' else '(tt, tt)' if p[1]=='mref' else f'(tt, (tt, (record {{ fits = g-{p[0]} .0 }}, tt)))' for p in ps]))
         loc = {}                                  # local -> (type, denotation, Is) | ('lent', param)
         for k,p in enumerate(ps): loc[k+1] = (p[2],p[0],f'g-{p[0]}') if p[1]=='val' else ('param',p)
         cur = {p[0]: p[0] for p in refs}; ln = {p[0]: 'refl' for p in refs}; isc = {}
@@ -241,12 +248,12 @@ class Thin:
                 # a `&mut` slice: lent for ν, shared or not
                 ν = f'ν{K}-{nm}'; δ = f'δ{K}-{nm}'; w.bind(f"lft-new ! tt (λ {ν}."); w.c = [f'tok-{ν}']+w.c
                 x = cur[nm]; MS = s.rowp('mslice',p[2],j,f'κ{j}'); LS = s.rowp(q[1],p[2],ci,f'({ν} ∷ [])')
-                w.line(f"rewrite ! {w.p('o-'+nm)} (λ (m : ℕ). ‵ ({MS} .own ({ptr(p,x)}) (sliceVal (b{j}, o{j}) m ∷ []))) (sym ({ln[nm]})) refl $")
+                if ln[nm] != 'refl': w.line(f"rewrite ! {w.p('o-'+nm)} (λ (m : ℕ). ‵ ({MS} .own ({ptr(p,x)}) (sliceVal (b{j}, o{j}) m ∷ []))) (sym ({ln[nm]})) refl $")
                 Z = f'κ{j} ({ν} ∷ []) q{j} γ{j} b{j} o{j}'
                 if q[1] == 'mslice': w.use(f"later (some (λ ({δ} : GName). ‵ ({LS} .own ({ptr(p,x,δ)}) (sliceVal (b{j}, o{j}) (length {par(x)}) ∷ [])) ⊛ ‵ (LentAgain {R} {Z} {δ} {par(x)})))", f"lends-again {R} {Z} 𝓤 H A W (named {j}) (named {ci}) {par(x)}", ['o-'+nm,f'tok{j}'], ['two'])
                 else: w.use(f"later (some (λ ({δ} : GName). ‵ ({LS} .own ({ptr(p,x,δ)}) (sliceVal (b{j}, o{j}) (length {par(x)}) ∷ [])) ⊛ ‵ (LentShared {R} {Z} {par(x)})))", f"lends-shared {R} {Z} 𝓤 H A W (named {j}) (named {ci}) {par(x)}", ['o-'+nm,f'tok{j}'], ['two'])
                 w.bind(f"await ! tt $ pick ! (λ {δ}."); w.split('two','a-'+nm,'lent-'+nm)
-                w.line(f"rewrite ! {w.p('a-'+nm)} (λ (m : ℕ). ‵ ({LS} .own ({ptr(p,x,δ)}) (sliceVal (b{j}, o{j}) m ∷ []))) ({ln[nm]}) refl $")
+                if ln[nm] != 'refl': w.line(f"rewrite ! {w.p('a-'+nm)} (λ (m : ℕ). ‵ ({LS} .own ({ptr(p,x,δ)}) (sliceVal (b{j}, o{j}) m ∷ []))) ({ln[nm]}) refl $")
                 cκ.append(f'({ν} ∷ [])'); cq.append('fullShare'); args.append(ptr(p,x,δ)); toks.append(f'tok-{ν}'); own.append('a-'+nm); ctxi.append((f'{LS} .own ({ptr(p,x,δ)}) ({sv})',)); mvs.append(sv); after.append((q,p,ν,δ,Z))
             ga = tup(args); to = f"((({tup(cκ)}), ({tup(cq)}), tt, ({ga}), ({tup(mvs)})), tt)"
             tkf = [f'‵ (flft {a} {b})' for a,b in zip(cκ,cq)]; own_names = [z for z in own if z.startswith('a-')]
@@ -286,8 +293,7 @@ class Thin:
             for k in toks: w.split('t',k,'t')
             w.drop('t'); w.move('own'); w.bind(f"{s.peek(cres,r,v)} (λ is{K}."); w.drop('own')
             w.line(f"land ! (from ! (stop !)) {(w.store if dl in live else w.init)(f'_{dl}', s.landed(cres, r, f'is{K}'))} $"); live.add(dl)
-            mty = f'(tyInt {W_[cres]})' if cres in W_ else 'tyBool' if cres=='bool' else 'tyUnit' if cres=='unit' else f'L-{cres}.mir'
-            w.line(f"rewrite ! {w.p(f'_{dl}')} (λ (u : Val). ‵ (fat fullShare {mty} l{dl} 0 u)) ({s.tellsv(cres,r,f'is{K}')}) refl $")
+            w.respell(f'_{dl}', s.tellsv(cres,r,f'is{K}'))
             loc[dl] = (cres, r, f'({s.better(cres,r,f"is{K}")})')
             for a in after:
                 if a is None: continue
@@ -300,11 +306,11 @@ class Thin:
                     w.split('two','cell-'+nm,'own'); w.move('own'); w.bind(f"{s.peek(t,par(y),s.low(t,y))} (λ is{K}-{nm}."); w.drop('own'); cur[nm] = par(y); isc[nm] = f'is{K}-{nm}'; continue
                 y = zp[q[0]] if q[1]=='mslice' else x
                 back = f"later (‵ ({MS} .own ({ptr(p,y)}) (sliceVal (b{j}, o{j}) (length {par(x)}) ∷ [])) ⊛ ‵ (flft κ{j} q{j}))"
-                room = f"(subst (Room {R}) (sym ({ln[nm]})) g-{nm})"
+                room = f'g-{nm}' if ln[nm] == 'refl' else f"(subst (Room {R}) (sym ({ln[nm]})) g-{nm})"
                 if q[1]=='mslice': w.use(back, f"comes-back {R} {Z} 𝓤 H A W (named {j}) (named {[c[0] for c in crefs].index(q[0])}) {par(x)} {δ} ({y}) {room} n{K}-{q[0]}", ['dead','lent-'+nm,'fin-'+q[0]], ['b'])
                 else: w.use(back, f"shared-back {R} {Z} 𝓤 H A W (named {j}) (named {[c[0] for c in crefs].index(q[0])}) {par(x)} {room}", ['dead','lent-'+nm], ['b'])
                 w.line("await ! tt $"); w.split('b','o-'+nm,f'tok{j}')
-                w.line(f"rewrite ! {w.p('o-'+nm)} (λ (m : ℕ). ‵ ({MS} .own ({ptr(p,y)}) (sliceVal (b{j}, o{j}) m ∷ []))) ({ln[nm]}) refl $")
+                if ln[nm] != 'refl': w.line(f"rewrite ! {w.p('o-'+nm)} (λ (m : ℕ). ‵ ({MS} .own ({ptr(p,y)}) (sliceVal (b{j}, o{j}) m ∷ []))) ({ln[nm]}) refl $")
                 if q[1]=='mslice': cur[nm] = par(y); ln[nm] = f"n{K}-{q[0]} ∙ {ln[nm]}" if ln[nm] != 'refl' else f"n{K}-{q[0]}"
         for p in ps:
             if p[1]=='mref':
@@ -312,7 +318,7 @@ class Thin:
                 w.line(f"owned ! {s.owned(t,x,isc[p[0]])} $"); w.c=['own']+w.c
                 w.move('cell-'+p[0],'own','obor-'+p[0],'obs-'+p[0],'auth-'+p[0]); w.line(f"closes ! tt R-{t} {par(x)} ({s.low(t,x)} ∷ []) b{j} o{j} $"); w.headn(5,'obs-'+p[0],'bor-'+p[0],f'tok{j}')
         t0,x0,i0 = loc[0]
-        w.ends(N,'_0',[f'_{k}' for k in sorted(live)])
+        w.ends()
         have = [f'tok{j}' for j in range(n)]+sum([['obs-'+p[0],'bor-'+p[0]] if p[1]=='mref' else ['o-'+p[0]] for p in refs],[])
         w.keep(*have) if have else None
         # the exit, inline

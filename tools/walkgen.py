@@ -85,3 +85,19 @@ class Walk:
             else: cur = (cur + " " + s).strip()
         if cur: lines.append(cur)
         return "\n".join(indent + l for l in lines)
+
+class Framed(Walk):
+    """A walk in which the locals are one entry, `locals`, by the laws of scans' `Locals`: the context stays short."""
+    def part(self, n): return f"at-local ! {n[1:]} refl tt"
+    def look(self, n): return f"look-in ! {self.p('locals')} ({self.part(n)})"
+    def lookin(self, n, *path):
+        s = self.part(n)
+        for k in reversed(path): s = f"sub ! {k} refl ({s})"
+        return f"look-in ! {self.p('locals')} ({s})"
+    def init(self, n, wt): return f"(puts ! {self.p('locals')} {n[1:]} refl refl tt {wt})"
+    store = init
+    def respell(self, n, eq): self.line(f"respells ! {self.p('locals')} {n[1:]} refl refl ({eq}) $")
+    def alloc(self): self.bind("allots ! (λ bs."); self.c = ['locals'] + self.c
+    def passes(self, wts): self.line(f"takes ! {wts} $")
+    def ends(self): # the function returns: its locals are freed, whatever they hold
+        self.line(f"returns ! ({self.look('_0')}) $"); self.move('locals'); self.line("frees-all ! $"); self.c = self.c[1:]

@@ -2,6 +2,7 @@
 pub mod Again
 pub mod Early
 pub mod Local
+pub mod Locals
 pub mod Shared
 pub mod Seats
 pub mod Steps

@@ -19,8 +19,8 @@ use ghost.Atoms.{Atoms}
 use contract.Monad.{Fun, fact}
 use contract.Running.{givenOf, tables, tablesOf}
 use types.Kit.{Given, Item, ‵, raw, _⊛_, some, later, ⋆, _$_, _∵_, !, qed, by, move, keep, drop, use0, use1, use2, use3, split, join, pick, rewrite, fsplit, fsplit3, fjoin, fjoin3, feqI, feqL, suffices, frame, await, done}
-use types.Run.{look, look-raw, init, store, store-raw, forget, stop, hop, fld, from, load, lit, unit-lit, true-lit, false-lit, addr, of-opd, and-then, no-more, assigns, land, returns, enter, alloc1, alloc0, params1, pass1, pass0, free1, free0}
-use types.Part.{agg, whole, sub, look-in}
+use types.Run.{look-raw, store-raw, stop, hop, fld, from, load, lit, unit-lit, true-lit, false-lit, addr, of-opd, and-then, no-more, assigns, land, returns, enter}
+use types.Part.{agg, sub, look-in}
 use types.SemTy.{Body}
 use types.Tokens.{lft-new, lft-end}
 use sound.WpLaws.{FmC, fmOf, WpFn-mono}
@@ -47,8 +47,9 @@ use denote.Triple.Walked.{says, Stays, stay-ref, stay-none, stay-none-slice, sta
 use Rattle.scans.proofs.Shared.{LentShared, lends-shared, shared-back}
 use Rattle.scans.proofs.Again.{LentAgain, lends-again, comes-back}
 use Rattle.scans.proofs.Local.{packs, unpacks}
+use Rattle.scans.proofs.Locals.{at-local, puts, respells, allots, takes, frees-all}
 use denote.Lend.{lends-ref, ref-back}
-use Rattle.tables.specs.Seats.{cleared, weChoke, weWant}
+use Rattle.tables.specs.Seats.{cleared, weChoke, weWant, counted}
 use Rattle.tables.specs.Tables.{paper, around, turn, yardOf, sizesFit}
 use Rattle.tables.specs.Frames.{feedOf}
 use Rattle.tables.specs.Seating.{startOf, lowestFree, sitOf, leaveOf, markOf}
@@ -116,11 +117,11 @@ module _ {M : Type 1} (𝓤 : URA M) (H : Heap 𝓤) (A : Atoms 𝓤) (W : Given
     walk =
         qed W ((‵ (flft κ0 q0) ⊛ ‵ (flft κ1 q1) ⊛ ‵ (flft κ2 q2) ⊛ ‵ ftrue) ∷ ‵ (owns (R-Head ∷ ShrSlice (named 0) κ0 R-Seat ∷ ShrSlice (named 1) κ1 u8 ∷ ShrSlice (named 2) κ2 u16 ∷ usize ∷ []) xs at) ∷ []) ∵
         enter ! C Λ code.function (L-Head.lowered head ∷ sliceVal (b0, o0) (length seats) ∷ sliceVal (b1, o1) (length rows) ∷ sliceVal (b2, o2) (length holders) ∷ vint w64 piece ∷ []) _ $
-        alloc1 ! (λ l0. alloc1 ! (λ l1. alloc1 ! (λ l2. alloc1 ! (λ l3. alloc1 ! (λ l4. alloc1 ! (λ l5. alloc1 ! (λ l6. alloc0 ! $ params1 ! $
-        pass1 ! (init ! 10 refl (LL.lawful T-Head.the-type L-Head.the-laws 𝓤 H A W .typed head _ g-head .0)) $ pass1 ! (init ! 8 refl (tt, (tt, (record { fits = g-seats .0 }, tt)))) $
-        pass1 ! (init ! 6 refl (tt, (tt, (record { fits = g-rows .0 }, tt)))) $ pass1 ! (init ! 4 refl (tt, (tt, (record { fits = g-holders .0 }, tt)))) $ pass1 ! (init ! 2 refl (tt, record { fits = g-piece .1 })) $ pass0 ! $
-        move ! (14 ∷ []) $ split ! $ move ! (1 ∷ []) $ split ! $ move ! (1 ∷ []) $ split ! $ move ! (1 ∷ []) $ drop ! $ move ! (17 ∷ []) $ fsplit ! $ drop ! $ fsplit ! $ move ! (1 ∷ []) $ fsplit ! $ move ! (1 ∷ []) $ fsplit ! $
-        move ! (1 ∷ []) $ fsplit ! $ drop ! $ drop ! $ assigns ! (of-opd ! (load ! (from ! (fld ! refl (stop !))) (look-in ! 14 (sub ! 1 refl (whole !))))) (from ! (stop !)) (init ! 6 refl (tt, record { fits = g-seats .0 })) $
+        allots ! (λ bs.
+        takes ! ((LL.lawful T-Head.the-type L-Head.the-laws 𝓤 H A W .typed head _ g-head .0), ((tt, (tt, (record { fits = g-seats .0 }, tt))), ((tt, (tt, (record { fits = g-rows .0 }, tt))), ((tt, (tt, (record { fits = g-holders .0 }, tt))), ((tt, record { fits = g-piece .1 }), tt))))) $
+        move ! (1 ∷ []) $ split ! $ move ! (1 ∷ []) $ split ! $ move ! (1 ∷ []) $ split ! $ move ! (1 ∷ []) $ drop ! $ move ! (4 ∷ []) $ fsplit ! $ drop ! $ fsplit ! $ move ! (1 ∷ []) $ fsplit ! $ move ! (1 ∷ []) $ fsplit ! $
+        move ! (1 ∷ []) $ fsplit ! $ drop ! $ drop ! $
+        assigns ! (of-opd ! (load ! (from ! (fld ! refl (stop !))) (look-in ! 6 (sub ! 1 refl (at-local ! 2 refl tt))))) (from ! (stop !)) (puts ! 6 6 refl refl tt (tt, record { fits = g-seats .0 })) $
         -- the call of `count`
         move ! (1 ∷ []) $
         use1 W (‵ (ShrSlice (named 1) κ1 u8 .own (record { ptr = (b1, o1); name = γ1; now = rows }) (sliceVal (b1, o1) (length rows) ∷ [])) ⊛ ‵ (ShrSlice (named 1) κ1 u8 .own (record { ptr = (b1, o1); name = γ1; now = rows }) (sliceVal (b1, o1) (length rows) ∷ []))) (shr-slice-copy 𝓤 H A W (named 1) κ1 u8 .twice (record { ptr = (b1, o1); name = γ1; now = rows }) (sliceVal (b1, o1) (length rows) ∷ [])) $
@@ -128,17 +129,15 @@ module _ {M : Type 1} (𝓤 : URA M) (H : Heap 𝓤) (A : Atoms 𝓤) (W : Given
         use1 W (‵ (ShrSlice (named 2) κ2 u16 .own (record { ptr = (b2, o2); name = γ2; now = holders }) (sliceVal (b2, o2) (length holders) ∷ [])) ⊛ ‵ (ShrSlice (named 2) κ2 u16 .own (record { ptr = (b2, o2); name = γ2; now = holders }) (sliceVal (b2, o2) (length holders) ∷ []))) (shr-slice-copy 𝓤 H A W (named 2) κ2 u16 .twice (record { ptr = (b2, o2); name = γ2; now = holders }) (sliceVal (b2, o2) (length holders) ∷ [])) $
         split ! $ move ! (3 ∷ 1 ∷ []) $ join ! $ move ! (4 ∷ 0 ∷ []) $ join ! $ move ! (4 ∷ 0 ∷ []) $ join ! $
         use1 W (raw (K0 𝓤 H A mem run .pre ((((κ1, (κ2, tt))), ((q1, (q2, tt))), tt, ((head, (piece, ((length seats), (record { ptr = (b1, o1); name = γ1; now = rows }, (record { ptr = (b2, o2); name = γ2; now = holders }, tt)))))), ((L-Head.lowered head ∷ [], (vint w64 piece ∷ [], (vint w64 (length seats) ∷ [], (sliceVal (b1, o1) (length rows) ∷ [], (sliceVal (b2, o2) (length holders) ∷ [], tt))))))), tt))) (qed W (‵ (flft κ1 q1) ∷ ‵ (flft κ2 q2) ∷ ‵ (ShrSlice (named 1) κ1 u8 .own (record { ptr = (b1, o1); name = γ1; now = rows }) (sliceVal (b1, o1) (length rows) ∷ [])) ∷ ‵ (ShrSlice (named 2) κ2 u16 .own (record { ptr = (b2, o2); name = γ2; now = holders }) (sliceVal (b2, o2) (length holders) ∷ [])) ∷ []) ∵ nothing ! $ move ! (2 ∷ 0 ∷ []) $ join ! $ move ! (1 ∷ 0 ∷ []) $ join ! $ nothing ! $ move ! (3 ∷ 0 ∷ []) $ fjoin ! $ move ! (2 ∷ 0 ∷ []) $ fjoin ! $ owned ! usize (Is usize) (uint-makes 𝓤 H A W w64) (length seats) (vint w64 (length seats) ∷ []) (refl, g-seats .0) $ fjoin ! $ owned ! usize (Is usize) (uint-makes 𝓤 H A W w64) piece (vint w64 piece ∷ []) g-piece $ fjoin ! $ owned ! R-Head (Is R-Head) (LL.makes T-Head.the-type L-Head.the-plain 𝓤 H A) head (L-Head.lowered head ∷ []) g-head $ fjoin ! $ move ! (1 ∷ 0 ∷ []) $ join ! $ frame ! $ done !) $
-        calls-at ! fm (K0 𝓤 H A mem run) k0 ((((κ1, (κ2, tt))), ((q1, (q2, tt))), tt, ((head, (piece, ((length seats), (record { ptr = (b1, o1); name = γ1; now = rows }, (record { ptr = (b2, o2); name = γ2; now = holders }, tt)))))), ((L-Head.lowered head ∷ [], (vint w64 piece ∷ [], (vint w64 (length seats) ∷ [], (sliceVal (b1, o1) (length rows) ∷ [], (sliceVal (b2, o2) (length holders) ∷ [], tt))))))), tt) (and-then ! (load ! (from ! (stop !)) (look ! 15 refl)) (and-then ! (load ! (from ! (stop !)) (look ! 7 refl)) (and-then ! (load ! (from ! (stop !)) (look ! 5 refl)) (and-then ! (load ! (from ! (stop !)) (look ! 11 refl)) (and-then ! (load ! (from ! (stop !)) (look ! 9 refl)) (no-more !)))))) (λ v1.
+        calls-at ! fm (K0 𝓤 H A mem run) k0 ((((κ1, (κ2, tt))), ((q1, (q2, tt))), tt, ((head, (piece, ((length seats), (record { ptr = (b1, o1); name = γ1; now = rows }, (record { ptr = (b2, o2); name = γ2; now = holders }, tt)))))), ((L-Head.lowered head ∷ [], (vint w64 piece ∷ [], (vint w64 (length seats) ∷ [], (sliceVal (b1, o1) (length rows) ∷ [], (sliceVal (b2, o2) (length holders) ∷ [], tt))))))), tt) (and-then ! (load ! (from ! (stop !)) (look-in ! 5 (at-local ! 1 refl tt))) (and-then ! (load ! (from ! (stop !)) (look-in ! 5 (at-local ! 5 refl tt))) (and-then ! (load ! (from ! (stop !)) (look-in ! 5 (at-local ! 6 refl tt))) (and-then ! (load ! (from ! (stop !)) (look-in ! 5 (at-local ! 3 refl tt))) (and-then ! (load ! (from ! (stop !)) (look-in ! 5 (at-local ! 4 refl tt))) (no-more !)))))) (λ v1.
         use1 W (later (some (λ (r1 : Answer). ((‵ (flft κ1 q1) ⊛ ‵ (flft κ2 q2) ⊛ ‵ ftrue) ⊛ ‵ (R-Answer .own r1 (v1 ∷ []))) ⊛ raw (ensured 𝓤 H A c0.ended (c0.clauses 𝓤 H A mem run) ((κ1, (κ2, tt))) ((head, (piece, ((length seats), (record { ptr = (b1, o1); name = γ1; now = rows }, (record { ptr = (b2, o2); name = γ2; now = holders }, tt)))))) tt r1)))) (id⊢ 𝓤 _) $
         await ! tt $ pick ! (λ r1. split ! $ move ! (1 ∷ []) $
         use1 W (some (λ (z1 : Lasts c0.ended ((κ1, (κ2, tt))) ((head, (piece, ((length seats), (record { ptr = (b1, o1); name = γ1; now = rows }, (record { ptr = (b2, o2); name = γ2; now = holders }, tt))))))). ‵ (lasts c0.ended ((κ1, (κ2, tt))) ((head, (piece, ((length seats), (record { ptr = (b1, o1); name = γ1; now = rows }, (record { ptr = (b2, o2); name = γ2; now = holders }, tt)))))) z1) ⊛ (raw (fact 𝓤 ((s : Seat) → paper r1 ≡ countOf piece (length seats) (around head s rows holders) .answer))))) (id⊢ 𝓤 _) $
         pick ! (λ z1. split ! $ move ! (1 ∷ []) $ heard ! ((s : Seat) → paper r1 ≡ countOf piece (length seats) (around head s rows holders) .answer) (λ e1. fsplit ! $ drop ! $ fsplit ! $ drop ! $ fsplit ! $ drop ! $ fsplit ! $ drop ! $
         fsplit ! $ drop ! $ drop ! $ split ! $ split ! $ move ! (1 ∷ []) $ split ! $ move ! (1 ∷ []) $ drop ! $ move ! (2 ∷ []) $ peeks ! R-Answer (Is R-Answer) (shows 𝓤 H A R-Answer) r1 (v1 ∷ []) (λ is1. drop ! $
-        land ! (from ! (stop !)) (init ! 18 refl (EL.lawful T-Answer.the-type L-Answer.the-laws 𝓤 H A W tt .typed r1 _ is1 .0)) $
-        rewrite ! 18 (λ (u : Val). ‵ (fat fullShare L-Answer.mir l0 0 u)) (ap only (L-Answer.lowers .val-is r1 _ is1)) refl $ returns ! (look ! 18 refl) $
-        forget ! 18 refl $ forget ! 16 refl $ forget ! 14 refl $ forget ! 12 refl $ forget ! 10 refl $ forget ! 8 refl $ forget ! 6 refl $ move ! (18 ∷ 19 ∷ []) $ free1 ! $ move ! (16 ∷ 17 ∷ []) $ free1 ! $ move ! (14 ∷ 15 ∷ []) $
-        free1 ! $ move ! (12 ∷ 13 ∷ []) $ free1 ! $ move ! (10 ∷ 11 ∷ []) $ free1 ! $ move ! (8 ∷ 9 ∷ []) $ free1 ! $ move ! (6 ∷ 7 ∷ []) $ free1 ! $ free0 ! $ keep ! (5 ∷ 1 ∷ 0 ∷ 4 ∷ 3 ∷ 2 ∷ []) $
-        by ! (qed W (‵ (flft κ0 q0) ∷ ‵ (flft κ1 q1) ∷ ‵ (flft κ2 q2) ∷ ‵ (ShrSlice (named 0) κ0 R-Seat .own (record { ptr = (b0, o0); name = γ0; now = seats }) (sliceVal (b0, o0) (length seats) ∷ [])) ∷ ‵ (ShrSlice (named 1) κ1 u8 .own (record { ptr = (b1, o1); name = γ1; now = rows }) (sliceVal (b1, o1) (length rows) ∷ [])) ∷ ‵ (ShrSlice (named 2) κ2 u16 .own (record { ptr = (b2, o2); name = γ2; now = holders }) (sliceVal (b2, o2) (length holders) ∷ [])) ∷ []) ∵ suffices ! _ (ends-at 𝓤 H A f.ended stayed (f.clauses 𝓤 H A mem run) W bound (L-Answer.lowered r1) r1 (tt, (tt, (tt, (tt, (tt, tt))))) (tt, (tt, (tt, (tt, (tt, tt)))))) $ says ! (count-is head seats rows holders piece r1 e1) $ nothing ! $ move ! (3 ∷ 0 ∷ []) $ join ! $ move ! (2 ∷ 0 ∷ []) $ join ! $ move ! (1 ∷ 0 ∷ []) $ join ! $ nothing ! $ owned ! usize (Is usize) (uint-makes 𝓤 H A W w64) piece (vint w64 piece ∷ []) g-piece $ fjoin ! $ move ! (4 ∷ 0 ∷ []) $ fjoin ! $ move ! (3 ∷ 0 ∷ []) $ fjoin ! $ move ! (2 ∷ 0 ∷ []) $ fjoin ! $ owned ! R-Head (Is R-Head) (LL.makes T-Head.the-type L-Head.the-plain 𝓤 H A) head (L-Head.lowered head ∷ []) g-head $ fjoin ! $ move ! (1 ∷ 0 ∷ []) $ frame ! $ frame ! $ owned ! R-Answer (Is R-Answer) (EL.makes T-Answer.the-type L-Answer.the-plain 𝓤 H A) r1 (L-Answer.lowered r1 ∷ []) (subst (Is R-Answer r1) (L-Answer.lowers .val-is r1 _ is1) is1) $ done !)))))))))))))
+        land ! (from ! (stop !)) (puts ! 6 0 refl refl tt (EL.lawful T-Answer.the-type L-Answer.the-laws 𝓤 H A W tt .typed r1 _ is1 .0)) $ respells ! 6 0 refl refl (ap only (L-Answer.lowers .val-is r1 _ is1)) $
+        returns ! (look-in ! 6 (at-local ! 0 refl tt)) $ move ! (6 ∷ []) $ frees-all ! $ keep ! (5 ∷ 1 ∷ 0 ∷ 4 ∷ 3 ∷ 2 ∷ []) $
+        by ! (qed W (‵ (flft κ0 q0) ∷ ‵ (flft κ1 q1) ∷ ‵ (flft κ2 q2) ∷ ‵ (ShrSlice (named 0) κ0 R-Seat .own (record { ptr = (b0, o0); name = γ0; now = seats }) (sliceVal (b0, o0) (length seats) ∷ [])) ∷ ‵ (ShrSlice (named 1) κ1 u8 .own (record { ptr = (b1, o1); name = γ1; now = rows }) (sliceVal (b1, o1) (length rows) ∷ [])) ∷ ‵ (ShrSlice (named 2) κ2 u16 .own (record { ptr = (b2, o2); name = γ2; now = holders }) (sliceVal (b2, o2) (length holders) ∷ [])) ∷ []) ∵ suffices ! _ (ends-at 𝓤 H A f.ended stayed (f.clauses 𝓤 H A mem run) W bound (L-Answer.lowered r1) r1 (tt, (tt, (tt, (tt, (tt, tt))))) (tt, (tt, (tt, (tt, (tt, tt)))))) $ says ! (count-is head seats rows holders piece r1 e1) $ nothing ! $ move ! (3 ∷ 0 ∷ []) $ join ! $ move ! (2 ∷ 0 ∷ []) $ join ! $ move ! (1 ∷ 0 ∷ []) $ join ! $ nothing ! $ owned ! usize (Is usize) (uint-makes 𝓤 H A W w64) piece (vint w64 piece ∷ []) g-piece $ fjoin ! $ move ! (4 ∷ 0 ∷ []) $ fjoin ! $ move ! (3 ∷ 0 ∷ []) $ fjoin ! $ move ! (2 ∷ 0 ∷ []) $ fjoin ! $ owned ! R-Head (Is R-Head) (LL.makes T-Head.the-type L-Head.the-plain 𝓤 H A) head (L-Head.lowered head ∷ []) g-head $ fjoin ! $ move ! (1 ∷ 0 ∷ []) $ frame ! $ frame ! $ owned ! R-Answer (Is R-Answer) (EL.makes T-Answer.the-type L-Answer.the-plain 𝓤 H A) r1 (L-Answer.lowered r1 ∷ []) (subst (Is R-Answer r1) (L-Answer.lowers .val-is r1 _ is1) is1) $ done !)))))))
 
 module _ {M : Type 1} (𝓤 : URA M) (H : Heap 𝓤) (A : Atoms 𝓤) (W : Given 𝓤 H A) (mem : Memory → SProp 𝓤) (run : Routine → Fun 𝓤) where
   f-walks : (C : Calls 𝓤 H) (Λ : Loops 𝓤 H) → FmC 𝓤 H (W .laws) C → Triple 𝓤 (C #seating·looks·count) (K0 𝓤 H A mem run) → Walks 𝓤 H A f.ended stayed (WpFn 𝓤 H C Λ code.function) (f.clauses 𝓤 H A mem run)

@@ -19,8 +19,8 @@ use ghost.Atoms.{Atoms}
 use contract.Monad.{Fun, fact}
 use contract.Running.{givenOf, tables, tablesOf}
 use types.Kit.{Given, Item, ‵, raw, _⊛_, some, later, ⋆, _$_, _∵_, !, qed, by, move, keep, drop, use0, use1, use2, use3, split, join, pick, rewrite, fsplit, fsplit3, fjoin, fjoin3, feqI, feqL, suffices, frame, await, done}
-use types.Run.{look, look-raw, init, store, store-raw, forget, stop, hop, fld, from, load, lit, unit-lit, true-lit, false-lit, addr, of-opd, and-then, no-more, assigns, land, returns, enter, alloc1, alloc0, params1, pass1, pass0, free1, free0}
-use types.Part.{agg, whole, sub, look-in}
+use types.Run.{look-raw, store-raw, stop, hop, fld, from, load, lit, unit-lit, true-lit, false-lit, addr, of-opd, and-then, no-more, assigns, land, returns, enter}
+use types.Part.{agg, sub, look-in}
 use types.SemTy.{Body}
 use types.Tokens.{lft-new, lft-end}
 use sound.WpLaws.{FmC, fmOf, WpFn-mono}
@@ -47,8 +47,9 @@ use denote.Triple.Walked.{says, Stays, stay-ref, stay-none, stay-none-slice, sta
 use Rattle.scans.proofs.Shared.{LentShared, lends-shared, shared-back}
 use Rattle.scans.proofs.Again.{LentAgain, lends-again, comes-back}
 use Rattle.scans.proofs.Local.{packs, unpacks}
+use Rattle.scans.proofs.Locals.{at-local, puts, respells, allots, takes, frees-all}
 use denote.Lend.{lends-ref, ref-back}
-use Rattle.tables.specs.Seats.{cleared, weChoke, weWant}
+use Rattle.tables.specs.Seats.{cleared, weChoke, weWant, counted}
 use Rattle.tables.specs.Tables.{paper, around, turn, yardOf, sizesFit}
 use Rattle.tables.specs.Frames.{feedOf}
 use Rattle.tables.specs.Seating.{startOf, lowestFree, sitOf, leaveOf, markOf}
@@ -123,23 +124,23 @@ module _ {M : Type 1} (𝓤 : URA M) (H : Heap 𝓤) (A : Atoms 𝓤) (W : Given
     walk =
         qed W ((‵ (flft κ0 q0) ⊛ ‵ (flft κ1 q1) ⊛ ‵ (flft κ2 q2) ⊛ ‵ ftrue) ∷ ‵ (owns (R-Head ∷ ShrSlice (named 0) κ0 R-Seat ∷ ShrSlice (named 1) κ1 u8 ∷ ShrSlice (named 2) κ2 u16 ∷ usize ∷ []) xs at) ∷ []) ∵
         enter ! C Λ code.function (L-Head.lowered head ∷ sliceVal (b0, o0) (length seats) ∷ sliceVal (b1, o1) (length rows) ∷ sliceVal (b2, o2) (length holders) ∷ vint w64 seat ∷ []) _ $
-        alloc1 ! (λ l0. alloc1 ! (λ l1. alloc1 ! (λ l2. alloc1 ! (λ l3. alloc1 ! (λ l4. alloc1 ! (λ l5. alloc1 ! (λ l6. alloc1 ! (λ l7. alloc0 ! $ params1 ! $
-        pass1 ! (init ! 12 refl (LL.lawful T-Head.the-type L-Head.the-laws 𝓤 H A W .typed head _ g-head .0)) $ pass1 ! (init ! 10 refl (tt, (tt, (record { fits = g-seats .0 }, tt)))) $
-        pass1 ! (init ! 8 refl (tt, (tt, (record { fits = g-rows .0 }, tt)))) $ pass1 ! (init ! 6 refl (tt, (tt, (record { fits = g-holders .0 }, tt)))) $ pass1 ! (init ! 4 refl (tt, record { fits = g-seat .1 })) $ pass0 ! $
-        move ! (16 ∷ []) $ split ! $ move ! (1 ∷ []) $ split ! $ move ! (1 ∷ []) $ split ! $ move ! (1 ∷ []) $ drop ! $ move ! (19 ∷ []) $ fsplit ! $ drop ! $ fsplit ! $ move ! (1 ∷ []) $ fsplit ! $ move ! (1 ∷ []) $ fsplit ! $
-        move ! (1 ∷ []) $ fsplit ! $ drop ! $ drop ! $ assigns ! (of-opd ! (load ! (from ! (fld ! refl (stop !))) (look-in ! 16 (sub ! 1 refl (whole !))))) (from ! (stop !)) (init ! 8 refl (tt, record { fits = g-seats .0 })) $
+        allots ! (λ bs.
+        takes ! ((LL.lawful T-Head.the-type L-Head.the-laws 𝓤 H A W .typed head _ g-head .0), ((tt, (tt, (record { fits = g-seats .0 }, tt))), ((tt, (tt, (record { fits = g-rows .0 }, tt))), ((tt, (tt, (record { fits = g-holders .0 }, tt))), ((tt, record { fits = g-seat .1 }), tt))))) $
+        move ! (1 ∷ []) $ split ! $ move ! (1 ∷ []) $ split ! $ move ! (1 ∷ []) $ split ! $ move ! (1 ∷ []) $ drop ! $ move ! (4 ∷ []) $ fsplit ! $ drop ! $ fsplit ! $ move ! (1 ∷ []) $ fsplit ! $ move ! (1 ∷ []) $ fsplit ! $
+        move ! (1 ∷ []) $ fsplit ! $ drop ! $ drop ! $
+        assigns ! (of-opd ! (load ! (from ! (fld ! refl (stop !))) (look-in ! 6 (sub ! 1 refl (at-local ! 2 refl tt))))) (from ! (stop !)) (puts ! 6 6 refl refl tt (tt, record { fits = g-seats .0 })) $
         -- the call of `seat_get`
         move ! (2 ∷ []) $
         use1 W (‵ (ShrSlice (named 0) κ0 R-Seat .own (record { ptr = (b0, o0); name = γ0; now = seats }) (sliceVal (b0, o0) (length seats) ∷ [])) ⊛ ‵ (ShrSlice (named 0) κ0 R-Seat .own (record { ptr = (b0, o0); name = γ0; now = seats }) (sliceVal (b0, o0) (length seats) ∷ []))) (shr-slice-copy 𝓤 H A W (named 0) κ0 R-Seat .twice (record { ptr = (b0, o0); name = γ0; now = seats }) (sliceVal (b0, o0) (length seats) ∷ [])) $
         split ! $ move ! (6 ∷ 1 ∷ []) $
         use2 W (raw (K0 𝓤 H A mem run .pre ((((κ0, tt)), ((q0, tt)), tt, ((record { ptr = (b0, o0); name = γ0; now = seats }, (seat, tt))), ((sliceVal (b0, o0) (length seats) ∷ [], (vint w64 seat ∷ [], tt)))), tt))) (qed W (‵ (flft κ0 q0) ∷ ‵ (ShrSlice (named 0) κ0 R-Seat .own (record { ptr = (b0, o0); name = γ0; now = seats }) (sliceVal (b0, o0) (length seats) ∷ [])) ∷ []) ∵ nothing ! $ move ! (1 ∷ 0 ∷ []) $ join ! $ nothing ! $ owned ! usize (Is usize) (uint-makes 𝓤 H A W w64) seat (vint w64 seat ∷ []) g-seat $ fjoin ! $ move ! (2 ∷ 0 ∷ []) $ fjoin ! $ move ! (1 ∷ 0 ∷ []) $ join ! $ frame ! $ done !) $
-        calls-at ! fm (K0 𝓤 H A mem run) k0 ((((κ0, tt)), ((q0, tt)), tt, ((record { ptr = (b0, o0); name = γ0; now = seats }, (seat, tt))), ((sliceVal (b0, o0) (length seats) ∷ [], (vint w64 seat ∷ [], tt)))), tt) (and-then ! (load ! (from ! (stop !)) (look ! 16 refl)) (and-then ! (load ! (from ! (stop !)) (look ! 10 refl)) (no-more !))) (λ v1.
+        calls-at ! fm (K0 𝓤 H A mem run) k0 ((((κ0, tt)), ((q0, tt)), tt, ((record { ptr = (b0, o0); name = γ0; now = seats }, (seat, tt))), ((sliceVal (b0, o0) (length seats) ∷ [], (vint w64 seat ∷ [], tt)))), tt) (and-then ! (load ! (from ! (stop !)) (look-in ! 6 (at-local ! 2 refl tt))) (and-then ! (load ! (from ! (stop !)) (look-in ! 6 (at-local ! 5 refl tt))) (no-more !))) (λ v1.
         use1 W (later (some (λ (r1 : Seat). ((‵ (flft κ0 q0) ⊛ ‵ ftrue) ⊛ ‵ (R-Seat .own r1 (v1 ∷ []))) ⊛ raw (ensured 𝓤 H A c0.ended (c0.clauses 𝓤 H A mem run) ((κ0, tt)) ((record { ptr = (b0, o0); name = γ0; now = seats }, (seat, tt))) tt r1)))) (id⊢ 𝓤 _) $
         await ! tt $ pick ! (λ r1. split ! $ move ! (1 ∷ []) $
         use1 W (some (λ (z1 : Lasts c0.ended ((κ0, tt)) ((record { ptr = (b0, o0); name = γ0; now = seats }, (seat, tt)))). ‵ (lasts c0.ended ((κ0, tt)) ((record { ptr = (b0, o0); name = γ0; now = seats }, (seat, tt))) z1) ⊛ (raw (fact 𝓤 (r1 ≡ getD seats seat cleared))))) (id⊢ 𝓤 _) $
         pick ! (λ z1. split ! $ move ! (1 ∷ []) $ heard ! (r1 ≡ getD seats seat cleared) (λ e1. fsplit ! $ drop ! $ fsplit ! $ drop ! $ drop ! $ split ! $ split ! $ move ! (1 ∷ []) $ drop ! $ move ! (1 ∷ []) $
-        peeks ! R-Seat (Is R-Seat) (shows 𝓤 H A R-Seat) r1 (v1 ∷ []) (λ is1. drop ! $ land ! (from ! (stop !)) (init ! 6 refl (LL.lawful T-Seat.the-type L-Seat.the-laws 𝓤 H A W .typed r1 _ is1 .0)) $
-        rewrite ! 6 (λ (u : Val). ‵ (fat fullShare L-Seat.mir l7 0 u)) (ap only (L-Seat.lowers .val-is r1 _ is1)) refl $
+        peeks ! R-Seat (Is R-Seat) (shows 𝓤 H A R-Seat) r1 (v1 ∷ []) (λ is1. drop ! $ land ! (from ! (stop !)) (puts ! 6 7 refl refl tt (LL.lawful T-Seat.the-type L-Seat.the-laws 𝓤 H A W .typed r1 _ is1 .0)) $
+        respells ! 6 7 refl refl (ap only (L-Seat.lowers .val-is r1 _ is1)) $
         -- the call of `seat`
         move ! (3 ∷ []) $
         use1 W (‵ (ShrSlice (named 1) κ1 u8 .own (record { ptr = (b1, o1); name = γ1; now = rows }) (sliceVal (b1, o1) (length rows) ∷ [])) ⊛ ‵ (ShrSlice (named 1) κ1 u8 .own (record { ptr = (b1, o1); name = γ1; now = rows }) (sliceVal (b1, o1) (length rows) ∷ []))) (shr-slice-copy 𝓤 H A W (named 1) κ1 u8 .twice (record { ptr = (b1, o1); name = γ1; now = rows }) (sliceVal (b1, o1) (length rows) ∷ [])) $
@@ -147,18 +148,15 @@ module _ {M : Type 1} (𝓤 : URA M) (H : Heap 𝓤) (A : Atoms 𝓤) (W : Given
         use1 W (‵ (ShrSlice (named 2) κ2 u16 .own (record { ptr = (b2, o2); name = γ2; now = holders }) (sliceVal (b2, o2) (length holders) ∷ [])) ⊛ ‵ (ShrSlice (named 2) κ2 u16 .own (record { ptr = (b2, o2); name = γ2; now = holders }) (sliceVal (b2, o2) (length holders) ∷ []))) (shr-slice-copy 𝓤 H A W (named 2) κ2 u16 .twice (record { ptr = (b2, o2); name = γ2; now = holders }) (sliceVal (b2, o2) (length holders) ∷ [])) $
         split ! $ move ! (3 ∷ 1 ∷ []) $ join ! $ move ! (5 ∷ 0 ∷ []) $ join ! $ move ! (5 ∷ 0 ∷ []) $ join ! $
         use1 W (raw (K1 𝓤 H A mem run .pre ((((κ1, (κ2, tt))), ((q1, (q2, tt))), tt, ((head, (r1, (seat, ((length seats), (record { ptr = (b1, o1); name = γ1; now = rows }, (record { ptr = (b2, o2); name = γ2; now = holders }, tt))))))), ((L-Head.lowered head ∷ [], (L-Seat.lowered r1 ∷ [], (vint w64 seat ∷ [], (vint w64 (length seats) ∷ [], (sliceVal (b1, o1) (length rows) ∷ [], (sliceVal (b2, o2) (length holders) ∷ [], tt)))))))), tt))) (qed W (‵ (flft κ1 q1) ∷ ‵ (flft κ2 q2) ∷ ‵ (ShrSlice (named 1) κ1 u8 .own (record { ptr = (b1, o1); name = γ1; now = rows }) (sliceVal (b1, o1) (length rows) ∷ [])) ∷ ‵ (ShrSlice (named 2) κ2 u16 .own (record { ptr = (b2, o2); name = γ2; now = holders }) (sliceVal (b2, o2) (length holders) ∷ [])) ∷ []) ∵ nothing ! $ move ! (2 ∷ 0 ∷ []) $ join ! $ move ! (1 ∷ 0 ∷ []) $ join ! $ nothing ! $ move ! (3 ∷ 0 ∷ []) $ fjoin ! $ move ! (2 ∷ 0 ∷ []) $ fjoin ! $ owned ! usize (Is usize) (uint-makes 𝓤 H A W w64) (length seats) (vint w64 (length seats) ∷ []) (refl, g-seats .0) $ fjoin ! $ owned ! usize (Is usize) (uint-makes 𝓤 H A W w64) seat (vint w64 seat ∷ []) g-seat $ fjoin ! $ owned ! R-Seat (Is R-Seat) (LL.makes T-Seat.the-type L-Seat.the-plain 𝓤 H A) r1 (L-Seat.lowered r1 ∷ []) (subst (Is R-Seat r1) (L-Seat.lowers .val-is r1 _ is1) is1) $ fjoin ! $ owned ! R-Head (Is R-Head) (LL.makes T-Head.the-type L-Head.the-plain 𝓤 H A) head (L-Head.lowered head ∷ []) g-head $ fjoin ! $ move ! (1 ∷ 0 ∷ []) $ join ! $ frame ! $ done !) $
-        calls-at ! fm (K1 𝓤 H A mem run) k1 ((((κ1, (κ2, tt))), ((q1, (q2, tt))), tt, ((head, (r1, (seat, ((length seats), (record { ptr = (b1, o1); name = γ1; now = rows }, (record { ptr = (b2, o2); name = γ2; now = holders }, tt))))))), ((L-Head.lowered head ∷ [], (L-Seat.lowered r1 ∷ [], (vint w64 seat ∷ [], (vint w64 (length seats) ∷ [], (sliceVal (b1, o1) (length rows) ∷ [], (sliceVal (b2, o2) (length holders) ∷ [], tt)))))))), tt) (and-then ! (load ! (from ! (stop !)) (look ! 17 refl)) (and-then ! (load ! (from ! (stop !)) (look ! 5 refl)) (and-then ! (load ! (from ! (stop !)) (look ! 9 refl)) (and-then ! (load ! (from ! (stop !)) (look ! 7 refl)) (and-then ! (load ! (from ! (stop !)) (look ! 13 refl)) (and-then ! (load ! (from ! (stop !)) (look ! 11 refl)) (no-more !))))))) (λ v2.
+        calls-at ! fm (K1 𝓤 H A mem run) k1 ((((κ1, (κ2, tt))), ((q1, (q2, tt))), tt, ((head, (r1, (seat, ((length seats), (record { ptr = (b1, o1); name = γ1; now = rows }, (record { ptr = (b2, o2); name = γ2; now = holders }, tt))))))), ((L-Head.lowered head ∷ [], (L-Seat.lowered r1 ∷ [], (vint w64 seat ∷ [], (vint w64 (length seats) ∷ [], (sliceVal (b1, o1) (length rows) ∷ [], (sliceVal (b2, o2) (length holders) ∷ [], tt)))))))), tt) (and-then ! (load ! (from ! (stop !)) (look-in ! 5 (at-local ! 1 refl tt))) (and-then ! (load ! (from ! (stop !)) (look-in ! 5 (at-local ! 7 refl tt))) (and-then ! (load ! (from ! (stop !)) (look-in ! 5 (at-local ! 5 refl tt))) (and-then ! (load ! (from ! (stop !)) (look-in ! 5 (at-local ! 6 refl tt))) (and-then ! (load ! (from ! (stop !)) (look-in ! 5 (at-local ! 3 refl tt))) (and-then ! (load ! (from ! (stop !)) (look-in ! 5 (at-local ! 4 refl tt))) (no-more !))))))) (λ v2.
         use1 W (later (some (λ (r2 : Answer). ((‵ (flft κ1 q1) ⊛ ‵ (flft κ2 q2) ⊛ ‵ ftrue) ⊛ ‵ (R-Answer .own r2 (v2 ∷ []))) ⊛ raw (ensured 𝓤 H A c1.ended (c1.clauses 𝓤 H A mem run) ((κ1, (κ2, tt))) ((head, (r1, (seat, ((length seats), (record { ptr = (b1, o1); name = γ1; now = rows }, (record { ptr = (b2, o2); name = γ2; now = holders }, tt))))))) tt r2)))) (id⊢ 𝓤 _) $
         await ! tt $ pick ! (λ r2. split ! $ move ! (1 ∷ []) $
         use1 W (some (λ (z2 : Lasts c1.ended ((κ1, (κ2, tt))) ((head, (r1, (seat, ((length seats), (record { ptr = (b1, o1); name = γ1; now = rows }, (record { ptr = (b2, o2); name = γ2; now = holders }, tt)))))))). ‵ (lasts c1.ended ((κ1, (κ2, tt))) ((head, (r1, (seat, ((length seats), (record { ptr = (b1, o1); name = γ1; now = rows }, (record { ptr = (b2, o2); name = γ2; now = holders }, tt))))))) z2) ⊛ (raw (fact 𝓤 (paper r2 ≡ seatOf seat (length seats) (around head r1 rows holders) .answer))))) (id⊢ 𝓤 _) $
         pick ! (λ z2. split ! $ move ! (1 ∷ []) $ heard ! (paper r2 ≡ seatOf seat (length seats) (around head r1 rows holders) .answer) (λ e2. fsplit ! $ drop ! $ fsplit ! $ drop ! $ fsplit ! $ drop ! $ fsplit ! $ drop ! $ fsplit ! $
         drop ! $ fsplit ! $ drop ! $ drop ! $ split ! $ split ! $ move ! (1 ∷ []) $ split ! $ move ! (1 ∷ []) $ drop ! $ move ! (2 ∷ []) $ peeks ! R-Answer (Is R-Answer) (shows 𝓤 H A R-Answer) r2 (v2 ∷ []) (λ is2. drop ! $
-        land ! (from ! (stop !)) (init ! 20 refl (EL.lawful T-Answer.the-type L-Answer.the-laws 𝓤 H A W tt .typed r2 _ is2 .0)) $
-        rewrite ! 20 (λ (u : Val). ‵ (fat fullShare L-Answer.mir l0 0 u)) (ap only (L-Answer.lowers .val-is r2 _ is2)) refl $ returns ! (look ! 20 refl) $
-        forget ! 20 refl $ forget ! 18 refl $ forget ! 16 refl $ forget ! 14 refl $ forget ! 12 refl $ forget ! 10 refl $ forget ! 8 refl $ forget ! 6 refl $ move ! (20 ∷ 21 ∷ []) $ free1 ! $ move ! (18 ∷ 19 ∷ []) $ free1 ! $
-        move ! (16 ∷ 17 ∷ []) $ free1 ! $ move ! (14 ∷ 15 ∷ []) $ free1 ! $ move ! (12 ∷ 13 ∷ []) $ free1 ! $ move ! (10 ∷ 11 ∷ []) $ free1 ! $ move ! (8 ∷ 9 ∷ []) $ free1 ! $ move ! (6 ∷ 7 ∷ []) $ free1 ! $ free0 ! $
-        keep ! (4 ∷ 1 ∷ 0 ∷ 5 ∷ 3 ∷ 2 ∷ []) $
-        by ! (qed W (‵ (flft κ0 q0) ∷ ‵ (flft κ1 q1) ∷ ‵ (flft κ2 q2) ∷ ‵ (ShrSlice (named 0) κ0 R-Seat .own (record { ptr = (b0, o0); name = γ0; now = seats }) (sliceVal (b0, o0) (length seats) ∷ [])) ∷ ‵ (ShrSlice (named 1) κ1 u8 .own (record { ptr = (b1, o1); name = γ1; now = rows }) (sliceVal (b1, o1) (length rows) ∷ [])) ∷ ‵ (ShrSlice (named 2) κ2 u16 .own (record { ptr = (b2, o2); name = γ2; now = holders }) (sliceVal (b2, o2) (length holders) ∷ [])) ∷ []) ∵ suffices ! _ (ends-at 𝓤 H A f.ended stayed (f.clauses 𝓤 H A mem run) W bound (L-Answer.lowered r2) r2 (tt, (tt, (tt, (tt, (tt, tt))))) (tt, (tt, (tt, (tt, (tt, tt)))))) $ says ! (look-is head seats rows holders seat r1 r2 e1 e2) $ nothing ! $ move ! (3 ∷ 0 ∷ []) $ join ! $ move ! (2 ∷ 0 ∷ []) $ join ! $ move ! (1 ∷ 0 ∷ []) $ join ! $ nothing ! $ owned ! usize (Is usize) (uint-makes 𝓤 H A W w64) seat (vint w64 seat ∷ []) g-seat $ fjoin ! $ move ! (4 ∷ 0 ∷ []) $ fjoin ! $ move ! (3 ∷ 0 ∷ []) $ fjoin ! $ move ! (2 ∷ 0 ∷ []) $ fjoin ! $ owned ! R-Head (Is R-Head) (LL.makes T-Head.the-type L-Head.the-plain 𝓤 H A) head (L-Head.lowered head ∷ []) g-head $ fjoin ! $ move ! (1 ∷ 0 ∷ []) $ frame ! $ frame ! $ owned ! R-Answer (Is R-Answer) (EL.makes T-Answer.the-type L-Answer.the-plain 𝓤 H A) r2 (L-Answer.lowered r2 ∷ []) (subst (Is R-Answer r2) (L-Answer.lowers .val-is r2 _ is2) is2) $ done !)))))))))))))))))))
+        land ! (from ! (stop !)) (puts ! 6 0 refl refl tt (EL.lawful T-Answer.the-type L-Answer.the-laws 𝓤 H A W tt .typed r2 _ is2 .0)) $ respells ! 6 0 refl refl (ap only (L-Answer.lowers .val-is r2 _ is2)) $
+        returns ! (look-in ! 6 (at-local ! 0 refl tt)) $ move ! (6 ∷ []) $ frees-all ! $ keep ! (4 ∷ 1 ∷ 0 ∷ 5 ∷ 3 ∷ 2 ∷ []) $
+        by ! (qed W (‵ (flft κ0 q0) ∷ ‵ (flft κ1 q1) ∷ ‵ (flft κ2 q2) ∷ ‵ (ShrSlice (named 0) κ0 R-Seat .own (record { ptr = (b0, o0); name = γ0; now = seats }) (sliceVal (b0, o0) (length seats) ∷ [])) ∷ ‵ (ShrSlice (named 1) κ1 u8 .own (record { ptr = (b1, o1); name = γ1; now = rows }) (sliceVal (b1, o1) (length rows) ∷ [])) ∷ ‵ (ShrSlice (named 2) κ2 u16 .own (record { ptr = (b2, o2); name = γ2; now = holders }) (sliceVal (b2, o2) (length holders) ∷ [])) ∷ []) ∵ suffices ! _ (ends-at 𝓤 H A f.ended stayed (f.clauses 𝓤 H A mem run) W bound (L-Answer.lowered r2) r2 (tt, (tt, (tt, (tt, (tt, tt))))) (tt, (tt, (tt, (tt, (tt, tt)))))) $ says ! (look-is head seats rows holders seat r1 r2 e1 e2) $ nothing ! $ move ! (3 ∷ 0 ∷ []) $ join ! $ move ! (2 ∷ 0 ∷ []) $ join ! $ move ! (1 ∷ 0 ∷ []) $ join ! $ nothing ! $ owned ! usize (Is usize) (uint-makes 𝓤 H A W w64) seat (vint w64 seat ∷ []) g-seat $ fjoin ! $ move ! (4 ∷ 0 ∷ []) $ fjoin ! $ move ! (3 ∷ 0 ∷ []) $ fjoin ! $ move ! (2 ∷ 0 ∷ []) $ fjoin ! $ owned ! R-Head (Is R-Head) (LL.makes T-Head.the-type L-Head.the-plain 𝓤 H A) head (L-Head.lowered head ∷ []) g-head $ fjoin ! $ move ! (1 ∷ 0 ∷ []) $ frame ! $ frame ! $ owned ! R-Answer (Is R-Answer) (EL.makes T-Answer.the-type L-Answer.the-plain 𝓤 H A) r2 (L-Answer.lowered r2 ∷ []) (subst (Is R-Answer r2) (L-Answer.lowers .val-is r2 _ is2) is2) $ done !))))))))))))
 
 module _ {M : Type 1} (𝓤 : URA M) (H : Heap 𝓤) (A : Atoms 𝓤) (W : Given 𝓤 H A) (mem : Memory → SProp 𝓤) (run : Routine → Fun 𝓤) where
   f-walks : (C : Calls 𝓤 H) (Λ : Loops 𝓤 H) → FmC 𝓤 H (W .laws) C → Triple 𝓤 (C #scans·seat-get) (K0 𝓤 H A mem run) → Triple 𝓤 (C #seating·looks·seat) (K1 𝓤 H A mem run) → Walks 𝓤 H A f.ended stayed (WpFn 𝓤 H C Λ code.function) (f.clauses 𝓤 H A mem run)

@@ -19,8 +19,8 @@ use ghost.Atoms.{Atoms}
 use contract.Monad.{Fun, fact}
 use contract.Running.{givenOf, tables, tablesOf}
 use types.Kit.{Given, Item, ‵, raw, _⊛_, some, later, ⋆, _$_, _∵_, !, qed, by, move, keep, drop, use0, use1, use2, use3, split, join, pick, rewrite, fsplit, fsplit3, fjoin, fjoin3, feqI, feqL, suffices, frame, await, done}
-use types.Run.{look, look-raw, init, store, store-raw, forget, stop, hop, fld, from, load, lit, unit-lit, true-lit, false-lit, addr, of-opd, and-then, no-more, assigns, land, returns, enter, alloc1, alloc0, params1, pass1, pass0, free1, free0}
-use types.Part.{agg, whole, sub, look-in}
+use types.Run.{look-raw, store-raw, stop, hop, fld, from, load, lit, unit-lit, true-lit, false-lit, addr, of-opd, and-then, no-more, assigns, land, returns, enter}
+use types.Part.{agg, sub, look-in}
 use types.SemTy.{Body}
 use types.Tokens.{lft-new, lft-end}
 use sound.WpLaws.{FmC, fmOf, WpFn-mono}
@@ -47,8 +47,9 @@ use denote.Triple.Walked.{says, Stays, stay-ref, stay-none, stay-none-slice, sta
 use Rattle.scans.proofs.Shared.{LentShared, lends-shared, shared-back}
 use Rattle.scans.proofs.Again.{LentAgain, lends-again, comes-back}
 use Rattle.scans.proofs.Local.{packs, unpacks}
+use Rattle.scans.proofs.Locals.{at-local, puts, respells, allots, takes, frees-all}
 use denote.Lend.{lends-ref, ref-back}
-use Rattle.tables.specs.Seats.{cleared, weChoke, weWant}
+use Rattle.tables.specs.Seats.{cleared, weChoke, weWant, counted}
 use Rattle.tables.specs.Tables.{paper, around, turn, yardOf, sizesFit}
 use Rattle.tables.specs.Frames.{feedOf}
 use Rattle.tables.specs.Seating.{startOf, lowestFree, sitOf, leaveOf, markOf}
@@ -149,12 +150,11 @@ module _ {M : Type 1} (𝓤 : URA M) (H : Heap 𝓤) (A : Atoms 𝓤) (W : Given
     walk =
         qed W ((‵ (flft κ0 q0) ⊛ ‵ (flft κ1 q1) ⊛ ‵ (flft κ2 q2) ⊛ ‵ (flft κ3 q3) ⊛ ‵ ftrue) ∷ ‵ (owns (R-Head ∷ ShrSlice (named 0) κ0 R-Seat ∷ ShrSlice (named 1) κ1 u8 ∷ ShrSlice (named 2) κ2 u16 ∷ usize ∷ MutSlice (named 3) κ3 u32 ∷ []) xs at) ∷ []) ∵
         enter ! C Λ code.function (L-Head.lowered head ∷ sliceVal (b0, o0) (length seats) ∷ sliceVal (b1, o1) (length rows) ∷ sliceVal (b2, o2) (length holders) ∷ vint w64 first ∷ sliceVal (b3, o3) (length page) ∷ []) _ $
-        alloc1 ! (λ l0. alloc1 ! (λ l1. alloc1 ! (λ l2. alloc1 ! (λ l3. alloc1 ! (λ l4. alloc1 ! (λ l5. alloc1 ! (λ l6. alloc1 ! (λ l7. alloc1 ! (λ l8. alloc1 ! (λ l9. alloc1 ! (λ l10. alloc1 ! (λ l11. alloc1 ! (λ l12. alloc1 ! (λ l13.
-        alloc0 ! $ params1 ! $ pass1 ! (init ! 24 refl (LL.lawful T-Head.the-type L-Head.the-laws 𝓤 H A W .typed head _ g-head .0)) $ pass1 ! (init ! 22 refl (tt, (tt, (record { fits = g-seats .0 }, tt)))) $
-        pass1 ! (init ! 20 refl (tt, (tt, (record { fits = g-rows .0 }, tt)))) $ pass1 ! (init ! 18 refl (tt, (tt, (record { fits = g-holders .0 }, tt)))) $ pass1 ! (init ! 16 refl (tt, record { fits = g-first .1 })) $
-        pass1 ! (init ! 14 refl (tt, (tt, (record { fits = g-page .0 }, tt)))) $ pass0 ! $ move ! (28 ∷ []) $ split ! $ move ! (1 ∷ []) $ split ! $ move ! (1 ∷ []) $ split ! $ move ! (1 ∷ []) $ split ! $ move ! (1 ∷ []) $ drop ! $
-        move ! (32 ∷ []) $ fsplit ! $ drop ! $ fsplit ! $ move ! (1 ∷ []) $ fsplit ! $ move ! (1 ∷ []) $ fsplit ! $ move ! (1 ∷ []) $ fsplit ! $ drop ! $ fsplit ! $ move ! (1 ∷ []) $ drop ! $
-        assigns ! (of-opd ! (load ! (from ! (fld ! refl (stop !))) (look-in ! 30 (sub ! 1 refl (whole !))))) (from ! (stop !)) (init ! 20 refl (tt, record { fits = g-seats .0 })) $
+        allots ! (λ bs.
+        takes ! ((LL.lawful T-Head.the-type L-Head.the-laws 𝓤 H A W .typed head _ g-head .0), ((tt, (tt, (record { fits = g-seats .0 }, tt))), ((tt, (tt, (record { fits = g-rows .0 }, tt))), ((tt, (tt, (record { fits = g-holders .0 }, tt))), ((tt, record { fits = g-first .1 }), ((tt, (tt, (record { fits = g-page .0 }, tt))), tt)))))) $
+        move ! (1 ∷ []) $ split ! $ move ! (1 ∷ []) $ split ! $ move ! (1 ∷ []) $ split ! $ move ! (1 ∷ []) $ split ! $ move ! (1 ∷ []) $ drop ! $ move ! (5 ∷ []) $ fsplit ! $ drop ! $ fsplit ! $ move ! (1 ∷ []) $ fsplit ! $
+        move ! (1 ∷ []) $ fsplit ! $ move ! (1 ∷ []) $ fsplit ! $ drop ! $ fsplit ! $ move ! (1 ∷ []) $ drop ! $
+        assigns ! (of-opd ! (load ! (from ! (fld ! refl (stop !))) (look-in ! 8 (sub ! 1 refl (at-local ! 2 refl tt))))) (from ! (stop !)) (puts ! 8 7 refl refl tt (tt, record { fits = g-seats .0 })) $
         -- the call of `fault`
         move ! (2 ∷ []) $
         use1 W (‵ (ShrSlice (named 1) κ1 u8 .own (record { ptr = (b1, o1); name = γ1; now = rows }) (sliceVal (b1, o1) (length rows) ∷ [])) ⊛ ‵ (ShrSlice (named 1) κ1 u8 .own (record { ptr = (b1, o1); name = γ1; now = rows }) (sliceVal (b1, o1) (length rows) ∷ []))) (shr-slice-copy 𝓤 H A W (named 1) κ1 u8 .twice (record { ptr = (b1, o1); name = γ1; now = rows }) (sliceVal (b1, o1) (length rows) ∷ [])) $
@@ -162,59 +162,53 @@ module _ {M : Type 1} (𝓤 : URA M) (H : Heap 𝓤) (A : Atoms 𝓤) (W : Given
         use1 W (‵ (ShrSlice (named 2) κ2 u16 .own (record { ptr = (b2, o2); name = γ2; now = holders }) (sliceVal (b2, o2) (length holders) ∷ [])) ⊛ ‵ (ShrSlice (named 2) κ2 u16 .own (record { ptr = (b2, o2); name = γ2; now = holders }) (sliceVal (b2, o2) (length holders) ∷ []))) (shr-slice-copy 𝓤 H A W (named 2) κ2 u16 .twice (record { ptr = (b2, o2); name = γ2; now = holders }) (sliceVal (b2, o2) (length holders) ∷ [])) $
         split ! $ move ! (3 ∷ 1 ∷ []) $ join ! $ move ! (6 ∷ 0 ∷ []) $ join ! $ move ! (6 ∷ 0 ∷ []) $ join ! $
         use1 W (raw (K0 𝓤 H A mem run .pre ((((κ1, (κ2, tt))), ((q1, (q2, tt))), tt, ((head, ((length seats), (record { ptr = (b1, o1); name = γ1; now = rows }, (record { ptr = (b2, o2); name = γ2; now = holders }, (first, tt)))))), ((L-Head.lowered head ∷ [], (vint w64 (length seats) ∷ [], (sliceVal (b1, o1) (length rows) ∷ [], (sliceVal (b2, o2) (length holders) ∷ [], (vint w64 first ∷ [], tt))))))), tt))) (qed W (‵ (flft κ1 q1) ∷ ‵ (flft κ2 q2) ∷ ‵ (ShrSlice (named 1) κ1 u8 .own (record { ptr = (b1, o1); name = γ1; now = rows }) (sliceVal (b1, o1) (length rows) ∷ [])) ∷ ‵ (ShrSlice (named 2) κ2 u16 .own (record { ptr = (b2, o2); name = γ2; now = holders }) (sliceVal (b2, o2) (length holders) ∷ [])) ∷ []) ∵ nothing ! $ move ! (2 ∷ 0 ∷ []) $ join ! $ move ! (1 ∷ 0 ∷ []) $ join ! $ nothing ! $ owned ! usize (Is usize) (uint-makes 𝓤 H A W w64) first (vint w64 first ∷ []) g-first $ fjoin ! $ move ! (3 ∷ 0 ∷ []) $ fjoin ! $ move ! (2 ∷ 0 ∷ []) $ fjoin ! $ owned ! usize (Is usize) (uint-makes 𝓤 H A W w64) (length seats) (vint w64 (length seats) ∷ []) (refl, g-seats .0) $ fjoin ! $ owned ! R-Head (Is R-Head) (LL.makes T-Head.the-type L-Head.the-plain 𝓤 H A) head (L-Head.lowered head ∷ []) g-head $ fjoin ! $ move ! (1 ∷ 0 ∷ []) $ join ! $ frame ! $ done !) $
-        calls-at ! fm (K0 𝓤 H A mem run) k0 ((((κ1, (κ2, tt))), ((q1, (q2, tt))), tt, ((head, ((length seats), (record { ptr = (b1, o1); name = γ1; now = rows }, (record { ptr = (b2, o2); name = γ2; now = holders }, (first, tt)))))), ((L-Head.lowered head ∷ [], (vint w64 (length seats) ∷ [], (sliceVal (b1, o1) (length rows) ∷ [], (sliceVal (b2, o2) (length holders) ∷ [], (vint w64 first ∷ [], tt))))))), tt) (and-then ! (load ! (from ! (stop !)) (look ! 31 refl)) (and-then ! (load ! (from ! (stop !)) (look ! 19 refl)) (and-then ! (load ! (from ! (stop !)) (look ! 27 refl)) (and-then ! (load ! (from ! (stop !)) (look ! 25 refl)) (and-then ! (load ! (from ! (stop !)) (look ! 23 refl)) (no-more !)))))) (λ v1.
+        calls-at ! fm (K0 𝓤 H A mem run) k0 ((((κ1, (κ2, tt))), ((q1, (q2, tt))), tt, ((head, ((length seats), (record { ptr = (b1, o1); name = γ1; now = rows }, (record { ptr = (b2, o2); name = γ2; now = holders }, (first, tt)))))), ((L-Head.lowered head ∷ [], (vint w64 (length seats) ∷ [], (sliceVal (b1, o1) (length rows) ∷ [], (sliceVal (b2, o2) (length holders) ∷ [], (vint w64 first ∷ [], tt))))))), tt) (and-then ! (load ! (from ! (stop !)) (look-in ! 7 (at-local ! 1 refl tt))) (and-then ! (load ! (from ! (stop !)) (look-in ! 7 (at-local ! 7 refl tt))) (and-then ! (load ! (from ! (stop !)) (look-in ! 7 (at-local ! 3 refl tt))) (and-then ! (load ! (from ! (stop !)) (look-in ! 7 (at-local ! 4 refl tt))) (and-then ! (load ! (from ! (stop !)) (look-in ! 7 (at-local ! 5 refl tt))) (no-more !)))))) (λ v1.
         use1 W (later (some (λ (r1 : ℕ). ((‵ (flft κ1 q1) ⊛ ‵ (flft κ2 q2) ⊛ ‵ ftrue) ⊛ ‵ (u8 .own r1 (v1 ∷ []))) ⊛ raw (ensured 𝓤 H A c0.ended (c0.clauses 𝓤 H A mem run) ((κ1, (κ2, tt))) ((head, ((length seats), (record { ptr = (b1, o1); name = γ1; now = rows }, (record { ptr = (b2, o2); name = γ2; now = holders }, (first, tt)))))) tt r1)))) (id⊢ 𝓤 _) $
         await ! tt $ pick ! (λ r1. split ! $ move ! (1 ∷ []) $
         use1 W (some (λ (z1 : Lasts c0.ended ((κ1, (κ2, tt))) ((head, ((length seats), (record { ptr = (b1, o1); name = γ1; now = rows }, (record { ptr = (b2, o2); name = γ2; now = holders }, (first, tt))))))). ‵ (lasts c0.ended ((κ1, (κ2, tt))) ((head, ((length seats), (record { ptr = (b1, o1); name = γ1; now = rows }, (record { ptr = (b2, o2); name = γ2; now = holders }, (first, tt)))))) z1) ⊛ (raw (fact 𝓤 (r1 ≡ pageFault head (length seats) (length rows) (length holders) first))))) (id⊢ 𝓤 _) $
         pick ! (λ z1. split ! $ move ! (1 ∷ []) $ heard ! (r1 ≡ pageFault head (length seats) (length rows) (length holders) first) (λ e1. fsplit ! $ drop ! $ fsplit ! $ drop ! $ fsplit ! $ drop ! $ fsplit ! $ drop ! $ fsplit ! $ drop ! $
         drop ! $ split ! $ split ! $ move ! (1 ∷ []) $ split ! $ move ! (1 ∷ []) $ drop ! $ move ! (2 ∷ []) $ peeks ! u8 (Is u8) (shows 𝓤 H A u8) r1 (v1 ∷ []) (λ is1. drop ! $
-        land ! (from ! (stop !)) (init ! 18 refl (uint-lawful 𝓤 H A W w8 .typed r1 _ is1 .0)) $ rewrite ! 18 (λ (u : Val). ‵ (fat fullShare (tyInt w8) l8 0 u)) (ap only (is1 .0)) refl $
-        assigns ! (of-opd ! (load ! (from ! (fld ! refl (stop !))) (look-in ! 22 (sub ! 1 refl (whole !))))) (from ! (stop !)) (init ! 16 refl (tt, record { fits = g-page .0 })) $
+        land ! (from ! (stop !)) (puts ! 8 8 refl refl tt (uint-lawful 𝓤 H A W w8 .typed r1 _ is1 .0)) $ respells ! 8 8 refl refl (ap only (is1 .0)) $
+        assigns ! (of-opd ! (load ! (from ! (fld ! refl (stop !))) (look-in ! 8 (sub ! 1 refl (at-local ! 6 refl tt))))) (from ! (stop !)) (puts ! 8 9 refl refl tt (tt, record { fits = g-page .0 })) $
         -- the call of `asked`
 
         use0 W (raw (K1 𝓤 H A mem run .pre (((tt), (tt), tt, ((head, (first, ((length page), (r1, tt))))), ((L-Head.lowered head ∷ [], (vint w64 first ∷ [], (vint w64 (length page) ∷ [], (vint w8 r1 ∷ [], tt)))))), tt))) (qed W ([]) ∵ nothing ! $ nothing ! $ owned ! u8 (Is u8) (uint-makes 𝓤 H A W w8) r1 (vint w8 r1 ∷ []) ((refl, is1 .1)) $ fjoin ! $ owned ! usize (Is usize) (uint-makes 𝓤 H A W w64) (length page) (vint w64 (length page) ∷ []) (refl, g-page .0) $ fjoin ! $ owned ! usize (Is usize) (uint-makes 𝓤 H A W w64) first (vint w64 first ∷ []) g-first $ fjoin ! $ owned ! R-Head (Is R-Head) (LL.makes T-Head.the-type L-Head.the-plain 𝓤 H A) head (L-Head.lowered head ∷ []) g-head $ fjoin ! $ move ! (1 ∷ 0 ∷ []) $ join ! $ frame ! $ done !) $
-        calls-at ! fm (K1 𝓤 H A mem run) k1 (((tt), (tt), tt, ((head, (first, ((length page), (r1, tt))))), ((L-Head.lowered head ∷ [], (vint w64 first ∷ [], (vint w64 (length page) ∷ [], (vint w8 r1 ∷ [], tt)))))), tt) (and-then ! (load ! (from ! (stop !)) (look ! 33 refl)) (and-then ! (load ! (from ! (stop !)) (look ! 25 refl)) (and-then ! (load ! (from ! (stop !)) (look ! 17 refl)) (and-then ! (load ! (from ! (stop !)) (look ! 19 refl)) (no-more !))))) (λ v2.
+        calls-at ! fm (K1 𝓤 H A mem run) k1 (((tt), (tt), tt, ((head, (first, ((length page), (r1, tt))))), ((L-Head.lowered head ∷ [], (vint w64 first ∷ [], (vint w64 (length page) ∷ [], (vint w8 r1 ∷ [], tt)))))), tt) (and-then ! (load ! (from ! (stop !)) (look-in ! 9 (at-local ! 1 refl tt))) (and-then ! (load ! (from ! (stop !)) (look-in ! 9 (at-local ! 5 refl tt))) (and-then ! (load ! (from ! (stop !)) (look-in ! 9 (at-local ! 9 refl tt))) (and-then ! (load ! (from ! (stop !)) (look-in ! 9 (at-local ! 8 refl tt))) (no-more !))))) (λ v2.
         use1 W (later (some (λ (r2 : Asked). ((‵ ftrue) ⊛ ‵ (R-Asked .own r2 (v2 ∷ []))) ⊛ raw (ensured 𝓤 H A c1.ended (c1.clauses 𝓤 H A mem run) (tt) ((head, (first, ((length page), (r1, tt))))) tt r2)))) (id⊢ 𝓤 _) $
         await ! tt $ pick ! (λ r2. split ! $ move ! (1 ∷ []) $
         use1 W (some (λ (z2 : Lasts c1.ended (tt) ((head, (first, ((length page), (r1, tt)))))). ‵ (lasts c1.ended (tt) ((head, (first, ((length page), (r1, tt))))) z2) ⊛ (raw (fact 𝓤 (r2 ≡ record { pieces = head .pieces; first = first; lines = cond (eqb r1 0) (length page) 0 }))))) (id⊢ 𝓤 _) $
         pick ! (λ z2. split ! $ move ! (1 ∷ []) $ heard ! (r2 ≡ record { pieces = head .pieces; first = first; lines = cond (eqb r1 0) (length page) 0 }) (λ e2. fsplit ! $ drop ! $ fsplit ! $ drop ! $ fsplit ! $ drop ! $ fsplit ! $
         drop ! $ drop ! $ split ! $ drop ! $ peeks ! R-Asked (Is R-Asked) (shows 𝓤 H A R-Asked) r2 (v2 ∷ []) (λ is2. drop ! $
-        land ! (from ! (stop !)) (init ! 14 refl (LL.lawful T-Asked.the-type L-Asked.the-laws 𝓤 H A W .typed r2 _ is2 .0)) $
-        rewrite ! 14 (λ (u : Val). ‵ (fat fullShare L-Asked.mir l10 0 u)) (ap only (L-Asked.lowers .val-is r2 _ is2)) refl $
-        assigns ! (addr ! (from ! (fld ! refl (hop ! (look-in ! 22 (sub ! 0 refl (whole !))) (stop !))))) (from ! (stop !)) (init ! 10 refl (tt, tt)) $
-        assigns ! (agg ! (and-then ! (load ! (from ! (stop !)) (look ! 10 refl)) (and-then ! (load ! (from ! (fld ! refl (stop !))) (look-in ! 22 (sub ! 1 refl (whole !)))) (no-more !)))) (from ! (stop !)) (init ! 8 refl (tt, (tt, (record { fits = g-page .0 }, tt)))) $
+        land ! (from ! (stop !)) (puts ! 8 10 refl refl tt (LL.lawful T-Asked.the-type L-Asked.the-laws 𝓤 H A W .typed r2 _ is2 .0)) $ respells ! 8 10 refl refl (ap only (L-Asked.lowers .val-is r2 _ is2)) $
+        assigns ! (addr ! (from ! (fld ! refl (hop ! (look-in ! 8 (sub ! 0 refl (at-local ! 6 refl tt))) (stop !))))) (from ! (stop !)) (puts ! 8 12 refl refl tt (tt, tt)) $
+        assigns ! (agg ! (and-then ! (load ! (from ! (stop !)) (look-in ! 8 (at-local ! 12 refl tt))) (and-then ! (load ! (from ! (fld ! refl (stop !))) (look-in ! 8 (sub ! 1 refl (at-local ! 6 refl tt)))) (no-more !)))) (from ! (stop !)) (puts ! 8 13 refl refl tt (tt, (tt, (record { fits = g-page .0 }, tt)))) $
         -- the call of `list_missing`
         move ! (5 ∷ []) $
         use1 W (‵ (ShrSlice (named 0) κ0 R-Seat .own (record { ptr = (b0, o0); name = γ0; now = seats }) (sliceVal (b0, o0) (length seats) ∷ [])) ⊛ ‵ (ShrSlice (named 0) κ0 R-Seat .own (record { ptr = (b0, o0); name = γ0; now = seats }) (sliceVal (b0, o0) (length seats) ∷ []))) (shr-slice-copy 𝓤 H A W (named 0) κ0 R-Seat .twice (record { ptr = (b0, o0); name = γ0; now = seats }) (sliceVal (b0, o0) (length seats) ∷ [])) $
-        split ! $ lft-new ! tt (λ ν3-page. rewrite ! 7 (λ (m : ℕ). ‵ (MutSlice (named 3) κ3 u32 .own (record { ptr = (b3, o3); name = γ3; now = page }) (sliceVal (b3, o3) m ∷ []))) (sym (refl)) refl $ move ! (7 ∷ 8 ∷ []) $
+        split ! $ lft-new ! tt (λ ν3-page. move ! (7 ∷ 8 ∷ []) $
         use2 W (later (some (λ (δ3-page : GName). ‵ (MutSlice (named 1) (ν3-page ∷ []) u32 .own (record { ptr = (b3, o3); name = δ3-page; now = page }) (sliceVal (b3, o3) (length page) ∷ [])) ⊛ ‵ (LentAgain u32 κ3 (ν3-page ∷ []) q3 γ3 b3 o3 δ3-page page)))) (lends-again u32 κ3 (ν3-page ∷ []) q3 γ3 b3 o3 𝓤 H A W (named 3) (named 1) page) $
-        await ! tt $ pick ! (λ δ3-page. split ! $ rewrite ! 0 (λ (m : ℕ). ‵ (MutSlice (named 1) (ν3-page ∷ []) u32 .own (record { ptr = (b3, o3); name = δ3-page; now = page }) (sliceVal (b3, o3) m ∷ []))) (refl) refl $
-        move ! (4 ∷ 0 ∷ []) $ join ! $ move ! (2 ∷ 0 ∷ []) $ join ! $ move ! (7 ∷ 0 ∷ []) $ join ! $
+        await ! tt $ pick ! (λ δ3-page. split ! $ move ! (4 ∷ 0 ∷ []) $ join ! $ move ! (2 ∷ 0 ∷ []) $ join ! $ move ! (7 ∷ 0 ∷ []) $ join ! $
         use1 W (raw (K2 𝓤 H A mem run .pre ((((κ0, ((ν3-page ∷ []), tt))), ((q0, (fullShare, tt))), tt, ((record { ptr = (b0, o0); name = γ0; now = seats }, (record { ptr = (b3, o3); name = δ3-page; now = page }, (r2, tt)))), ((sliceVal (b0, o0) (length seats) ∷ [], (sliceVal (b3, o3) (length page) ∷ [], (L-Asked.lowered r2 ∷ [], tt))))), tt))) (qed W (‵ (flft κ0 q0) ∷ ‵ (flft (ν3-page ∷ []) fullShare) ∷ ‵ (ShrSlice (named 0) κ0 R-Seat .own (record { ptr = (b0, o0); name = γ0; now = seats }) (sliceVal (b0, o0) (length seats) ∷ [])) ∷ ‵ (MutSlice (named 1) (ν3-page ∷ []) u32 .own (record { ptr = (b3, o3); name = δ3-page; now = page }) (sliceVal (b3, o3) (length page) ∷ [])) ∷ []) ∵ nothing ! $ move ! (2 ∷ 0 ∷ []) $ join ! $ move ! (1 ∷ 0 ∷ []) $ join ! $ nothing ! $ owned ! R-Asked (Is R-Asked) (LL.makes T-Asked.the-type L-Asked.the-plain 𝓤 H A) r2 (L-Asked.lowered r2 ∷ []) (subst (Is R-Asked r2) (L-Asked.lowers .val-is r2 _ is2) is2) $ fjoin ! $ move ! (3 ∷ 0 ∷ []) $ fjoin ! $ move ! (2 ∷ 0 ∷ []) $ fjoin ! $ move ! (1 ∷ 0 ∷ []) $ join ! $ frame ! $ done !) $
-        calls-at ! fm (K2 𝓤 H A mem run) k2 ((((κ0, ((ν3-page ∷ []), tt))), ((q0, (fullShare, tt))), tt, ((record { ptr = (b0, o0); name = γ0; now = seats }, (record { ptr = (b3, o3); name = δ3-page; now = page }, (r2, tt)))), ((sliceVal (b0, o0) (length seats) ∷ [], (sliceVal (b3, o3) (length page) ∷ [], (L-Asked.lowered r2 ∷ [], tt))))), tt) (and-then ! (load ! (from ! (stop !)) (look ! 29 refl)) (and-then ! (load ! (from ! (stop !)) (look ! 7 refl)) (and-then ! (load ! (from ! (stop !)) (look ! 13 refl)) (no-more !)))) (λ v3.
+        calls-at ! fm (K2 𝓤 H A mem run) k2 ((((κ0, ((ν3-page ∷ []), tt))), ((q0, (fullShare, tt))), tt, ((record { ptr = (b0, o0); name = γ0; now = seats }, (record { ptr = (b3, o3); name = δ3-page; now = page }, (r2, tt)))), ((sliceVal (b0, o0) (length seats) ∷ [], (sliceVal (b3, o3) (length page) ∷ [], (L-Asked.lowered r2 ∷ [], tt))))), tt) (and-then ! (load ! (from ! (stop !)) (look-in ! 7 (at-local ! 2 refl tt))) (and-then ! (load ! (from ! (stop !)) (look-in ! 7 (at-local ! 13 refl tt))) (and-then ! (load ! (from ! (stop !)) (look-in ! 7 (at-local ! 10 refl tt))) (no-more !)))) (λ v3.
         use1 W (later (some (λ (r3 : Page). ((‵ (flft κ0 q0) ⊛ ‵ (flft (ν3-page ∷ []) fullShare) ⊛ ‵ ftrue) ⊛ ‵ (R-Page .own r3 (v3 ∷ []))) ⊛ raw (ensured 𝓤 H A c2.ended (c2.clauses 𝓤 H A mem run) ((κ0, ((ν3-page ∷ []), tt))) ((record { ptr = (b0, o0); name = γ0; now = seats }, (record { ptr = (b3, o3); name = δ3-page; now = page }, (r2, tt)))) tt r3)))) (id⊢ 𝓤 _) $
         await ! tt $ pick ! (λ r3. split ! $ move ! (1 ∷ []) $
         use1 W (some (λ (z3 : Lasts c2.ended ((κ0, ((ν3-page ∷ []), tt))) ((record { ptr = (b0, o0); name = γ0; now = seats }, (record { ptr = (b3, o3); name = δ3-page; now = page }, (r2, tt))))). ‵ (lasts c2.ended ((κ0, ((ν3-page ∷ []), tt))) ((record { ptr = (b0, o0); name = γ0; now = seats }, (record { ptr = (b3, o3); name = δ3-page; now = page }, (r2, tt)))) z3) ⊛ (raw (fact 𝓤 ((r3 ≡ pageOf (r2 .pieces) (r2 .first) (r2 .lines) seats) × (z3 .1 .0 ≡ sets page 0 (asLines (linesOf (r2 .pieces) (r2 .first) (r2 .lines) seats)))))))) (id⊢ 𝓤 _) $
         pick ! (λ z3. split ! $ move ! (1 ∷ []) $ heard ! ((r3 ≡ pageOf (r2 .pieces) (r2 .first) (r2 .lines) seats) × (z3 .1 .0 ≡ sets page 0 (asLines (linesOf (r2 .pieces) (r2 .first) (r2 .lines) seats)))) (λ e3. fsplit ! $ drop ! $
         fsplit ! $ fsplit ! $ move ! (1 ∷ []) $ feqL ! (λ n3-page. move ! (1 ∷ []) $ fsplit ! $ drop ! $ drop ! $ move ! (1 ∷ []) $ split ! $ split ! $ move ! (1 ∷ []) $ split ! $ move ! (1 ∷ []) $ drop ! $ move ! (2 ∷ []) $
-        peeks ! R-Page (Is R-Page) (shows 𝓤 H A R-Page) r3 (v3 ∷ []) (λ is3. drop ! $ land ! (from ! (stop !)) (init ! 13 refl (LL.lawful T-Page.the-type L-Page.the-laws 𝓤 H A W .typed r3 _ is3 .0)) $
-        rewrite ! 13 (λ (u : Val). ‵ (fat fullShare L-Page.mir l11 0 u)) (ap only (L-Page.lowers .val-is r3 _ is3)) refl $ lft-end ! tt $ move ! (0 ∷ 3 ∷ 2 ∷ []) $
-        use3 W (later (‵ (MutSlice (named 3) κ3 u32 .own (record { ptr = (b3, o3); name = γ3; now = z3 .1 .0 }) (sliceVal (b3, o3) (length page) ∷ [])) ⊛ ‵ (flft κ3 q3))) (comes-back u32 κ3 (ν3-page ∷ []) q3 γ3 b3 o3 𝓤 H A W (named 3) (named 1) page δ3-page (z3 .1 .0) (subst (Room u32) (sym (refl)) g-page) n3-page) $
-        await ! tt $ split ! $ rewrite ! 0 (λ (m : ℕ). ‵ (MutSlice (named 3) κ3 u32 .own (record { ptr = (b3, o3); name = γ3; now = z3 .1 .0 }) (sliceVal (b3, o3) m ∷ []))) (refl) refl $
+        peeks ! R-Page (Is R-Page) (shows 𝓤 H A R-Page) r3 (v3 ∷ []) (λ is3. drop ! $ land ! (from ! (stop !)) (puts ! 9 11 refl refl tt (LL.lawful T-Page.the-type L-Page.the-laws 𝓤 H A W .typed r3 _ is3 .0)) $
+        respells ! 9 11 refl refl (ap only (L-Page.lowers .val-is r3 _ is3)) $ lft-end ! tt $ move ! (0 ∷ 3 ∷ 2 ∷ []) $
+        use3 W (later (‵ (MutSlice (named 3) κ3 u32 .own (record { ptr = (b3, o3); name = γ3; now = z3 .1 .0 }) (sliceVal (b3, o3) (length page) ∷ [])) ⊛ ‵ (flft κ3 q3))) (comes-back u32 κ3 (ν3-page ∷ []) q3 γ3 b3 o3 𝓤 H A W (named 3) (named 1) page δ3-page (z3 .1 .0) g-page n3-page) $
+        await ! tt $ split ! $
         -- the call of `answer`
 
         use0 W (raw (K3 𝓤 H A mem run .pre (((tt), (tt), tt, ((r1, (r3, tt))), ((vint w8 r1 ∷ [], (L-Page.lowered r3 ∷ [], tt)))), tt))) (qed W ([]) ∵ nothing ! $ nothing ! $ owned ! R-Page (Is R-Page) (LL.makes T-Page.the-type L-Page.the-plain 𝓤 H A) r3 (L-Page.lowered r3 ∷ []) (subst (Is R-Page r3) (L-Page.lowers .val-is r3 _ is3) is3) $ fjoin ! $ owned ! u8 (Is u8) (uint-makes 𝓤 H A W w8) r1 (vint w8 r1 ∷ []) ((refl, is1 .1)) $ fjoin ! $ move ! (1 ∷ 0 ∷ []) $ join ! $ frame ! $ done !) $
-        calls-at ! fm (K3 𝓤 H A mem run) k3 (((tt), (tt), tt, ((r1, (r3, tt))), ((vint w8 r1 ∷ [], (L-Page.lowered r3 ∷ [], tt)))), tt) (and-then ! (load ! (from ! (stop !)) (look ! 19 refl)) (and-then ! (load ! (from ! (stop !)) (look ! 13 refl)) (no-more !))) (λ v4.
+        calls-at ! fm (K3 𝓤 H A mem run) k3 (((tt), (tt), tt, ((r1, (r3, tt))), ((vint w8 r1 ∷ [], (L-Page.lowered r3 ∷ [], tt)))), tt) (and-then ! (load ! (from ! (stop !)) (look-in ! 9 (at-local ! 8 refl tt))) (and-then ! (load ! (from ! (stop !)) (look-in ! 9 (at-local ! 11 refl tt))) (no-more !))) (λ v4.
         use1 W (later (some (λ (r4 : Answer). ((‵ ftrue) ⊛ ‵ (R-Answer .own r4 (v4 ∷ []))) ⊛ raw (ensured 𝓤 H A c3.ended (c3.clauses 𝓤 H A mem run) (tt) ((r1, (r3, tt))) tt r4)))) (id⊢ 𝓤 _) $ await ! tt $ pick ! (λ r4. split ! $
         move ! (1 ∷ []) $ use1 W (some (λ (z4 : Lasts c3.ended (tt) ((r1, (r3, tt)))). ‵ (lasts c3.ended (tt) ((r1, (r3, tt))) z4) ⊛ (raw (fact 𝓤 (r4 ≡ answerOf r1 r3))))) (id⊢ 𝓤 _) $ pick ! (λ z4. split ! $ move ! (1 ∷ []) $
         heard ! (r4 ≡ answerOf r1 r3) (λ e4. fsplit ! $ drop ! $ fsplit ! $ drop ! $ drop ! $ split ! $ drop ! $ peeks ! R-Answer (Is R-Answer) (shows 𝓤 H A R-Answer) r4 (v4 ∷ []) (λ is4. drop ! $
-        land ! (from ! (stop !)) (init ! 34 refl (EL.lawful T-Answer.the-type L-Answer.the-laws 𝓤 H A W tt .typed r4 _ is4 .0)) $
-        rewrite ! 34 (λ (u : Val). ‵ (fat fullShare L-Answer.mir l0 0 u)) (ap only (L-Answer.lowers .val-is r4 _ is4)) refl $ returns ! (look ! 34 refl) $
-        forget ! 34 refl $ forget ! 32 refl $ forget ! 30 refl $ forget ! 28 refl $ forget ! 26 refl $ forget ! 24 refl $ forget ! 22 refl $ forget ! 20 refl $ forget ! 18 refl $ forget ! 16 refl $ forget ! 14 refl $ forget ! 12 refl $ forget ! 10 refl $ forget ! 8 refl $
-        move ! (34 ∷ 35 ∷ []) $ free1 ! $ move ! (32 ∷ 33 ∷ []) $ free1 ! $ move ! (30 ∷ 31 ∷ []) $ free1 ! $ move ! (28 ∷ 29 ∷ []) $ free1 ! $ move ! (26 ∷ 27 ∷ []) $ free1 ! $ move ! (24 ∷ 25 ∷ []) $ free1 ! $ move ! (22 ∷ 23 ∷ []) $
-        free1 ! $ move ! (20 ∷ 21 ∷ []) $ free1 ! $ move ! (18 ∷ 19 ∷ []) $ free1 ! $ move ! (16 ∷ 17 ∷ []) $ free1 ! $ move ! (14 ∷ 15 ∷ []) $ free1 ! $ move ! (12 ∷ 13 ∷ []) $ free1 ! $ move ! (10 ∷ 11 ∷ []) $ free1 ! $
-        move ! (8 ∷ 9 ∷ []) $ free1 ! $ free0 ! $ keep ! (2 ∷ 5 ∷ 4 ∷ 1 ∷ 3 ∷ 7 ∷ 6 ∷ 0 ∷ []) $
-        by ! (qed W (‵ (flft κ0 q0) ∷ ‵ (flft κ1 q1) ∷ ‵ (flft κ2 q2) ∷ ‵ (flft κ3 q3) ∷ ‵ (ShrSlice (named 0) κ0 R-Seat .own (record { ptr = (b0, o0); name = γ0; now = seats }) (sliceVal (b0, o0) (length seats) ∷ [])) ∷ ‵ (ShrSlice (named 1) κ1 u8 .own (record { ptr = (b1, o1); name = γ1; now = rows }) (sliceVal (b1, o1) (length rows) ∷ [])) ∷ ‵ (ShrSlice (named 2) κ2 u16 .own (record { ptr = (b2, o2); name = γ2; now = holders }) (sliceVal (b2, o2) (length holders) ∷ [])) ∷ ‵ (MutSlice (named 3) κ3 u32 .own (record { ptr = (b3, o3); name = γ3; now = (z3 .1 .0) }) (sliceVal (b3, o3) (length page) ∷ [])) ∷ []) ∵ suffices ! _ (ends-at 𝓤 H A f.ended stayed (f.clauses 𝓤 H A mem run) W bound (L-Answer.lowered r4) r4 (tt, (tt, (tt, (tt, (tt, ((z3 .1 .0), tt)))))) (tt, (tt, (tt, (tt, (tt, ((n3-page), tt))))))) $ says ! (missing-is head seats rows holders first page (z3 .1 .0) r1 r2 r3 r4 e1 e2 e3 e4) $ nothing ! $ move ! (4 ∷ 0 ∷ []) $ join ! $ move ! (3 ∷ 0 ∷ []) $ join ! $ move ! (2 ∷ 0 ∷ []) $ join ! $ move ! (1 ∷ 0 ∷ []) $ join ! $ nothing ! $ move ! (5 ∷ 0 ∷ []) $ fjoin ! $ owned ! usize (Is usize) (uint-makes 𝓤 H A W w64) first (vint w64 first ∷ []) g-first $ fjoin ! $ move ! (4 ∷ 0 ∷ []) $ fjoin ! $ move ! (3 ∷ 0 ∷ []) $ fjoin ! $ move ! (2 ∷ 0 ∷ []) $ fjoin ! $ owned ! R-Head (Is R-Head) (LL.makes T-Head.the-type L-Head.the-plain 𝓤 H A) head (L-Head.lowered head ∷ []) g-head $ fjoin ! $ move ! (1 ∷ 0 ∷ []) $ frame ! $ frame ! $ owned ! R-Answer (Is R-Answer) (EL.makes T-Answer.the-type L-Answer.the-plain 𝓤 H A) r4 (L-Answer.lowered r4 ∷ []) (subst (Is R-Answer r4) (L-Answer.lowers .val-is r4 _ is4) is4) $ done !))))))))))))))))))))))))))))))))))))))
+        land ! (from ! (stop !)) (puts ! 8 0 refl refl tt (EL.lawful T-Answer.the-type L-Answer.the-laws 𝓤 H A W tt .typed r4 _ is4 .0)) $ respells ! 8 0 refl refl (ap only (L-Answer.lowers .val-is r4 _ is4)) $
+        returns ! (look-in ! 8 (at-local ! 0 refl tt)) $ move ! (8 ∷ []) $ frees-all ! $ keep ! (2 ∷ 5 ∷ 4 ∷ 1 ∷ 3 ∷ 7 ∷ 6 ∷ 0 ∷ []) $
+        by ! (qed W (‵ (flft κ0 q0) ∷ ‵ (flft κ1 q1) ∷ ‵ (flft κ2 q2) ∷ ‵ (flft κ3 q3) ∷ ‵ (ShrSlice (named 0) κ0 R-Seat .own (record { ptr = (b0, o0); name = γ0; now = seats }) (sliceVal (b0, o0) (length seats) ∷ [])) ∷ ‵ (ShrSlice (named 1) κ1 u8 .own (record { ptr = (b1, o1); name = γ1; now = rows }) (sliceVal (b1, o1) (length rows) ∷ [])) ∷ ‵ (ShrSlice (named 2) κ2 u16 .own (record { ptr = (b2, o2); name = γ2; now = holders }) (sliceVal (b2, o2) (length holders) ∷ [])) ∷ ‵ (MutSlice (named 3) κ3 u32 .own (record { ptr = (b3, o3); name = γ3; now = (z3 .1 .0) }) (sliceVal (b3, o3) (length page) ∷ [])) ∷ []) ∵ suffices ! _ (ends-at 𝓤 H A f.ended stayed (f.clauses 𝓤 H A mem run) W bound (L-Answer.lowered r4) r4 (tt, (tt, (tt, (tt, (tt, ((z3 .1 .0), tt)))))) (tt, (tt, (tt, (tt, (tt, ((n3-page), tt))))))) $ says ! (missing-is head seats rows holders first page (z3 .1 .0) r1 r2 r3 r4 e1 e2 e3 e4) $ nothing ! $ move ! (4 ∷ 0 ∷ []) $ join ! $ move ! (3 ∷ 0 ∷ []) $ join ! $ move ! (2 ∷ 0 ∷ []) $ join ! $ move ! (1 ∷ 0 ∷ []) $ join ! $ nothing ! $ move ! (5 ∷ 0 ∷ []) $ fjoin ! $ owned ! usize (Is usize) (uint-makes 𝓤 H A W w64) first (vint w64 first ∷ []) g-first $ fjoin ! $ move ! (4 ∷ 0 ∷ []) $ fjoin ! $ move ! (3 ∷ 0 ∷ []) $ fjoin ! $ move ! (2 ∷ 0 ∷ []) $ fjoin ! $ owned ! R-Head (Is R-Head) (LL.makes T-Head.the-type L-Head.the-plain 𝓤 H A) head (L-Head.lowered head ∷ []) g-head $ fjoin ! $ move ! (1 ∷ 0 ∷ []) $ frame ! $ frame ! $ owned ! R-Answer (Is R-Answer) (EL.makes T-Answer.the-type L-Answer.the-plain 𝓤 H A) r4 (L-Answer.lowered r4 ∷ []) (subst (Is R-Answer r4) (L-Answer.lowers .val-is r4 _ is4) is4) $ done !)))))))))))))))))))))))))
 
 module _ {M : Type 1} (𝓤 : URA M) (H : Heap 𝓤) (A : Atoms 𝓤) (W : Given 𝓤 H A) (mem : Memory → SProp 𝓤) (run : Routine → Fun 𝓤) where
   f-walks : (C : Calls 𝓤 H) (Λ : Loops 𝓤 H) → FmC 𝓤 H (W .laws) C → Triple 𝓤 (C #yard·pages·fault) (K0 𝓤 H A mem run) → Triple 𝓤 (C #yard·pages·asked) (K1 𝓤 H A mem run) → Triple 𝓤 (C #scans·list-missing) (K2 𝓤 H A mem run) → Triple 𝓤 (C #yard·pages·answer) (K3 𝓤 H A mem run) → Walks 𝓤 H A f.ended stayed (WpFn 𝓤 H C Λ code.function) (f.clauses 𝓤 H A mem run)

@@ -19,8 +19,8 @@ use ghost.Atoms.{Atoms}
 use contract.Monad.{Fun, fact}
 use contract.Running.{givenOf, tables, tablesOf}
 use types.Kit.{Given, Item, ‵, raw, _⊛_, some, later, ⋆, _$_, _∵_, !, qed, by, move, keep, drop, use0, use1, use2, use3, split, join, pick, rewrite, fsplit, fsplit3, fjoin, fjoin3, feqI, feqL, suffices, frame, await, done}
-use types.Run.{look, look-raw, init, store, store-raw, forget, stop, hop, fld, from, load, lit, unit-lit, true-lit, false-lit, addr, of-opd, and-then, no-more, assigns, land, returns, enter, alloc1, alloc0, params1, pass1, pass0, free1, free0}
-use types.Part.{agg, whole, sub, look-in}
+use types.Run.{look-raw, store-raw, stop, hop, fld, from, load, lit, unit-lit, true-lit, false-lit, addr, of-opd, and-then, no-more, assigns, land, returns, enter}
+use types.Part.{agg, sub, look-in}
 use types.SemTy.{Body}
 use types.Tokens.{lft-new, lft-end}
 use sound.WpLaws.{FmC, fmOf, WpFn-mono}
@@ -47,8 +47,9 @@ use denote.Triple.Walked.{says, Stays, stay-ref, stay-none, stay-none-slice, sta
 use Rattle.scans.proofs.Shared.{LentShared, lends-shared, shared-back}
 use Rattle.scans.proofs.Again.{LentAgain, lends-again, comes-back}
 use Rattle.scans.proofs.Local.{packs, unpacks}
+use Rattle.scans.proofs.Locals.{at-local, puts, respells, allots, takes, frees-all}
 use denote.Lend.{lends-ref, ref-back}
-use Rattle.tables.specs.Seats.{cleared, weChoke, weWant}
+use Rattle.tables.specs.Seats.{cleared, weChoke, weWant, counted}
 use Rattle.tables.specs.Tables.{paper, around, turn, yardOf, sizesFit}
 use Rattle.tables.specs.Frames.{feedOf}
 use Rattle.tables.specs.Seating.{startOf, lowestFree, sitOf, leaveOf, markOf}
@@ -133,30 +134,26 @@ module _ {M : Type 1} (𝓤 : URA M) (H : Heap 𝓤) (A : Atoms 𝓤) (W : Given
     walk =
         qed W ((‵ (flft κ0 q0) ⊛ ‵ (flft κ1 q1) ⊛ ‵ (flft κ2 q2) ⊛ ‵ (flft κ3 q3) ⊛ ‵ ftrue) ∷ ‵ (owns (MutRef (named 0) κ0 R-Head ∷ MutSlice (named 1) κ1 R-Seat ∷ MutSlice (named 2) κ2 u8 ∷ MutSlice (named 3) κ3 u16 ∷ u32 ∷ u32 ∷ u32 ∷ []) xs at) ∷ []) ∵
         enter ! C Λ code.function (vptr b0 o0 ∷ sliceVal (b1, o1) (length seats) ∷ sliceVal (b2, o2) (length rows) ∷ sliceVal (b3, o3) (length holders) ∷ vint w32 pieces ∷ vint w32 lengths ∷ vint w32 last ∷ []) _ $
-        alloc1 ! (λ l0. alloc1 ! (λ l1. alloc1 ! (λ l2. alloc1 ! (λ l3. alloc1 ! (λ l4. alloc1 ! (λ l5. alloc1 ! (λ l6. alloc1 ! (λ l7. alloc1 ! (λ l8. alloc1 ! (λ l9. alloc1 ! (λ l10. alloc1 ! (λ l11. alloc1 ! (λ l12. alloc1 ! (λ l13.
-        alloc1 ! (λ l14. alloc1 ! (λ l15. alloc1 ! (λ l16. alloc1 ! (λ l17. alloc0 ! $ params1 ! $ pass1 ! (init ! 32 refl (tt, tt)) $ pass1 ! (init ! 30 refl (tt, (tt, (record { fits = g-seats .0 }, tt)))) $
-        pass1 ! (init ! 28 refl (tt, (tt, (record { fits = g-rows .0 }, tt)))) $ pass1 ! (init ! 26 refl (tt, (tt, (record { fits = g-holders .0 }, tt)))) $ pass1 ! (init ! 24 refl (tt, record { fits = g-pieces .1 })) $
-        pass1 ! (init ! 22 refl (tt, record { fits = g-lengths .1 })) $ pass1 ! (init ! 20 refl (tt, record { fits = g-last .1 })) $ pass0 ! $ move ! (36 ∷ []) $ split ! $ move ! (1 ∷ []) $ split ! $ move ! (1 ∷ []) $ split ! $
-        move ! (1 ∷ []) $ split ! $ move ! (1 ∷ []) $ drop ! $ move ! (40 ∷ []) $ fsplit ! $ move ! (1 ∷ []) $ fsplit ! $ move ! (1 ∷ []) $ fsplit ! $ move ! (1 ∷ []) $ fsplit ! $ move ! (1 ∷ []) $ fsplit ! $ drop ! $ fsplit ! $ drop ! $
-        fsplit ! $ drop ! $ drop ! $ move ! (3 ∷ []) $ fsplit3 ! $ drop ! $ move ! (0 ∷ 1 ∷ 8 ∷ []) $ opens ! tt R-Head {h = head} b0 o0 (λ vs-head.
+        allots ! (λ bs.
+        takes ! ((tt, tt), ((tt, (tt, (record { fits = g-seats .0 }, tt))), ((tt, (tt, (record { fits = g-rows .0 }, tt))), ((tt, (tt, (record { fits = g-holders .0 }, tt))), ((tt, record { fits = g-pieces .1 }), ((tt, record { fits = g-lengths .1 }), ((tt, record { fits = g-last .1 }), tt))))))) $
+        move ! (1 ∷ []) $ split ! $ move ! (1 ∷ []) $ split ! $ move ! (1 ∷ []) $ split ! $ move ! (1 ∷ []) $ split ! $ move ! (1 ∷ []) $ drop ! $ move ! (5 ∷ []) $ fsplit ! $ move ! (1 ∷ []) $ fsplit ! $ move ! (1 ∷ []) $ fsplit ! $
+        move ! (1 ∷ []) $ fsplit ! $ move ! (1 ∷ []) $ fsplit ! $ drop ! $ fsplit ! $ drop ! $ fsplit ! $ drop ! $ drop ! $ move ! (3 ∷ []) $ fsplit3 ! $ drop ! $ move ! (0 ∷ 1 ∷ 8 ∷ []) $ opens ! tt R-Head {h = head} b0 o0 (λ vs-head.
         spelt ! R-Head (Is R-Head) (shows 𝓤 H A R-Head) (λ d. L-Head.lowered d ∷ []) (L-Head.lowers .val-is) fullShare head vs-head b0 o0 $ move ! (1 ∷ []) $
         peeks ! R-Head (Is R-Head) (shows 𝓤 H A R-Head) head (L-Head.lowered head ∷ []) (λ was-head. drop ! $
-        assigns ! (of-opd ! (load ! (from ! (fld ! refl (stop !))) (look-in ! 40 (sub ! 1 refl (whole !))))) (from ! (stop !)) (init ! 28 refl (tt, record { fits = g-seats .0 })) $
-        assigns ! (of-opd ! (load ! (from ! (hop ! (look ! 42 refl) (stop !))) (look-raw ! 0 refl))) (from ! (stop !)) (init ! 24 refl (LL.lawful T-Head.the-type L-Head.the-laws 𝓤 H A W .typed head _ was-head .0)) $
-        assigns ! (addr ! (from ! (fld ! refl (hop ! (look-in ! 38 (sub ! 0 refl (whole !))) (stop !))))) (from ! (stop !)) (init ! 22 refl (tt, tt)) $
-        assigns ! (agg ! (and-then ! (load ! (from ! (stop !)) (look ! 22 refl)) (and-then ! (load ! (from ! (fld ! refl (stop !))) (look-in ! 38 (sub ! 1 refl (whole !)))) (no-more !)))) (from ! (stop !)) (init ! 20 refl (tt, (tt, (record { fits = g-rows .0 }, tt)))) $
-        assigns ! (addr ! (from ! (fld ! refl (hop ! (look-in ! 36 (sub ! 0 refl (whole !))) (stop !))))) (from ! (stop !)) (init ! 18 refl (tt, tt)) $
-        assigns ! (agg ! (and-then ! (load ! (from ! (stop !)) (look ! 18 refl)) (and-then ! (load ! (from ! (fld ! refl (stop !))) (look-in ! 36 (sub ! 1 refl (whole !)))) (no-more !)))) (from ! (stop !)) (init ! 16 refl (tt, (tt, (record { fits = g-holders .0 }, tt)))) $
+        assigns ! (of-opd ! (load ! (from ! (fld ! refl (stop !))) (look-in ! 10 (sub ! 1 refl (at-local ! 2 refl tt))))) (from ! (stop !)) (puts ! 10 8 refl refl tt (tt, record { fits = g-seats .0 })) $
+        assigns ! (of-opd ! (load ! (from ! (hop ! (look-in ! 10 (at-local ! 1 refl tt)) (stop !))) (look-raw ! 0 refl))) (from ! (stop !)) (puts ! 10 10 refl refl tt (LL.lawful T-Head.the-type L-Head.the-laws 𝓤 H A W .typed head _ was-head .0)) $
+        assigns ! (addr ! (from ! (fld ! refl (hop ! (look-in ! 10 (sub ! 0 refl (at-local ! 3 refl tt))) (stop !))))) (from ! (stop !)) (puts ! 10 11 refl refl tt (tt, tt)) $
+        assigns ! (agg ! (and-then ! (load ! (from ! (stop !)) (look-in ! 10 (at-local ! 11 refl tt))) (and-then ! (load ! (from ! (fld ! refl (stop !))) (look-in ! 10 (sub ! 1 refl (at-local ! 3 refl tt)))) (no-more !)))) (from ! (stop !)) (puts ! 10 12 refl refl tt (tt, (tt, (record { fits = g-rows .0 }, tt)))) $
+        assigns ! (addr ! (from ! (fld ! refl (hop ! (look-in ! 10 (sub ! 0 refl (at-local ! 4 refl tt))) (stop !))))) (from ! (stop !)) (puts ! 10 13 refl refl tt (tt, tt)) $
+        assigns ! (agg ! (and-then ! (load ! (from ! (stop !)) (look-in ! 10 (at-local ! 13 refl tt))) (and-then ! (load ! (from ! (fld ! refl (stop !))) (look-in ! 10 (sub ! 1 refl (at-local ! 4 refl tt)))) (no-more !)))) (from ! (stop !)) (puts ! 10 14 refl refl tt (tt, (tt, (record { fits = g-holders .0 }, tt)))) $
         -- the call of `start_step`
-        lft-new ! tt (λ ν1-rows. rewrite ! 6 (λ (m : ℕ). ‵ (MutSlice (named 2) κ2 u8 .own (record { ptr = (b2, o2); name = γ2; now = rows }) (sliceVal (b2, o2) m ∷ []))) (sym (refl)) refl $ move ! (6 ∷ 9 ∷ []) $
+        lft-new ! tt (λ ν1-rows. move ! (6 ∷ 9 ∷ []) $
         use2 W (later (some (λ (δ1-rows : GName). ‵ (MutSlice (named 0) (ν1-rows ∷ []) u8 .own (record { ptr = (b2, o2); name = δ1-rows; now = rows }) (sliceVal (b2, o2) (length rows) ∷ [])) ⊛ ‵ (LentAgain u8 κ2 (ν1-rows ∷ []) q2 γ2 b2 o2 δ1-rows rows)))) (lends-again u8 κ2 (ν1-rows ∷ []) q2 γ2 b2 o2 𝓤 H A W (named 2) (named 0) rows) $
-        await ! tt $ pick ! (λ δ1-rows. split ! $ rewrite ! 0 (λ (m : ℕ). ‵ (MutSlice (named 0) (ν1-rows ∷ []) u8 .own (record { ptr = (b2, o2); name = δ1-rows; now = rows }) (sliceVal (b2, o2) m ∷ []))) (refl) refl $
-        lft-new ! tt (λ ν1-holders. rewrite ! 8 (λ (m : ℕ). ‵ (MutSlice (named 3) κ3 u16 .own (record { ptr = (b3, o3); name = γ3; now = holders }) (sliceVal (b3, o3) m ∷ []))) (sym (refl)) refl $ move ! (8 ∷ 10 ∷ []) $
+        await ! tt $ pick ! (λ δ1-rows. split ! $ lft-new ! tt (λ ν1-holders. move ! (8 ∷ 10 ∷ []) $
         use2 W (later (some (λ (δ1-holders : GName). ‵ (MutSlice (named 1) (ν1-holders ∷ []) u16 .own (record { ptr = (b3, o3); name = δ1-holders; now = holders }) (sliceVal (b3, o3) (length holders) ∷ [])) ⊛ ‵ (LentAgain u16 κ3 (ν1-holders ∷ []) q3 γ3 b3 o3 δ1-holders holders)))) (lends-again u16 κ3 (ν1-holders ∷ []) q3 γ3 b3 o3 𝓤 H A W (named 3) (named 1) holders) $
-        await ! tt $ pick ! (λ δ1-holders. split ! $ rewrite ! 0 (λ (m : ℕ). ‵ (MutSlice (named 1) (ν1-holders ∷ []) u16 .own (record { ptr = (b3, o3); name = δ1-holders; now = holders }) (sliceVal (b3, o3) m ∷ []))) (refl) refl $
-        move ! (3 ∷ 0 ∷ []) $ join ! $ move ! (2 ∷ 0 ∷ []) $ join ! $ move ! (3 ∷ 0 ∷ []) $ join ! $
+        await ! tt $ pick ! (λ δ1-holders. split ! $ move ! (3 ∷ 0 ∷ []) $ join ! $ move ! (2 ∷ 0 ∷ []) $ join ! $ move ! (3 ∷ 0 ∷ []) $ join ! $
         use1 W (raw (K0 𝓤 H A mem run .pre (((((ν1-rows ∷ []), ((ν1-holders ∷ []), tt))), ((fullShare, (fullShare, tt))), tt, ((head, (pieces, (lengths, (last, ((length seats), (record { ptr = (b2, o2); name = δ1-rows; now = rows }, (record { ptr = (b3, o3); name = δ1-holders; now = holders }, tt)))))))), ((L-Head.lowered head ∷ [], (vint w32 pieces ∷ [], (vint w32 lengths ∷ [], (vint w32 last ∷ [], (vint w64 (length seats) ∷ [], (sliceVal (b2, o2) (length rows) ∷ [], (sliceVal (b3, o3) (length holders) ∷ [], tt))))))))), tt))) (qed W (‵ (flft (ν1-rows ∷ []) fullShare) ∷ ‵ (flft (ν1-holders ∷ []) fullShare) ∷ ‵ (MutSlice (named 0) (ν1-rows ∷ []) u8 .own (record { ptr = (b2, o2); name = δ1-rows; now = rows }) (sliceVal (b2, o2) (length rows) ∷ [])) ∷ ‵ (MutSlice (named 1) (ν1-holders ∷ []) u16 .own (record { ptr = (b3, o3); name = δ1-holders; now = holders }) (sliceVal (b3, o3) (length holders) ∷ [])) ∷ []) ∵ nothing ! $ move ! (2 ∷ 0 ∷ []) $ join ! $ move ! (1 ∷ 0 ∷ []) $ join ! $ nothing ! $ move ! (3 ∷ 0 ∷ []) $ fjoin ! $ move ! (2 ∷ 0 ∷ []) $ fjoin ! $ owned ! usize (Is usize) (uint-makes 𝓤 H A W w64) (length seats) (vint w64 (length seats) ∷ []) (refl, g-seats .0) $ fjoin ! $ owned ! u32 (Is u32) (uint-makes 𝓤 H A W w32) last (vint w32 last ∷ []) g-last $ fjoin ! $ owned ! u32 (Is u32) (uint-makes 𝓤 H A W w32) lengths (vint w32 lengths ∷ []) g-lengths $ fjoin ! $ owned ! u32 (Is u32) (uint-makes 𝓤 H A W w32) pieces (vint w32 pieces ∷ []) g-pieces $ fjoin ! $ owned ! R-Head (Is R-Head) (LL.makes T-Head.the-type L-Head.the-plain 𝓤 H A) head (L-Head.lowered head ∷ []) was-head $ fjoin ! $ move ! (1 ∷ 0 ∷ []) $ join ! $ frame ! $ done !) $
-        calls-at ! fm (K0 𝓤 H A mem run) k0 (((((ν1-rows ∷ []), ((ν1-holders ∷ []), tt))), ((fullShare, (fullShare, tt))), tt, ((head, (pieces, (lengths, (last, ((length seats), (record { ptr = (b2, o2); name = δ1-rows; now = rows }, (record { ptr = (b3, o3); name = δ1-holders; now = holders }, tt)))))))), ((L-Head.lowered head ∷ [], (vint w32 pieces ∷ [], (vint w32 lengths ∷ [], (vint w32 last ∷ [], (vint w64 (length seats) ∷ [], (sliceVal (b2, o2) (length rows) ∷ [], (sliceVal (b3, o3) (length holders) ∷ [], tt))))))))), tt) (and-then ! (load ! (from ! (stop !)) (look ! 23 refl)) (and-then ! (load ! (from ! (stop !)) (look ! 33 refl)) (and-then ! (load ! (from ! (stop !)) (look ! 31 refl)) (and-then ! (load ! (from ! (stop !)) (look ! 29 refl)) (and-then ! (load ! (from ! (stop !)) (look ! 27 refl)) (and-then ! (load ! (from ! (stop !)) (look ! 19 refl)) (and-then ! (load ! (from ! (stop !)) (look ! 15 refl)) (no-more !)))))))) (λ v1.
+        calls-at ! fm (K0 𝓤 H A mem run) k0 (((((ν1-rows ∷ []), ((ν1-holders ∷ []), tt))), ((fullShare, (fullShare, tt))), tt, ((head, (pieces, (lengths, (last, ((length seats), (record { ptr = (b2, o2); name = δ1-rows; now = rows }, (record { ptr = (b3, o3); name = δ1-holders; now = holders }, tt)))))))), ((L-Head.lowered head ∷ [], (vint w32 pieces ∷ [], (vint w32 lengths ∷ [], (vint w32 last ∷ [], (vint w64 (length seats) ∷ [], (sliceVal (b2, o2) (length rows) ∷ [], (sliceVal (b3, o3) (length holders) ∷ [], tt))))))))), tt) (and-then ! (load ! (from ! (stop !)) (look-in ! 9 (at-local ! 10 refl tt))) (and-then ! (load ! (from ! (stop !)) (look-in ! 9 (at-local ! 5 refl tt))) (and-then ! (load ! (from ! (stop !)) (look-in ! 9 (at-local ! 6 refl tt))) (and-then ! (load ! (from ! (stop !)) (look-in ! 9 (at-local ! 7 refl tt))) (and-then ! (load ! (from ! (stop !)) (look-in ! 9 (at-local ! 8 refl tt))) (and-then ! (load ! (from ! (stop !)) (look-in ! 9 (at-local ! 12 refl tt))) (and-then ! (load ! (from ! (stop !)) (look-in ! 9 (at-local ! 14 refl tt))) (no-more !)))))))) (λ v1.
         use1 W (later (some (λ (r1 : Begun). ((‵ (flft (ν1-rows ∷ []) fullShare) ⊛ ‵ (flft (ν1-holders ∷ []) fullShare) ⊛ ‵ ftrue) ⊛ ‵ (R-Begun .own r1 (v1 ∷ []))) ⊛ raw (ensured 𝓤 H A c0.ended (c0.clauses 𝓤 H A mem run) (((ν1-rows ∷ []), ((ν1-holders ∷ []), tt))) ((head, (pieces, (lengths, (last, ((length seats), (record { ptr = (b2, o2); name = δ1-rows; now = rows }, (record { ptr = (b3, o3); name = δ1-holders; now = holders }, tt)))))))) tt r1)))) (id⊢ 𝓤 _) $
         await ! tt $ pick ! (λ r1. split ! $ move ! (1 ∷ []) $
         use1 W (some (λ (z1 : Lasts c0.ended (((ν1-rows ∷ []), ((ν1-holders ∷ []), tt))) ((head, (pieces, (lengths, (last, ((length seats), (record { ptr = (b2, o2); name = δ1-rows; now = rows }, (record { ptr = (b3, o3); name = δ1-holders; now = holders }, tt))))))))). ‵ (lasts c0.ended (((ν1-rows ∷ []), ((ν1-holders ∷ []), tt))) ((head, (pieces, (lengths, (last, ((length seats), (record { ptr = (b2, o2); name = δ1-rows; now = rows }, (record { ptr = (b3, o3); name = δ1-holders; now = holders }, tt)))))))) z1) ⊛ (raw (fact 𝓤 ((ss : List Seat) → length ss ≡ (length seats) → begun r1 ss (z1 .1 .1 .1 .1 .1 .0) (z1 .1 .1 .1 .1 .1 .1 .0) ≡ startOf pieces lengths last (yardOf head ss rows holders))) ⊛ raw (fact 𝓤 (r1 .clear ≡ sizesFit (emptyHead pieces lengths last) (length seats) (length rows) (length holders)))))) (id⊢ 𝓤 _) $
@@ -165,39 +162,33 @@ module _ {M : Type 1} (𝓤 : URA M) (H : Heap 𝓤) (A : Atoms 𝓤) (W : Given
         heard ! (r1 .clear ≡ sizesFit (emptyHead pieces lengths last) (length seats) (length rows) (length holders)) (λ e1a. fsplit ! $ drop ! $ fsplit ! $ drop ! $ fsplit ! $ drop ! $ fsplit ! $ drop ! $ fsplit ! $ drop ! $ fsplit ! $
         fsplit ! $ move ! (1 ∷ []) $ feqL ! (λ n1-rows. move ! (1 ∷ []) $ fsplit ! $ fsplit ! $ move ! (1 ∷ []) $ feqL ! (λ n1-holders. move ! (1 ∷ []) $ drop ! $ move ! (2 ∷ []) $ split ! $ split ! $ move ! (1 ∷ []) $ split ! $
         move ! (1 ∷ []) $ drop ! $ move ! (2 ∷ []) $ peeks ! R-Begun (Is R-Begun) (shows 𝓤 H A R-Begun) r1 (v1 ∷ []) (λ is1. drop ! $
-        land ! (from ! (stop !)) (init ! 28 refl (LL.lawful T-Begun.the-type L-Begun.the-laws 𝓤 H A W .typed r1 _ is1 .0)) $
-        rewrite ! 28 (λ (u : Val). ‵ (fat fullShare L-Begun.mir l9 0 u)) (ap only (L-Begun.lowers .val-is r1 _ is1)) refl $ move ! (1 ∷ []) $ lft-end ! tt $ move ! (0 ∷ 5 ∷ 3 ∷ []) $
-        use3 W (later (‵ (MutSlice (named 2) κ2 u8 .own (record { ptr = (b2, o2); name = γ2; now = z1 .1 .1 .1 .1 .1 .0 }) (sliceVal (b2, o2) (length rows) ∷ [])) ⊛ ‵ (flft κ2 q2))) (comes-back u8 κ2 (ν1-rows ∷ []) q2 γ2 b2 o2 𝓤 H A W (named 2) (named 0) rows δ1-rows (z1 .1 .1 .1 .1 .1 .0) (subst (Room u8) (sym (refl)) g-rows) n1-rows) $
-        await ! tt $ split ! $ rewrite ! 0 (λ (m : ℕ). ‵ (MutSlice (named 2) κ2 u8 .own (record { ptr = (b2, o2); name = γ2; now = z1 .1 .1 .1 .1 .1 .0 }) (sliceVal (b2, o2) m ∷ []))) (refl) refl $ move ! (2 ∷ []) $ lft-end ! tt $
-        move ! (0 ∷ 4 ∷ 3 ∷ []) $
-        use3 W (later (‵ (MutSlice (named 3) κ3 u16 .own (record { ptr = (b3, o3); name = γ3; now = z1 .1 .1 .1 .1 .1 .1 .0 }) (sliceVal (b3, o3) (length holders) ∷ [])) ⊛ ‵ (flft κ3 q3))) (comes-back u16 κ3 (ν1-holders ∷ []) q3 γ3 b3 o3 𝓤 H A W (named 3) (named 1) holders δ1-holders (z1 .1 .1 .1 .1 .1 .1 .0) (subst (Room u16) (sym (refl)) g-holders) n1-holders) $
-        await ! tt $ split ! $ rewrite ! 0 (λ (m : ℕ). ‵ (MutSlice (named 3) κ3 u16 .own (record { ptr = (b3, o3); name = γ3; now = z1 .1 .1 .1 .1 .1 .1 .0 }) (sliceVal (b3, o3) m ∷ []))) (refl) refl $
-        assigns ! (addr ! (from ! (fld ! refl (hop ! (look-in ! 40 (sub ! 0 refl (whole !))) (stop !))))) (from ! (stop !)) (init ! 12 refl (tt, tt)) $
-        assigns ! (agg ! (and-then ! (load ! (from ! (stop !)) (look ! 12 refl)) (and-then ! (load ! (from ! (fld ! refl (stop !))) (look-in ! 40 (sub ! 1 refl (whole !)))) (no-more !)))) (from ! (stop !)) (init ! 10 refl (tt, (tt, (record { fits = g-seats .0 }, tt)))) $
+        land ! (from ! (stop !)) (puts ! 12 9 refl refl tt (LL.lawful T-Begun.the-type L-Begun.the-laws 𝓤 H A W .typed r1 _ is1 .0)) $ respells ! 12 9 refl refl (ap only (L-Begun.lowers .val-is r1 _ is1)) $ move ! (1 ∷ []) $ lft-end ! tt $
+        move ! (0 ∷ 5 ∷ 3 ∷ []) $
+        use3 W (later (‵ (MutSlice (named 2) κ2 u8 .own (record { ptr = (b2, o2); name = γ2; now = z1 .1 .1 .1 .1 .1 .0 }) (sliceVal (b2, o2) (length rows) ∷ [])) ⊛ ‵ (flft κ2 q2))) (comes-back u8 κ2 (ν1-rows ∷ []) q2 γ2 b2 o2 𝓤 H A W (named 2) (named 0) rows δ1-rows (z1 .1 .1 .1 .1 .1 .0) g-rows n1-rows) $
+        await ! tt $ split ! $ move ! (2 ∷ []) $ lft-end ! tt $ move ! (0 ∷ 4 ∷ 3 ∷ []) $
+        use3 W (later (‵ (MutSlice (named 3) κ3 u16 .own (record { ptr = (b3, o3); name = γ3; now = z1 .1 .1 .1 .1 .1 .1 .0 }) (sliceVal (b3, o3) (length holders) ∷ [])) ⊛ ‵ (flft κ3 q3))) (comes-back u16 κ3 (ν1-holders ∷ []) q3 γ3 b3 o3 𝓤 H A W (named 3) (named 1) holders δ1-holders (z1 .1 .1 .1 .1 .1 .1 .0) g-holders n1-holders) $
+        await ! tt $ split ! $ assigns ! (addr ! (from ! (fld ! refl (hop ! (look-in ! 10 (sub ! 0 refl (at-local ! 2 refl tt))) (stop !))))) (from ! (stop !)) (puts ! 10 16 refl refl tt (tt, tt)) $
+        assigns ! (agg ! (and-then ! (load ! (from ! (stop !)) (look-in ! 10 (at-local ! 16 refl tt))) (and-then ! (load ! (from ! (fld ! refl (stop !))) (look-in ! 10 (sub ! 1 refl (at-local ! 2 refl tt)))) (no-more !)))) (from ! (stop !)) (puts ! 10 17 refl refl tt (tt, (tt, (record { fits = g-seats .0 }, tt)))) $
         -- the call of `clear_seats`
-        lft-new ! tt (λ ν2-seats. rewrite ! 9 (λ (m : ℕ). ‵ (MutSlice (named 1) κ1 R-Seat .own (record { ptr = (b1, o1); name = γ1; now = seats }) (sliceVal (b1, o1) m ∷ []))) (sym (refl)) refl $ move ! (9 ∷ 10 ∷ []) $
+        lft-new ! tt (λ ν2-seats. move ! (9 ∷ 10 ∷ []) $
         use2 W (later (some (λ (δ2-seats : GName). ‵ (MutSlice (named 0) (ν2-seats ∷ []) R-Seat .own (record { ptr = (b1, o1); name = δ2-seats; now = seats }) (sliceVal (b1, o1) (length seats) ∷ [])) ⊛ ‵ (LentAgain R-Seat κ1 (ν2-seats ∷ []) q1 γ1 b1 o1 δ2-seats seats)))) (lends-again R-Seat κ1 (ν2-seats ∷ []) q1 γ1 b1 o1 𝓤 H A W (named 1) (named 0) seats) $
-        await ! tt $ pick ! (λ δ2-seats. split ! $ rewrite ! 0 (λ (m : ℕ). ‵ (MutSlice (named 0) (ν2-seats ∷ []) R-Seat .own (record { ptr = (b1, o1); name = δ2-seats; now = seats }) (sliceVal (b1, o1) m ∷ []))) (refl) refl $
-        move ! (2 ∷ 0 ∷ []) $
+        await ! tt $ pick ! (λ δ2-seats. split ! $ move ! (2 ∷ 0 ∷ []) $
         use2 W (raw (K1 𝓤 H A mem run .pre (((((ν2-seats ∷ []), tt)), ((fullShare, tt)), tt, ((record { ptr = (b1, o1); name = δ2-seats; now = seats }, (r1 .clear, tt))), ((sliceVal (b1, o1) (length seats) ∷ [], (vbool (r1 .clear) ∷ [], tt)))), tt))) (qed W (‵ (flft (ν2-seats ∷ []) fullShare) ∷ ‵ (MutSlice (named 0) (ν2-seats ∷ []) R-Seat .own (record { ptr = (b1, o1); name = δ2-seats; now = seats }) (sliceVal (b1, o1) (length seats) ∷ [])) ∷ []) ∵ nothing ! $ move ! (1 ∷ 0 ∷ []) $ join ! $ nothing ! $ owned ! Boolean (Is Boolean) (bool-makes 𝓤 H A W) (r1 .clear) (vbool (r1 .clear) ∷ []) (parts-Begun r1 _ (subst (Is R-Begun r1) (L-Begun.lowers .val-is r1 _ is1) is1) .1 .0) $ fjoin ! $ move ! (2 ∷ 0 ∷ []) $ fjoin ! $ move ! (1 ∷ 0 ∷ []) $ join ! $ frame ! $ done !) $
-        calls-at ! fm (K1 𝓤 H A mem run) k1 (((((ν2-seats ∷ []), tt)), ((fullShare, tt)), tt, ((record { ptr = (b1, o1); name = δ2-seats; now = seats }, (r1 .clear, tt))), ((sliceVal (b1, o1) (length seats) ∷ [], (vbool (r1 .clear) ∷ [], tt)))), tt) (and-then ! (load ! (from ! (stop !)) (look ! 10 refl)) (and-then ! (load ! (from ! (fld ! refl (stop !))) (look-in ! 26 (sub ! 1 refl (whole !)))) (no-more !))) (λ v2.
+        calls-at ! fm (K1 𝓤 H A mem run) k1 (((((ν2-seats ∷ []), tt)), ((fullShare, tt)), tt, ((record { ptr = (b1, o1); name = δ2-seats; now = seats }, (r1 .clear, tt))), ((sliceVal (b1, o1) (length seats) ∷ [], (vbool (r1 .clear) ∷ [], tt)))), tt) (and-then ! (load ! (from ! (stop !)) (look-in ! 10 (at-local ! 17 refl tt))) (and-then ! (load ! (from ! (fld ! refl (stop !))) (look-in ! 10 (sub ! 1 refl (at-local ! 9 refl tt)))) (no-more !))) (λ v2.
         use1 W (later (some (λ (r2 : Unit {0}). ((‵ (flft (ν2-seats ∷ []) fullShare) ⊛ ‵ ftrue) ⊛ ‵ (Nothing .own r2 (v2 ∷ []))) ⊛ raw (ensured 𝓤 H A c1.ended (c1.clauses 𝓤 H A mem run) (((ν2-seats ∷ []), tt)) ((record { ptr = (b1, o1); name = δ2-seats; now = seats }, (r1 .clear, tt))) tt r2)))) (id⊢ 𝓤 _) $
         await ! tt $ pick ! (λ r2. split ! $ move ! (1 ∷ []) $
         use1 W (some (λ (z2 : Lasts c1.ended (((ν2-seats ∷ []), tt)) ((record { ptr = (b1, o1); name = δ2-seats; now = seats }, (r1 .clear, tt)))). ‵ (lasts c1.ended (((ν2-seats ∷ []), tt)) ((record { ptr = (b1, o1); name = δ2-seats; now = seats }, (r1 .clear, tt))) z2) ⊛ (raw (fact 𝓤 (z2 .0 ≡ cond (r1 .clear) (replicate (length seats) cleared) seats))))) (id⊢ 𝓤 _) $
         pick ! (λ z2. split ! $ move ! (1 ∷ []) $ heard ! (z2 .0 ≡ cond (r1 .clear) (replicate (length seats) cleared) seats) (λ e2. fsplit ! $ fsplit ! $ move ! (1 ∷ []) $ feqL ! (λ n2-seats. move ! (1 ∷ []) $ fsplit ! $ drop ! $ drop ! $
         move ! (1 ∷ []) $ split ! $ split ! $ move ! (1 ∷ []) $ drop ! $ move ! (1 ∷ []) $ peeks ! Nothing (Is Nothing) (shows 𝓤 H A Nothing) r2 (v2 ∷ []) (λ is2. drop ! $
-        land ! (from ! (stop !)) (init ! 15 refl (nothing-lawful 𝓤 H A W .typed r2 _ is2 .0)) $ rewrite ! 15 (λ (u : Val). ‵ (fat fullShare tyUnit l15 0 u)) (ap only is2) refl $ lft-end ! tt $ move ! (0 ∷ 2 ∷ 1 ∷ []) $
-        use3 W (later (‵ (MutSlice (named 1) κ1 R-Seat .own (record { ptr = (b1, o1); name = γ1; now = z2 .0 }) (sliceVal (b1, o1) (length seats) ∷ [])) ⊛ ‵ (flft κ1 q1))) (comes-back R-Seat κ1 (ν2-seats ∷ []) q1 γ1 b1 o1 𝓤 H A W (named 1) (named 0) seats δ2-seats (z2 .0) (subst (Room R-Seat) (sym (refl)) g-seats) n2-seats) $
-        await ! tt $ split ! $ rewrite ! 0 (λ (m : ℕ). ‵ (MutSlice (named 1) κ1 R-Seat .own (record { ptr = (b1, o1); name = γ1; now = z2 .0 }) (sliceVal (b1, o1) m ∷ []))) (refl) refl $
-        assigns ! (of-opd ! (load ! (from ! (fld ! refl (stop !))) (look-in ! 26 (sub ! 0 refl (whole !))))) (from ! (hop ! (look ! 42 refl) (stop !))) (store-raw ! 6 refl (LL.lawful T-Head.the-type L-Head.the-laws 𝓤 H A W .typed (r1 .head) _ (parts-Begun r1 _ (subst (Is R-Begun r1) (L-Begun.lowers .val-is r1 _ is1) is1) .0) .0)) $
-        assigns ! (of-opd ! (load ! (from ! (fld ! refl (stop !))) (look-in ! 26 (sub ! 2 refl (whole !))))) (from ! (stop !)) (init ! 44 refl (EL.lawful T-Answer.the-type L-Answer.the-laws 𝓤 H A W tt .typed (r1 .answer) _ (parts-Begun r1 _ (subst (Is R-Begun r1) (L-Begun.lowers .val-is r1 _ is1) is1) .1 .1 .0) .0)) $
+        land ! (from ! (stop !)) (puts ! 11 15 refl refl tt (nothing-lawful 𝓤 H A W .typed r2 _ is2 .0)) $ respells ! 11 15 refl refl (ap only is2) $ lft-end ! tt $ move ! (0 ∷ 2 ∷ 1 ∷ []) $
+        use3 W (later (‵ (MutSlice (named 1) κ1 R-Seat .own (record { ptr = (b1, o1); name = γ1; now = z2 .0 }) (sliceVal (b1, o1) (length seats) ∷ [])) ⊛ ‵ (flft κ1 q1))) (comes-back R-Seat κ1 (ν2-seats ∷ []) q1 γ1 b1 o1 𝓤 H A W (named 1) (named 0) seats δ2-seats (z2 .0) g-seats n2-seats) $
+        await ! tt $ split ! $
+        assigns ! (of-opd ! (load ! (from ! (fld ! refl (stop !))) (look-in ! 10 (sub ! 0 refl (at-local ! 9 refl tt))))) (from ! (hop ! (look-in ! 10 (at-local ! 1 refl tt)) (stop !))) (store-raw ! 6 refl (LL.lawful T-Head.the-type L-Head.the-laws 𝓤 H A W .typed (r1 .head) _ (parts-Begun r1 _ (subst (Is R-Begun r1) (L-Begun.lowers .val-is r1 _ is1) is1) .0) .0)) $
+        assigns ! (of-opd ! (load ! (from ! (fld ! refl (stop !))) (look-in ! 10 (sub ! 2 refl (at-local ! 9 refl tt))))) (from ! (stop !)) (puts ! 10 0 refl refl tt (EL.lawful T-Answer.the-type L-Answer.the-laws 𝓤 H A W tt .typed (r1 .answer) _ (parts-Begun r1 _ (subst (Is R-Begun r1) (L-Begun.lowers .val-is r1 _ is1) is1) .1 .1 .0) .0)) $
         owned ! R-Head (Is R-Head) (LL.makes T-Head.the-type L-Head.the-plain 𝓤 H A) (r1 .head) (L-Head.lowered (r1 .head) ∷ []) (parts-Begun r1 _ (subst (Is R-Begun r1) (L-Begun.lowers .val-is r1 _ is1) is1) .0) $
-        move ! (7 ∷ 0 ∷ 8 ∷ 9 ∷ 10 ∷ []) $ closes ! tt R-Head (r1 .head) (L-Head.lowered (r1 .head) ∷ []) b0 o0 $ returns ! (look ! 43 refl) $
-        forget ! 43 refl $ forget ! 41 refl $ forget ! 39 refl $ forget ! 37 refl $ forget ! 35 refl $ forget ! 33 refl $ forget ! 31 refl $ forget ! 29 refl $ forget ! 27 refl $ forget ! 25 refl $ forget ! 23 refl $ forget ! 21 refl $ forget ! 19 refl $ forget ! 17 refl $ forget ! 15 refl $ forget ! 13 refl $ forget ! 11 refl $ forget ! 9 refl $
-        move ! (43 ∷ 44 ∷ []) $ free1 ! $ move ! (41 ∷ 42 ∷ []) $ free1 ! $ move ! (39 ∷ 40 ∷ []) $ free1 ! $ move ! (37 ∷ 38 ∷ []) $ free1 ! $ move ! (35 ∷ 36 ∷ []) $ free1 ! $ move ! (33 ∷ 34 ∷ []) $ free1 ! $ move ! (31 ∷ 32 ∷ []) $
-        free1 ! $ move ! (29 ∷ 30 ∷ []) $ free1 ! $ move ! (27 ∷ 28 ∷ []) $ free1 ! $ move ! (25 ∷ 26 ∷ []) $ free1 ! $ move ! (23 ∷ 24 ∷ []) $ free1 ! $ move ! (21 ∷ 22 ∷ []) $ free1 ! $ move ! (19 ∷ 20 ∷ []) $ free1 ! $
-        move ! (17 ∷ 18 ∷ []) $ free1 ! $ move ! (15 ∷ 16 ∷ []) $ free1 ! $ move ! (13 ∷ 14 ∷ []) $ free1 ! $ move ! (11 ∷ 12 ∷ []) $ free1 ! $ move ! (9 ∷ 10 ∷ []) $ free1 ! $ free0 ! $ keep ! (2 ∷ 4 ∷ 8 ∷ 6 ∷ 0 ∷ 1 ∷ 3 ∷ 7 ∷ 5 ∷ []) $
-        by ! (qed W (‵ (flft κ0 q0) ∷ ‵ (flft κ1 q1) ∷ ‵ (flft κ2 q2) ∷ ‵ (flft κ3 q3) ∷ ‵ (fobs γ0 (R-Head .coded .code (r1 .head))) ∷ ‵ (fbor κ0 (Body (memOf R-Head) b0 o0 γ0)) ∷ ‵ (MutSlice (named 1) κ1 R-Seat .own (record { ptr = (b1, o1); name = γ1; now = (z2 .0) }) (sliceVal (b1, o1) (length seats) ∷ [])) ∷ ‵ (MutSlice (named 2) κ2 u8 .own (record { ptr = (b2, o2); name = γ2; now = (z1 .1 .1 .1 .1 .1 .0) }) (sliceVal (b2, o2) (length rows) ∷ [])) ∷ ‵ (MutSlice (named 3) κ3 u16 .own (record { ptr = (b3, o3); name = γ3; now = (z1 .1 .1 .1 .1 .1 .1 .0) }) (sliceVal (b3, o3) (length holders) ∷ [])) ∷ []) ∵ suffices ! _ (ends-at 𝓤 H A f.ended stayed (f.clauses 𝓤 H A mem run) W bound (L-Answer.lowered (r1 .answer)) (r1 .answer) ((r1 .head), ((z2 .0), ((z1 .1 .1 .1 .1 .1 .0), ((z1 .1 .1 .1 .1 .1 .1 .0), (tt, (tt, (tt, tt))))))) (tt, ((n2-seats), ((n1-rows), ((n1-holders), (tt, (tt, (tt, tt)))))))) $ says ! (start-is head seats rows holders pieces lengths last r1 (z2 .0) (z1 .1 .1 .1 .1 .1 .0) (z1 .1 .1 .1 .1 .1 .1 .0) (e1 seats refl) e2) $ move ! (4 ∷ 5 ∷ []) $ feqI ! (List Val) (vptr b0 o0 ∷ []) (vptr b0 o0 ∷ []) refl $ fjoin3 ! $ nothing ! $ move ! (5 ∷ 0 ∷ []) $ join ! $ move ! (4 ∷ 0 ∷ []) $ join ! $ move ! (3 ∷ 0 ∷ []) $ join ! $ move ! (2 ∷ 0 ∷ []) $ join ! $ nothing ! $ owned ! u32 (Is u32) (uint-makes 𝓤 H A W w32) last (vint w32 last ∷ []) g-last $ fjoin ! $ owned ! u32 (Is u32) (uint-makes 𝓤 H A W w32) lengths (vint w32 lengths ∷ []) g-lengths $ fjoin ! $ owned ! u32 (Is u32) (uint-makes 𝓤 H A W w32) pieces (vint w32 pieces ∷ []) g-pieces $ fjoin ! $ move ! (5 ∷ 0 ∷ []) $ fjoin ! $ move ! (4 ∷ 0 ∷ []) $ fjoin ! $ move ! (3 ∷ 0 ∷ []) $ fjoin ! $ move ! (2 ∷ 0 ∷ []) $ fjoin ! $ move ! (1 ∷ 0 ∷ []) $ frame ! $ frame ! $ owned ! R-Answer (Is R-Answer) (EL.makes T-Answer.the-type L-Answer.the-plain 𝓤 H A) (r1 .answer) (L-Answer.lowered (r1 .answer) ∷ []) (parts-Begun r1 _ (subst (Is R-Begun r1) (L-Begun.lowers .val-is r1 _ is1) is1) .1 .1 .0) $ done !)))))))))))))))))))))))))))))))))))))))))
+        move ! (7 ∷ 0 ∷ 8 ∷ 9 ∷ 10 ∷ []) $ closes ! tt R-Head (r1 .head) (L-Head.lowered (r1 .head) ∷ []) b0 o0 $ returns ! (look-in ! 9 (at-local ! 0 refl tt)) $ move ! (9 ∷ []) $ frees-all ! $
+        keep ! (2 ∷ 4 ∷ 8 ∷ 6 ∷ 0 ∷ 1 ∷ 3 ∷ 7 ∷ 5 ∷ []) $
+        by ! (qed W (‵ (flft κ0 q0) ∷ ‵ (flft κ1 q1) ∷ ‵ (flft κ2 q2) ∷ ‵ (flft κ3 q3) ∷ ‵ (fobs γ0 (R-Head .coded .code (r1 .head))) ∷ ‵ (fbor κ0 (Body (memOf R-Head) b0 o0 γ0)) ∷ ‵ (MutSlice (named 1) κ1 R-Seat .own (record { ptr = (b1, o1); name = γ1; now = (z2 .0) }) (sliceVal (b1, o1) (length seats) ∷ [])) ∷ ‵ (MutSlice (named 2) κ2 u8 .own (record { ptr = (b2, o2); name = γ2; now = (z1 .1 .1 .1 .1 .1 .0) }) (sliceVal (b2, o2) (length rows) ∷ [])) ∷ ‵ (MutSlice (named 3) κ3 u16 .own (record { ptr = (b3, o3); name = γ3; now = (z1 .1 .1 .1 .1 .1 .1 .0) }) (sliceVal (b3, o3) (length holders) ∷ [])) ∷ []) ∵ suffices ! _ (ends-at 𝓤 H A f.ended stayed (f.clauses 𝓤 H A mem run) W bound (L-Answer.lowered (r1 .answer)) (r1 .answer) ((r1 .head), ((z2 .0), ((z1 .1 .1 .1 .1 .1 .0), ((z1 .1 .1 .1 .1 .1 .1 .0), (tt, (tt, (tt, tt))))))) (tt, ((n2-seats), ((n1-rows), ((n1-holders), (tt, (tt, (tt, tt)))))))) $ says ! (start-is head seats rows holders pieces lengths last r1 (z2 .0) (z1 .1 .1 .1 .1 .1 .0) (z1 .1 .1 .1 .1 .1 .1 .0) (e1 seats refl) e2) $ move ! (4 ∷ 5 ∷ []) $ feqI ! (List Val) (vptr b0 o0 ∷ []) (vptr b0 o0 ∷ []) refl $ fjoin3 ! $ nothing ! $ move ! (5 ∷ 0 ∷ []) $ join ! $ move ! (4 ∷ 0 ∷ []) $ join ! $ move ! (3 ∷ 0 ∷ []) $ join ! $ move ! (2 ∷ 0 ∷ []) $ join ! $ nothing ! $ owned ! u32 (Is u32) (uint-makes 𝓤 H A W w32) last (vint w32 last ∷ []) g-last $ fjoin ! $ owned ! u32 (Is u32) (uint-makes 𝓤 H A W w32) lengths (vint w32 lengths ∷ []) g-lengths $ fjoin ! $ owned ! u32 (Is u32) (uint-makes 𝓤 H A W w32) pieces (vint w32 pieces ∷ []) g-pieces $ fjoin ! $ move ! (5 ∷ 0 ∷ []) $ fjoin ! $ move ! (4 ∷ 0 ∷ []) $ fjoin ! $ move ! (3 ∷ 0 ∷ []) $ fjoin ! $ move ! (2 ∷ 0 ∷ []) $ fjoin ! $ move ! (1 ∷ 0 ∷ []) $ frame ! $ frame ! $ owned ! R-Answer (Is R-Answer) (EL.makes T-Answer.the-type L-Answer.the-plain 𝓤 H A) (r1 .answer) (L-Answer.lowered (r1 .answer) ∷ []) (parts-Begun r1 _ (subst (Is R-Begun r1) (L-Begun.lowers .val-is r1 _ is1) is1) .1 .1 .0) $ done !))))))))))))))))))))))))
 
 module _ {M : Type 1} (𝓤 : URA M) (H : Heap 𝓤) (A : Atoms 𝓤) (W : Given 𝓤 H A) (mem : Memory → SProp 𝓤) (run : Routine → Fun 𝓤) where
   f-walks : (C : Calls 𝓤 H) (Λ : Loops 𝓤 H) → FmC 𝓤 H (W .laws) C → Triple 𝓤 (C #seating·start-step) (K0 𝓤 H A mem run) → Triple 𝓤 (C #scans·clear-seats) (K1 𝓤 H A mem run) → Walks 𝓤 H A f.ended stayed (WpFn 𝓤 H C Λ code.function) (f.clauses 𝓤 H A mem run)
