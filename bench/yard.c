@@ -39,7 +39,7 @@ static bool no_room(const struct wardrail_head *h, const struct wardrail_seat *s
 }
 
 static void gain(struct wardrail_head *h, struct wardrail_seat *s, uint32_t n) {
-    s->held += n;
+    s->held = (uint16_t)(s->held + n);
     if (s->held == h->pieces) h->complete++;
 }
 

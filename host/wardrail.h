@@ -9,8 +9,8 @@
  * WHAT A CALLER OWES. A slice is a pointer and a count: the pointer is not null, also where the count is 0, is aligned for
  * its type, and that many elements are there. An array has as many elements as is written. What a call writes (not const)
  * overlaps nothing else that is passed to it. Nothing is asked of the content: any bytes and any numbers are answered.
- * Numbers are 64 bits wide, but pieces, offsets inside a piece and lengths of blocks 32, as on the wire: a larger number is
- * no such piece (31) or no such offset or length (34), and the caller says so before it calls.
+ * Numbers are 64 bits wide, but pieces, offsets inside a piece and lengths of blocks 32, as on the wire: for a larger number
+ * the caller passes 2^32 - 1, which is no such piece (31) and no such offset or length (34), in the order of checks.
  *
  * "Part" means two numbers, the offset of the first byte in the text and how many bytes there are. */
 #ifndef WARDRAIL_H

@@ -30,11 +30,11 @@ struct wardrail_seat {
     bool taken, fresh;                   /* fresh: its truck has not said anything yet */
     bool am_choking, am_interested;      /* our marks */
     bool peer_choking, peer_interested;  /* the truck's */
-    uint32_t held;                       /* how many pieces */
+    uint16_t held;                       /* how many pieces */
 };
 WARDRAIL_ASSERT(sizeof(bool) == 1, "a flag is a byte");
-WARDRAIL_ASSERT(sizeof(struct wardrail_seat) == 12, "six flags and a word");
-WARDRAIL_ASSERT(offsetof(struct wardrail_seat, held) == 8, "six flags and a word");
+WARDRAIL_ASSERT(sizeof(struct wardrail_seat) == 8, "six flags and a count, no padding");
+WARDRAIL_ASSERT(offsetof(struct wardrail_seat, held) == 6, "six flags and a count, no padding");
 
 /* What a call says beside its number. What it does not have is 0. */
 struct wardrail_told {
