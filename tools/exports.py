@@ -1,4 +1,4 @@
-"""Writes the walks of `wardrail`'s exports of the yard: each over the contract of `yard`'s own call.
+"""Writes the walks of `wardrail_yard`'s exports: each over the contract of `yard`'s own call.
 
 Run in the repository: python3 tools/exports.py [NAME ..].
 """
@@ -46,7 +46,7 @@ says = {}
 for name, (tables, more, words, told, written) in CALLS.items():
     changes = tables[0][1] == 'mslice'
     fns[f'yard::{name}'] = dict(params=[HEAD_MUT if changes else HEAD, *tables, *more], result='Answer', ensures=ensures(tables, words, written))
-    fns[f'wardrail::yards::wardrail_yard_{name}'] = dict(params=[HEAD_MUT, *tables, *more] + ([told] if told else []), result='u64')
+    fns[f'wardrail_yard::wardrail_yard_{name}'] = dict(params=[HEAD_MUT, *tables, *more] + ([told] if told else []), result='u64')
     whole, answer = ('Out', 'x .answer') if changes else ('Outcome Said', 'x')
     first = 'e1 .0' if written else 'e1'
     follows = lambda f: f"ap (λ (x : {whole}). {f}) ({first})"
@@ -65,4 +65,4 @@ use lib.Seq.{sets}
 owner = dict.fromkeys(['Head', 'Seat', 'Answer'], 'tables') | {'Told': 'telling'}
 structs = dict.fromkeys(['Head', 'Seat', 'Told'])
 for name in sys.argv[1:] or says:
-    Thin('wardrail', structs, {'Answer'}, fns, SPECS, owner, 'scans').gen(f'yards::wardrail_yard_{name}', says[name])
+    Thin('wardrail_yard', structs, {'Answer'}, fns, SPECS, owner, 'scans').gen(f'wardrail_yard_{name}', says[name])

@@ -1,4 +1,4 @@
-// The library that C links: each call answers a number, 0 for what is taken or else the refusal's, and leaves what else it says in what is lent.
+// Texts, frames and hashes for C: each call answers a number, 0 for what is taken or else the refusal's, and leaves what else it says in what is lent.
 ghost use Rattle.bencode.specs.Answers.{checkOf};
 ghost use Rattle.sha1.specs.Digest.{digestOf};
 ghost use Rattle.rows.specs.Said.{detailOf, Tells};
@@ -15,7 +15,6 @@ mod peers;
 mod replies;
 mod torrents;
 mod writers;
-mod yards;
 
 // Whether a text is one value that keeps the limits. `detail` becomes its count of values, or the refusal's place.
 #[no_mangle]

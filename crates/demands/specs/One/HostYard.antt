@@ -14,7 +14,7 @@ use Rattle.telling.specs.declared.Told.{Told}
 use Rattle.demands.specs.Cited.{same-tables, tables-kept, told-kept, shown-kept, put-kept, choke-speaks, interest-speaks, page-speaks}
 use Rattle.demands.specs.One.{Lent, now, Determined4, Keeps4, Determined5, Keeps5, Determined3, Keeps3, Determined2, Keeps2}
 
--- wardrail::yards::wardrail_yard_start
+-- wardrail_yard::wardrail_yard_start
 abbrev start-ensures : (pieces «piece_length» «last_length» : ℕ) → ℕ → Lent Head → Lent (List Seat) → Lent (List ℕ) → Lent (List ℕ) → Type 0
 start-ensures pieces «piece_length» «last_length» r head seats rows holders =
     Steps (step (Call.start pieces «piece_length» «last_length») (yardOf (now (head .entry)) (now (seats .entry)) (now (rows .entry)) (now (holders .entry)))) r (yardOf (now (head .exit)) (now (seats .exit)) (now (rows .exit)) (now (holders .exit)))
@@ -26,7 +26,7 @@ start-determined pieces «piece_length» «last_length» head seats rows holders
 pub start-keeps : (pieces «piece_length» «last_length» : ℕ) → Keeps4 (start-ensures pieces «piece_length» «last_length») (λ (r : ℕ). r ≡ 0 → ⊥)
 start-keeps pieces «piece_length» «last_length» r head seats rows holders e k = tables-kept (Call.start pieces «piece_length» «last_length») _ _ _ _ (e .0) k (e .1)
 
--- wardrail::yards::wardrail_yard_sit
+-- wardrail_yard::wardrail_yard_sit
 abbrev sit-ensures : (holders : Lent (List ℕ)) → ℕ → Lent Head → Lent (List Seat) → Lent (List ℕ) → Lent Told → Type 0
 sit-ensures holders r head seats rows told =
     Tells (step Call.sit (yardOf (now (head .entry)) (now (seats .entry)) (now (rows .entry)) (now (holders .entry)))) (now (told .entry)) r (now (told .exit)) (yardOf (now (head .exit)) (now (seats .exit)) (now (rows .exit)) (now (holders .entry)))
@@ -38,7 +38,7 @@ sit-determined holders head seats rows told r r′ head₁ head₂ seats₁ seat
 pub sit-keeps : (holders : Lent (List ℕ)) → Keeps4 (sit-ensures holders) (λ (r : ℕ). r ≡ 0 → ⊥)
 sit-keeps holders r head seats rows told e k = let t = tables-kept Call.sit _ _ _ _ (e .0) k (e .2) in (t .0, t .1, t .2, told-kept Call.sit _ _ _ _ (e .0) k (e .1))
 
--- wardrail::yards::wardrail_yard_leave
+-- wardrail_yard::wardrail_yard_leave
 abbrev leave-ensures : (seat : ℕ) → ℕ → Lent Head → Lent (List Seat) → Lent (List ℕ) → Lent (List ℕ) → Type 0
 leave-ensures seat r head seats rows holders =
     Steps (step (Call.leave seat) (yardOf (now (head .entry)) (now (seats .entry)) (now (rows .entry)) (now (holders .entry)))) r (yardOf (now (head .exit)) (now (seats .exit)) (now (rows .exit)) (now (holders .exit)))
@@ -50,7 +50,7 @@ leave-determined seat head seats rows holders r r′ head₁ head₂ seats₁ se
 pub leave-keeps : (seat : ℕ) → Keeps4 (leave-ensures seat) (λ (r : ℕ). r ≡ 0 → ⊥)
 leave-keeps seat r head seats rows holders e k = tables-kept (Call.leave seat) _ _ _ _ (e .0) k (e .1)
 
--- wardrail::yards::wardrail_yard_feed
+-- wardrail_yard::wardrail_yard_feed
 abbrev feed-ensures : (seat : ℕ) (bytes : Lent (List ℕ)) → ℕ → Lent Head → Lent (List Seat) → Lent (List ℕ) → Lent (List ℕ) → Lent Told → Type 0
 feed-ensures seat bytes r head seats rows holders told =
     Tells (step (Call.feed seat (now (bytes .entry))) (yardOf (now (head .entry)) (now (seats .entry)) (now (rows .entry)) (now (holders .entry)))) (now (told .entry)) r (now (told .exit)) (yardOf (now (head .exit)) (now (seats .exit)) (now (rows .exit)) (now (holders .exit)))
@@ -63,7 +63,7 @@ pub feed-keeps : (seat : ℕ) (bytes : Lent (List ℕ)) → Keeps5 (feed-ensures
 feed-keeps seat bytes r head seats rows holders told e k =
     let t = tables-kept (Call.feed seat (now (bytes .entry))) _ _ _ _ (e .0) k (e .2) in (t .0, t .1, t .2, t .3, told-kept (Call.feed seat (now (bytes .entry))) _ _ _ _ (e .0) k (e .1))
 
--- wardrail::yards::wardrail_yard_choke
+-- wardrail_yard::wardrail_yard_choke
 abbrev choke-ensures : (rows holders : Lent (List ℕ)) (seat : ℕ) (on : Bool) → ℕ → Lent Head → Lent (List Seat) → Lent (List ℕ) → Type 0
 choke-ensures rows holders seat on r head seats frame =
     (Steps (step (Call.choke seat on (length (now (frame .entry)))) (yardOf (now (head .entry)) (now (seats .entry)) (now (rows .entry)) (now (holders .entry)))) r (yardOf (now (head .exit)) (now (seats .exit)) (now (rows .entry)) (now (holders .entry)))) × (now (frame .exit) ≡ sets (now (frame .entry)) 0 (written (Call.choke seat on (length (now (frame .entry)))) (yardOf (now (head .entry)) (now (seats .entry)) (now (rows .entry)) (now (holders .entry)))))
@@ -76,7 +76,7 @@ pub choke-keeps : (rows holders : Lent (List ℕ)) (seat : ℕ) (on : Bool) → 
 choke-keeps rows holders seat on r head seats frame e k =
     let t = tables-kept (Call.choke seat on (length (now (frame .entry)))) _ _ _ _ (e .0 .0) k (e .0 .1) in (t .0, t .1, put-kept (Call.choke seat on (length (now (frame .entry)))) _ _ _ _ (e .0 .0) k (choke-speaks _ seat _ on) (e .1))
 
--- wardrail::yards::wardrail_yard_interest
+-- wardrail_yard::wardrail_yard_interest
 abbrev interest-ensures : (rows holders : Lent (List ℕ)) (seat : ℕ) (on : Bool) → ℕ → Lent Head → Lent (List Seat) → Lent (List ℕ) → Type 0
 interest-ensures rows holders seat on r head seats frame =
     (Steps (step (Call.interest seat on (length (now (frame .entry)))) (yardOf (now (head .entry)) (now (seats .entry)) (now (rows .entry)) (now (holders .entry)))) r (yardOf (now (head .exit)) (now (seats .exit)) (now (rows .entry)) (now (holders .entry)))) × (now (frame .exit) ≡ sets (now (frame .entry)) 0 (written (Call.interest seat on (length (now (frame .entry)))) (yardOf (now (head .entry)) (now (seats .entry)) (now (rows .entry)) (now (holders .entry)))))
@@ -89,7 +89,7 @@ pub interest-keeps : (rows holders : Lent (List ℕ)) (seat : ℕ) (on : Bool) �
 interest-keeps rows holders seat on r head seats frame e k =
     let t = tables-kept (Call.interest seat on (length (now (frame .entry)))) _ _ _ _ (e .0 .0) k (e .0 .1) in (t .0, t .1, put-kept (Call.interest seat on (length (now (frame .entry)))) _ _ _ _ (e .0 .0) k (interest-speaks _ seat _ on) (e .1))
 
--- wardrail::yards::wardrail_yard_missing
+-- wardrail_yard::wardrail_yard_missing
 abbrev missing-ensures : (seats : Lent (List Seat)) (rows holders : Lent (List ℕ)) (first : ℕ) → ℕ → Lent Head → Lent (List ℕ) → Lent Told → Type 0
 missing-ensures seats rows holders first r head page told =
     (Looks (step (Call.missing first (length (now (page .entry)))) (yardOf (now (head .entry)) (now (seats .entry)) (now (rows .entry)) (now (holders .entry))) .answer) (now (told .entry)) r (now (told .exit))) × (now (page .exit) ≡ sets (now (page .entry)) 0 (written (Call.missing first (length (now (page .entry)))) (yardOf (now (head .entry)) (now (seats .entry)) (now (rows .entry)) (now (holders .entry))))) × (now (head .exit) ≡ now (head .entry))
@@ -102,7 +102,7 @@ pub missing-keeps : (seats : Lent (List Seat)) (rows holders : Lent (List ℕ)) 
 missing-keeps seats rows holders first r head page told e k =
     (e .2, put-kept (Call.missing first (length (now (page .entry)))) _ _ _ _ (e .0 .0) k (page-speaks _ first _) (e .1), told-kept (Call.missing first (length (now (page .entry)))) _ _ _ _ (e .0 .0) k (e .0 .1))
 
--- wardrail::yards::wardrail_yard_scarcest
+-- wardrail_yard::wardrail_yard_scarcest
 abbrev scarcest-ensures : (seats : Lent (List Seat)) (rows holders : Lent (List ℕ)) → ℕ → Lent Head → Lent Told → Type 0
 scarcest-ensures seats rows holders r head told =
     (Looks (step Call.scarcest (yardOf (now (head .entry)) (now (seats .entry)) (now (rows .entry)) (now (holders .entry))) .answer) (now (told .entry)) r (now (told .exit))) × (now (head .exit) ≡ now (head .entry))
@@ -113,7 +113,7 @@ scarcest-determined seats rows holders head told r r′ head₁ head₂ told₁ 
 pub scarcest-keeps : (seats : Lent (List Seat)) (rows holders : Lent (List ℕ)) → Keeps2 (scarcest-ensures seats rows holders) (λ (r : ℕ). r ≡ 0 → ⊥)
 scarcest-keeps seats rows holders r head told e k = (e .1, told-kept Call.scarcest _ _ _ _ (e .0 .0) k (e .0 .1))
 
--- wardrail::yards::wardrail_yard_look
+-- wardrail_yard::wardrail_yard_look
 abbrev look-ensures : (seats : Lent (List Seat)) (rows holders : Lent (List ℕ)) (seat : ℕ) → ℕ → Lent Head → Lent Seat → Type 0
 look-ensures seats rows holders seat r head seen =
     (Shows (step (Call.look seat) (yardOf (now (head .entry)) (now (seats .entry)) (now (rows .entry)) (now (holders .entry))) .answer) (now (seen .entry)) r (now (seen .exit))) × (now (head .exit) ≡ now (head .entry))
@@ -124,7 +124,7 @@ look-determined seats rows holders seat head seen r r′ head₁ head₂ seen₁
 pub look-keeps : (seats : Lent (List Seat)) (rows holders : Lent (List ℕ)) (seat : ℕ) → Keeps2 (look-ensures seats rows holders seat) (λ (r : ℕ). r ≡ 0 → ⊥)
 look-keeps seats rows holders seat r head seen e k = (e .1, shown-kept (Call.look seat) _ _ _ _ (e .0 .0) k (e .0 .1))
 
--- wardrail::yards::wardrail_yard_has
+-- wardrail_yard::wardrail_yard_has
 abbrev has-ensures : (seats : Lent (List Seat)) (rows holders : Lent (List ℕ)) (seat piece : ℕ) → ℕ → Lent Head → Lent Told → Type 0
 has-ensures seats rows holders seat piece r head told =
     (Looks (step (Call.has seat piece) (yardOf (now (head .entry)) (now (seats .entry)) (now (rows .entry)) (now (holders .entry))) .answer) (now (told .entry)) r (now (told .exit))) × (now (head .exit) ≡ now (head .entry))
@@ -135,7 +135,7 @@ has-determined seats rows holders seat piece head told r r′ head₁ head₂ to
 pub has-keeps : (seats : Lent (List Seat)) (rows holders : Lent (List ℕ)) (seat piece : ℕ) → Keeps2 (has-ensures seats rows holders seat piece) (λ (r : ℕ). r ≡ 0 → ⊥)
 has-keeps seats rows holders seat piece r head told e k = (e .1, told-kept (Call.has seat piece) _ _ _ _ (e .0 .0) k (e .0 .1))
 
--- wardrail::yards::wardrail_yard_count
+-- wardrail_yard::wardrail_yard_count
 abbrev count-ensures : (seats : Lent (List Seat)) (rows holders : Lent (List ℕ)) (piece : ℕ) → ℕ → Lent Head → Lent Told → Type 0
 count-ensures seats rows holders piece r head told =
     (Looks (step (Call.count piece) (yardOf (now (head .entry)) (now (seats .entry)) (now (rows .entry)) (now (holders .entry))) .answer) (now (told .entry)) r (now (told .exit))) × (now (head .exit) ≡ now (head .entry))
