@@ -227,7 +227,7 @@ value-bad-requires-2 t c κs = search needs
 
 -- src/lib.rt:66:13
 value-returns-2 : (t : ℕ) → value-lts.Need-returns-2 (value-calls t) (value-at t) value.Post
-value-returns-2 t c = c .bad2 .ensures ∙ ap stepOf (sym (value-many (c .before .before .before .before .before .before .before .args .text .now) (c .before .before .before .before .before .before .before .args .c .at) (c .before .before .before .before .before .before .before .args .c .count) (omega arith) (c .before .before .before .before .before .before .before .args .levels) (cc) (omega arith)))
+value-returns-2 t c = c .bad2 .ensures ∙ ap stepOf (sym (value-many (c .before .before .before .before .before .before .before .args .text .now) (c .before .before .before .before .before .before .before .args .c .at) (c .before .before .before .before .before .before .before .args .c .count) (omega arith) (c .before .before .before .before .before .before .before .args .levels) (sym (c .before .before .before .begins .ensures) ∙ c .before .before .if2 .taken) (omega arith)))
 
 -- src/lib.rt:69:38
 value-add-integer : (t : ℕ) → value-lts.Need-add-integer (value-calls t) (value-at t) value.Post
@@ -255,7 +255,7 @@ value-string-requires t c κs = omega arith
 
 -- src/lib.rt:72:13
 value-returns-4 : (t : ℕ) → value-lts.Need-returns-4 (value-calls t) (value-at t) value.Post
-value-returns-4 t c = c .string .ensures ∙ value-str (c .before .before .before .before .before .before .before .before .before .before .args .text .now) (c .before .before .before .before .before .before .before .before .before .before .args .c .at) (c .before .before .before .before .before .before .before .before .before .before .args .c .count) (omega arith) (c .before .before .before .before .before .before .before .before .before .before .args .levels) (cc) (omega arith)
+value-returns-4 t c = c .string .ensures ∙ value-str (c .before .before .before .before .before .before .before .before .before .before .args .text .now) (c .before .before .before .before .before .before .before .before .before .before .args .c .at) (c .before .before .before .before .before .before .before .before .before .before .args .c .count) (omega arith) (c .before .before .before .before .before .before .before .before .before .before .args .levels) (sym (c .before .before .digit .ensures) ∙ c .before .if5 .taken) (omega arith)
 
 -- src/lib.rt:75:13
 value-bad-requires-3 : (t : ℕ) → value-lts.Need-bad-requires-3 (value-calls t) (value-at t) value.Post
@@ -263,7 +263,7 @@ value-bad-requires-3 t c κs = search needs
 
 -- src/lib.rt:75:13
 value-returns-5 : (t : ℕ) → value-lts.Need-returns-5 (value-calls t) (value-at t) value.Post
-value-returns-5 t c = c .bad3 .ensures ∙ ap stepOf (sym (value-deep (c .before .before .before .before .before .before .before .before .before .before .before .args .text .now) (c .before .before .before .before .before .before .before .before .before .before .before .args .c .at) (c .before .before .before .before .before .before .before .before .before .before .before .args .c .count) (omega arith) (c .before .before .before .before .before .before .before .before .before .before .before .args .levels) (omega arith) (kind-opens _ (cc) (c .before .before .before .before .if4 .left) (cc)) (omega arith)))
+value-returns-5 t c = c .bad3 .ensures ∙ ap stepOf (sym (value-deep (c .before .before .before .before .before .before .before .before .before .before .before .args .text .now) (c .before .before .before .before .before .before .before .before .before .before .before .args .c .at) (c .before .before .before .before .before .before .before .before .before .before .before .args .c .count) (omega arith) (c .before .before .before .before .before .before .before .before .before .before .before .args .levels) (omega arith) (kind-opens _ (sym (c .before .before .before .before .before .before .before .begins .ensures) ∙ c .before .before .before .before .before .before .if2 .taken) (c .before .before .before .before .if4 .left) (sym (c .before .before .before .digit .ensures) ∙ c .before .before .if5 .left)) (omega arith)))
 
 -- src/lib.rt:78:17
 value-add-t18 : (t : ℕ) → value-lts.Need-add-t18 (value-calls t) (value-at t) value.Post
@@ -301,7 +301,7 @@ value-same-requires-2 t c κs = search needs
 
 -- src/lib.rt:84:9
 value-returns-7 : (t : ℕ) → value-lts.Need-returns-7 (value-calls t) (value-at t) value.Post
-value-returns-7 t c = c .same2 .ensures ∙ c .before .dictionary .ensures ∙ value-dict (c .before .before .before .before .before .before .before .before .before .before .before .before .before .args .text .now) (c .before .before .before .before .before .before .before .before .before .before .before .before .before .args .c .at) (c .before .before .before .before .before .before .before .before .before .before .before .before .before .args .c .count) (omega arith) (c .before .before .before .before .before .before .before .before .before .before .before .before .before .args .levels) (c .before .before .before .if6 .left) (kind-open _ (cc) (c .before .before .before .before .before .before .if4 .left) (cc) (c .before .before .if7 .left)) (omega arith)
+value-returns-7 t c = c .same2 .ensures ∙ c .before .dictionary .ensures ∙ value-dict (c .before .before .before .before .before .before .before .before .before .before .before .before .before .args .text .now) (c .before .before .before .before .before .before .before .before .before .before .before .before .before .args .c .at) (c .before .before .before .before .before .before .before .before .before .before .before .before .before .args .c .count) (omega arith) (c .before .before .before .before .before .before .before .before .before .before .before .before .before .args .levels) (c .before .before .before .if6 .left) (kind-open _ (sym (c .before .before .before .before .before .before .before .before .before .begins .ensures) ∙ c .before .before .before .before .before .before .before .before .if2 .taken) (c .before .before .before .before .before .before .if4 .left) (sym (c .before .before .before .before .before .digit .ensures) ∙ c .before .before .before .before .if5 .left) (c .before .before .if7 .left)) (omega arith)
 
 -- src/lib.rt:86:5
 value-bad-requires-4 : (t : ℕ) → value-lts.Need-bad-requires-4 (value-calls t) (value-at t) value.Post
@@ -309,7 +309,7 @@ value-bad-requires-4 t c κs = search needs
 
 -- src/lib.rt:55:1
 value-returns-8 : (t : ℕ) → value-lts.Need-returns-8 (value-calls t) (value-at t) value.Post
-value-returns-8 t c = c .bad4 .ensures ∙ ap stepOf (sym (value-wrong (c .before .before .before .before .before .before .args .text .now) (c .before .before .before .before .before .before .args .c .at) (c .before .before .before .before .before .before .args .c .count) (omega arith) (c .before .before .before .before .before .before .args .levels) (cc)))
+value-returns-8 t c = c .bad4 .ensures ∙ ap stepOf (sym (value-wrong (c .before .before .before .before .before .before .args .text .now) (c .before .before .before .before .before .before .args .c .at) (c .before .before .before .before .before .before .args .c .count) (omega arith) (c .before .before .before .before .before .before .args .levels) (sym (c .before .before .begins .ensures) ∙ c .before .if2 .left)))
 
 pub +dictionary+list+value-spec : {M : Type 1} → statement M
 +dictionary+list+value-spec = close μ-dictionary μ-list μ-value (λ t. dictionary-lts.spec (dictionary-calls t)

@@ -37,7 +37,7 @@ not-requires-2 c κs = search needs
 
 -- src/lib.rt:173:13
 returns-2 : tie.Need-returns-2
-returns-2 c = ap (keyIs (c .before .before .before .before .before .before .before .args .text .now) (c .before .before .before .before .before .before .before .args .count)) (c .not2 .ensures) ∙ key-many (c .before .before .before .before .before .before .before .args .text .now) (prevOf (c .before .before .before .before .before .before .before .args .text .now) (c .before .before .before .before .before .before .before .args .before)) (c .before .before .before .before .before .before .before .args .at) (c .before .before .before .before .before .before .before .args .count) (omega arith) (cc) (omega arith)
+returns-2 c = ap (keyIs (c .before .before .before .before .before .before .before .args .text .now) (c .before .before .before .before .before .before .before .args .count)) (c .not2 .ensures) ∙ key-many (c .before .before .before .before .before .before .before .args .text .now) (prevOf (c .before .before .before .before .before .before .before .args .text .now) (c .before .before .before .before .before .before .before .args .before)) (c .before .before .before .before .before .before .before .args .at) (c .before .before .before .before .before .before .before .args .count) (omega arith) (sym (c .before .before .before .digit .ensures) ∙ c .before .before .if2 .taken) (omega arith)
 
 -- src/lib.rt:175:15
 string-requires : tie.Need-string-requires
@@ -53,7 +53,7 @@ may-follow-requires c κs = (c .before .before .before .before .before .before .
 
 -- src/lib.rt:178:21
 returns-3 : tie.Need-returns-3
-returns-3 c = key-found (c .before .before .before .before .before .before .before .before .before .before .before .before .args .text .now) (prevOf (c .before .before .before .before .before .before .before .before .before .before .before .before .args .text .now) (c .before .before .before .before .before .before .before .before .before .before .before .before .args .before)) (c .before .before .before .before .before .before .before .before .before .before .before .before .args .at) (c .before .before .before .before .before .before .before .before .before .before .before .before .args .count) (omega arith) (cc) (omega arith) (c .before .before .before .from .given .0 .0) (c .before .before .before .from .given .0 .1 .0) (ap (textOf (c .before .before .before .before .before .before .before .before .before .before .before .before .args .text .now) (c .before .before .before .before .before .before .before .before .before .before .before .before .args .count + 1)) (sym (c .before .before .before .from .given .1)) ∙ c .before .before .before .before .before .string .ensures (c .before .before .before .before .before .before .before .before .before .before .before .before .args .count + 1)) (sym (c .before .may-follow .ensures) ∙ c .if4 .taken)
+returns-3 c = key-found (c .before .before .before .before .before .before .before .before .before .before .before .before .args .text .now) (prevOf (c .before .before .before .before .before .before .before .before .before .before .before .before .args .text .now) (c .before .before .before .before .before .before .before .before .before .before .before .before .args .before)) (c .before .before .before .before .before .before .before .before .before .before .before .before .args .at) (c .before .before .before .before .before .before .before .before .before .before .before .before .args .count) (omega arith) (sym (c .before .before .before .before .before .before .before .before .digit .ensures) ∙ c .before .before .before .before .before .before .before .if2 .taken) (omega arith) (c .before .before .before .from .given .0 .0) (c .before .before .before .from .given .0 .1 .0) (ap (textOf (c .before .before .before .before .before .before .before .before .before .before .before .before .args .text .now) (c .before .before .before .before .before .before .before .before .before .before .before .before .args .count + 1)) (sym (c .before .before .before .from .given .1)) ∙ c .before .before .before .before .before .string .ensures (c .before .before .before .before .before .before .before .before .before .before .before .before .args .count + 1)) (sym (c .before .may-follow .ensures) ∙ c .if4 .taken)
 
 -- src/lib.rt:180:17
 not-requires-3 : tie.Need-not-requires-3
@@ -61,7 +61,7 @@ not-requires-3 c κs = search needs
 
 -- src/lib.rt:180:17
 returns-4 : tie.Need-returns-4
-returns-4 c = ap (keyIs (c .before .before .before .before .before .before .before .before .before .before .before .before .before .args .text .now) (c .before .before .before .before .before .before .before .before .before .before .before .before .before .args .count)) (c .not3 .ensures) ∙ key-order (c .before .before .before .before .before .before .before .before .before .before .before .before .before .args .text .now) (prevOf (c .before .before .before .before .before .before .before .before .before .before .before .before .before .args .text .now) (c .before .before .before .before .before .before .before .before .before .before .before .before .before .args .before)) (c .before .before .before .before .before .before .before .before .before .before .before .before .before .args .at) (c .before .before .before .before .before .before .before .before .before .before .before .before .before .args .count) (omega arith) (cc) (omega arith) (c .before .before .before .before .from .given .0 .0) (c .before .before .before .before .from .given .0 .1 .0) (ap (textOf (c .before .before .before .before .before .before .before .before .before .before .before .before .before .args .text .now) (c .before .before .before .before .before .before .before .before .before .before .before .before .before .args .count + 1)) (sym (c .before .before .before .before .from .given .1)) ∙ c .before .before .before .before .before .before .string .ensures (c .before .before .before .before .before .before .before .before .before .before .before .before .before .args .count + 1)) (sym (c .before .before .may-follow .ensures) ∙ c .before .if4 .left)
+returns-4 c = ap (keyIs (c .before .before .before .before .before .before .before .before .before .before .before .before .before .args .text .now) (c .before .before .before .before .before .before .before .before .before .before .before .before .before .args .count)) (c .not3 .ensures) ∙ key-order (c .before .before .before .before .before .before .before .before .before .before .before .before .before .args .text .now) (prevOf (c .before .before .before .before .before .before .before .before .before .before .before .before .before .args .text .now) (c .before .before .before .before .before .before .before .before .before .before .before .before .before .args .before)) (c .before .before .before .before .before .before .before .before .before .before .before .before .before .args .at) (c .before .before .before .before .before .before .before .before .before .before .before .before .before .args .count) (omega arith) (sym (c .before .before .before .before .before .before .before .before .before .digit .ensures) ∙ c .before .before .before .before .before .before .before .before .if2 .taken) (omega arith) (c .before .before .before .before .from .given .0 .0) (c .before .before .before .before .from .given .0 .1 .0) (ap (textOf (c .before .before .before .before .before .before .before .before .before .before .before .before .before .args .text .now) (c .before .before .before .before .before .before .before .before .before .before .before .before .before .args .count + 1)) (sym (c .before .before .before .before .from .given .1)) ∙ c .before .before .before .before .before .before .string .ensures (c .before .before .before .before .before .before .before .before .before .before .before .before .before .args .count + 1)) (sym (c .before .before .may-follow .ensures) ∙ c .before .if4 .left)
 
 -- src/lib.rt:182:26
 enum-known-r : tie.Need-enum-known-r
@@ -69,7 +69,7 @@ enum-known-r c = search needs
 
 -- src/lib.rt:182:32
 returns-5 : tie.Need-returns-5
-returns-5 c = key-broken (c .before .before .before .before .before .before .before .before .before .before .args .text .now) (prevOf (c .before .before .before .before .before .before .before .before .before .before .args .text .now) (c .before .before .before .before .before .before .before .before .before .before .args .before)) (c .before .before .before .before .before .before .before .before .before .before .args .at) (c .before .before .before .before .before .before .before .before .before .before .args .count) (omega arith) (cc) (omega arith) (c .before .r .given .0 .0) (ap (textOf (c .before .before .before .before .before .before .before .before .before .before .args .text .now) (c .before .before .before .before .before .before .before .before .before .before .args .count + 1)) (sym (c .before .r .given .1)) ∙ c .before .before .before .string .ensures (c .before .before .before .before .before .before .before .before .before .before .args .count + 1))
+returns-5 c = key-broken (c .before .before .before .before .before .before .before .before .before .before .args .text .now) (prevOf (c .before .before .before .before .before .before .before .before .before .before .args .text .now) (c .before .before .before .before .before .before .before .before .before .before .args .before)) (c .before .before .before .before .before .before .before .before .before .before .args .at) (c .before .before .before .before .before .before .before .before .before .before .args .count) (omega arith) (sym (c .before .before .before .before .before .before .digit .ensures) ∙ c .before .before .before .before .before .if2 .taken) (omega arith) (c .before .r .given .0 .0) (ap (textOf (c .before .before .before .before .before .before .before .before .before .before .args .text .now) (c .before .before .before .before .before .before .before .before .before .before .args .count + 1)) (sym (c .before .r .given .1)) ∙ c .before .before .before .string .ensures (c .before .before .before .before .before .before .before .before .before .before .args .count + 1))
 
 -- src/lib.rt:185:5
 not-requires-4 : tie.Need-not-requires-4
@@ -77,7 +77,7 @@ not-requires-4 c κs = search needs
 
 -- src/lib.rt:164:1
 returns-6 : tie.Need-returns-6
-returns-6 c = ap (keyIs (c .before .before .before .before .before .before .args .text .now) (c .before .before .before .before .before .before .args .count)) (c .not4 .ensures) ∙ key-wrong (c .before .before .before .before .before .before .args .text .now) (prevOf (c .before .before .before .before .before .before .args .text .now) (c .before .before .before .before .before .before .args .before)) (c .before .before .before .before .before .before .args .at) (c .before .before .before .before .before .before .args .count) (omega arith) (cc)
+returns-6 c = ap (keyIs (c .before .before .before .before .before .before .args .text .now) (c .before .before .before .before .before .before .args .count)) (c .not4 .ensures) ∙ key-wrong (c .before .before .before .before .before .before .args .text .now) (prevOf (c .before .before .before .before .before .before .args .text .now) (c .before .before .before .before .before .before .args .before)) (c .before .before .before .before .before .before .args .at) (c .before .before .before .before .before .before .args .count) (omega arith) (sym (c .before .before .digit .ensures) ∙ c .before .if2 .left)
 
 pub next-key-spec : {M : Type 1} → statement M
 next-key-spec =
