@@ -12,7 +12,7 @@ use lib.Dec.{eqb}
 use lib.ListN.{length, getD, take, drop}
 use lib.Seq.{sets}
 use Rattle.refusal.specs.Paper.{Outcome, taken, refused}
-use Rattle.tables.specs.Counting.{count}
+use Rattle.tables.specs.Counting.{count, Least}
 use Rattle.tables.specs.Rows.{width, hasIn}
 use Rattle.tables.specs.Seats.{cleared}
 use Rattle.tables.specs.Looks.{firstOr}
@@ -22,12 +22,11 @@ use Rattle.tables.specs.Step.{Call, start, sit, missing, scarcest, look, has, s
 use Rattle.tables.specs.Step.{count as countCall}
 use Rattle.tables.specs.declared.Answer.{Answer}
 use Rattle.tables.specs.declared.Page.{Page}
-use Rattle.history.specs.History.{History, entry, seated, announced, fresh, weAreChoking, weAreInterested, theyAreChoking, theyAreInterested, pieces, sizes}
-use Rattle.history.specs.Says.{Ascending, recordOf, holders, Lowest, Least}
-use Rattle.history.specs.Expected as Expected
-use Rattle.history.specs.Expected.{answer}
-use Rattle.history.specs.Causes.{Cause, Waits, Serves, Drops}
-use Rattle.history.specs.Run.{State, Sized, after}
+use Rattle.history.specs.History.{History, entry, seated, announced, fresh, weAreChoking, weAreInterested, theyAreChoking, theyAreInterested, pieces, sizesSet}
+use Rattle.history.specs.Says.{Ascending, recordOf, holders, Lowest}
+use Rattle.history.specs.Expected.{answer, output}
+use Rattle.history.specs.Causes.{Cause, WaitCause, Serves, Drops}
+use Rattle.history.specs.Run.{State, SizesFit, after}
 use Rattle.history.proofs.Theorem as theorem
 use Rattle.history.proofs.Demand as demand
 use Rattle.demands.specs.Three.Program.{Made, made-run}
@@ -38,7 +37,7 @@ mod Paging
 mod Loaded
 
 -- a start is accepted exactly when the sizes are legal and the lent tables have them, whatever stands in the tables
-pub start-exact : (p l k : ℕ) (lent : Yard) (r : Answer) → paper r ≡ step (start p l k) lent .answer → paper r ≡ taken done ↔ Sized p l k lent
+pub start-exact : (p l k : ℕ) (lent : Yard) (r : Answer) → paper r ≡ step (start p l k) lent .answer → paper r ≡ taken done ↔ SizesFit p l k lent
 start-exact p l k lent r c = let x = theorem.accepted-exactly p l k lent in (λ e. x .0 (sym c ∙ e), λ s. c ∙ x .1 s)
 
 -- `lent` are the tables as they were lent first; after any calls h is the history, and y are the tables
@@ -81,16 +80,16 @@ module _ (lent : Yard) (h : History) (y : Yard) (made : Made lent h y) where
   pub row-right : (i p : ℕ) → i < seats → p < pieces h → hasIn (width (pieces h)) (y .rows) i p ≡ (seated h i && announced h i p)
   row-right = here (λ g z. (i p : ℕ) → i < seats → p < pieces g → hasIn (width (pieces g)) (z .rows) i p ≡ (seated g i && announced g i p)) (λ p l k ok cs. theorem.right p l k lent ok cs .row-right)
 
-  pub sizes-right : (length (y .seats) ≡ seats) × (y .head .pieces ≡ pieces h) × (y .head .«piece_length» ≡ sizes h .pieceLength) × (y .head .«last_length» ≡ sizes h .lastLength)
-  sizes-right = here (λ g z. (length (z .seats) ≡ seats) × (z .head .pieces ≡ pieces g) × (z .head .«piece_length» ≡ sizes g .pieceLength) × (z .head .«last_length» ≡ sizes g .lastLength))
+  pub sizes-right : (length (y .seats) ≡ seats) × (y .head .pieces ≡ pieces h) × (y .head .«piece_length» ≡ sizesSet h .pieceLength) × (y .head .«last_length» ≡ sizesSet h .lastLength)
+  sizes-right = here (λ g z. (length (z .seats) ≡ seats) × (z .head .pieces ≡ pieces g) × (z .head .«piece_length» ≡ sizesSet g .pieceLength) × (z .head .«last_length» ≡ sizesSet g .lastLength))
       (λ p l k ok cs. let r = theorem.right p l k lent ok cs in (r .seats-same, r .pieces-right, r .piece-length-right, r .last-length-right))
 
   -- every call's answer, and all that it writes, is the one that the history before it says: document 01's checks in their order, with no table in them
   pub answer-right : (c : Call) (r : Answer) → paper r ≡ step c y .answer → paper r ≡ answer seats h c
   answer-right c r e = e ∙ here (λ g z. step c z .answer ≡ answer seats g c) (λ p l k ok cs. theorem.answered p l k lent ok cs c)
 
-  pub written-right : (c : Call) → written c y ≡ Expected.written seats h c
-  written-right c = here (λ g z. written c z ≡ Expected.written seats g c) (λ p l k ok cs. theorem.wrote p l k lent ok cs c)
+  pub written-right : (c : Call) → written c y ≡ output seats h c
+  written-right c = here (λ g z. written c z ≡ output seats g c) (λ p l k ok cs. theorem.wrote p l k lent ok cs c)
 
   -- ---- 11. "Tops: S for head and holder counts, P for held."
 
@@ -107,8 +106,8 @@ module _ (lent : Yard) (h : History) (y : Yard) (made : Made lent h y) where
         let x = here (λ g z. step c z .answer ≡ refused number place ↔ (Cause seats g c number × (place ≡ 0))) (λ p l k ok cs. demand.fair p l k lent ok cs c number place) in
         (λ q. x .0 (sym e ∙ q), λ q. e ∙ x .1 q)
 
-    pub fair-wait : paper r ≡ taken wait ↔ Waits seats h c
-    fair-wait = let x = here (λ g z. step c z .answer ≡ taken wait ↔ Waits seats g c) (λ p l k ok cs. demand.fair-wait p l k lent ok cs c) in (λ q. x .0 (sym e ∙ q), λ q. e ∙ x .1 q)
+    pub fair-wait : paper r ≡ taken wait ↔ WaitCause seats h c
+    fair-wait = let x = here (λ g z. step c z .answer ≡ taken wait ↔ WaitCause seats g c) (λ p l k ok cs. demand.fair-wait p l k lent ok cs c) in (λ q. x .0 (sym e ∙ q), λ q. e ∙ x .1 q)
 
     -- without a cause the call is taken
     pub fair-taken : ((number : ℕ) → Cause seats h c number → ⊥) → (a : Said) × (paper r ≡ taken a)

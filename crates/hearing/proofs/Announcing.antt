@@ -25,7 +25,7 @@ use Rattle.tables.proofs.Digits.{or-had, row-in}
 use Rattle.tables.proofs.Counts.{count-none, some-none}
 use Rattle.tables.proofs.Single.{each-none, count-only, some-only, each-only}
 use Rattle.hearing.specs.Passes.{checked, raised, merged}
-use Rattle.hearing.specs.Steps.{Sized, stepped, refusing, tooMany, gained}
+use Rattle.hearing.specs.Steps.{InTables, stepped, refusing, tooMany, gained}
 use Rattle.hearing.specs.declared.row.News.{News}
 use Rattle.hearing.proofs.Passing.{added-is, over-is, checked-le, raised-is, merged-is}
 use Rattle.hearing.proofs.Gaining.{many-none, room-holders}
@@ -54,7 +54,7 @@ module _ (h : Head) (s : Seat) (rows holders : List ℕ) (n i used : ℕ) (said 
 -- ---- a bitfield
 
 -- P is the number of pieces in the code's words
-module _ (h : Head) (s : Seat) (rows holders : List ℕ) (n i used : ℕ) (said : List ℕ) (z : Sized h n i rows holders) (P : ℕ) (ep : P ≡ h .pieces) where
+module _ (h : Head) (s : Seat) (rows holders : List ℕ) (n i used : ℕ) (said : List ℕ) (z : InTables h n i rows holders) (P : ℕ) (ep : P ≡ h .pieces) where
   pub row-fits : i * ((P + 7) / 8) + (P + 7) / 8 ≤ length rows
   row-fits = rw (ep, z .row) (row-in i n (width (h .pieces)) (z .seat))
 
@@ -146,7 +146,7 @@ module _ (h : Head) (s : Seat) (rows holders : List ℕ) (n i used p : ℕ) wher
   not-top : (q : ℕ) → q ≢ p → atTop q ≡ false
   not-top q e = let x : eqb q p ≡ false = ne-eqb q p e in rw x
 
-  module _ (P : ℕ) (ep : P ≡ h .pieces) (l : p < P) (z : Sized h n i rows holders) (had : Bool) (eh : had ≡ digit (7 - p % 8) (getD rows (i * ((P + 7) / 8) + p / 8) 0)) where
+  module _ (P : ℕ) (ep : P ≡ h .pieces) (l : p < P) (z : InTables h n i rows holders) (had : Bool) (eh : had ≡ digit (7 - p % 8) (getD rows (i * ((P + 7) / 8) + p / 8) 0)) where
     had-is : hasIn (width (h .pieces)) rows i p ≡ had
     had-is = sym (eh ∙ ap (λ (q : ℕ). digit (7 - p % 8) (getD rows (i * ((q + 7) / 8) + p / 8) 0)) ep)
 

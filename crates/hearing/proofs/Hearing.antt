@@ -32,7 +32,7 @@ use Rattle.tables.specs.declared.Seat.{Seat}
 use Rattle.tables.specs.declared.Answer.the-variants as A
 use Rattle.tables.specs.declared.Stepped.{Stepped}
 use Rattle.tables.proofs.Sizing.{fitting}
-use Rattle.hearing.specs.Steps.{Sized, Inside, stepped, refusing}
+use Rattle.hearing.specs.Steps.{InTables, Inside, stepped, refusing}
 
 -- ---- the bytes that a frame speaks of lie in the text
 
@@ -155,7 +155,7 @@ module _ (h : Head) (s : Seat) (rows holders : List ℕ) (n i : ℕ) (text : Lis
     feed-free r g er = pick-yes _ (sizesFit h n (length rows) (length holders)) (sym et ∙ f)
         (pick-no _ (ltb i n && s .taken) (and-no (ltb i n) (s .taken) g) (as-turn er))
 
-    pub have-sized : i < n → Sized h n i rows holders
+    pub have-sized : i < n → InTables h n i rows holders
     have-sized l =
         let z = fitting h n (length rows) (length holders) (sym et ∙ f) in
         record { few = z .few; seats = z .seats; seat = l; row = z .row; counts = z .counts }
@@ -186,7 +186,7 @@ module _ (h : Head) (s : Seat) (rows holders : List ℕ) (n i : ℕ) (text : Lis
       pub whole-inside : (x : Frame) (u : ℕ) → q ≡ Whole x u → Inside text (message x)
       whole-inside x u e = inside text (message x) u (sym eq ∙ ap read e)
 
-      pub whole-sized : Sized h n i rows holders
+      pub whole-sized : InTables h n i rows holders
       whole-sized = have-sized l
 
     -- a have that is all there, before any reader

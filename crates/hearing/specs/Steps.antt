@@ -20,7 +20,7 @@ use Rattle.tables.specs.declared.Stepped.{Stepped}
 use Rattle.hearing.specs.declared.row.News.{News}
 
 -- the sizes that the checks before leave: i is a seat, and the tables have its row and its pieces
-pub record Sized (h : Head) (n i : ℕ) (rows holders : List ℕ) : Type 0 where
+pub record InTables (h : Head) (n i : ℕ) (rows holders : List ℕ) : Type 0 where
   pub few : h .pieces ≤ mostPieces
   pub seats : n ≤ mostSeats
   pub seat : i < n

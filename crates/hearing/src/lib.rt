@@ -5,7 +5,7 @@ ghost use Rattle.wire.specs.Frames.{message, meant};
 ghost use Rattle.tables.specs.Seats.{theyChoke, theyWant, counted};
 ghost use Rattle.tables.specs.Tables.{around, turn};
 ghost use Rattle.tables.specs.Frames.{messageOf, feedOf};
-ghost use Rattle.hearing.specs.Steps.{Sized, Inside};
+ghost use Rattle.hearing.specs.Steps.{InTables, Inside};
 use refusal::number;
 use tables::Answer;
 use tables::Head;
@@ -74,7 +74,7 @@ fn frame_step(
     f: Frame,
     used: usize,
 ) -> Stepped
-    requires { ⌜ Sized h n i (now rows) (now holders) × Inside (now bytes) (message f) ⌝ }
+    requires { ⌜ InTables h n i (now rows) (now holders) × Inside (now bytes) (message f) ⌝ }
     ensures { λ r. ⌜ turn r (now (rows .exit)) (now (holders .exit)) ≡ messageOf n i used (meant (now (bytes .entry)) (message f)) (around h s (now (rows .entry)) (now (holders .entry))) ⌝ }
 {
     match f {

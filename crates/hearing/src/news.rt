@@ -7,7 +7,7 @@ ghost use lib.ListN.{length};
 ghost use Rattle.tables.specs.Rows.{width, bitAt, withBits};
 ghost use Rattle.tables.specs.Tables.{around, turn};
 ghost use Rattle.tables.specs.Frames.{announce, haveOf, bitfieldOf};
-ghost use Rattle.hearing.specs.Steps.{Sized, full, tooMany, gained};
+ghost use Rattle.hearing.specs.Steps.{InTables, full, tooMany, gained};
 use crate::answer;
 use crate::row;
 use crate::row::News;
@@ -29,7 +29,7 @@ pub fn have_step(
     used: usize,
     p: usize,
 ) -> Stepped
-    requires { ⌜ Sized h n i (now rows) (now holders) ⌝ }
+    requires { ⌜ InTables h n i (now rows) (now holders) ⌝ }
     ensures { λ r. ⌜ turn r (now (rows .exit)) (now (holders .exit)) ≡ haveOf n i used p (around h s (now (rows .entry)) (now (holders .entry))) ⌝ }
 {
     let pieces = wide(h.pieces);
@@ -62,7 +62,7 @@ pub fn bitfield_step(
     used: usize,
     said: &[u8],
 ) -> Stepped
-    requires { ⌜ Sized h n i (now rows) (now holders) ⌝ }
+    requires { ⌜ InTables h n i (now rows) (now holders) ⌝ }
     ensures { λ r. ⌜ turn r (now (rows .exit)) (now (holders .exit)) ≡ bitfieldOf n i used (now (said .entry)) (around h s (now (rows .entry)) (now (holders .entry))) ⌝ }
 {
     if !s.fresh {
@@ -89,7 +89,7 @@ fn add_step(
     used: usize,
     said: &[u8],
 ) -> Stepped
-    requires { ⌜ Sized h n i (now rows) (now holders) × (length (now said) ≡ width (h .pieces)) ⌝ }
+    requires { ⌜ InTables h n i (now rows) (now holders) × (length (now said) ≡ width (h .pieces)) ⌝ }
     ensures { λ r. ⌜ turn r (now (rows .exit)) (now (holders .exit)) ≡ announce n i used (bitAt (now (said .entry))) (withBits (width (h .pieces)) i (now (said .entry)) (now (rows .entry))) (around h s (now (rows .entry)) (now (holders .entry))) ⌝ }
 {
     let pieces = wide(h.pieces);

@@ -17,7 +17,7 @@ use Rattle.tables.specs.Tables.{Yard, Around, Turn, Out, around, yardOf, sizesF
 use Rattle.tables.specs.declared.Head.{Head}
 use Rattle.tables.specs.declared.Seat.{Seat}
 use Rattle.tables.proofs.Counts.{count-ext, count-change}
-use Rattle.history.specs.History.{Entry, History, Event, nothing, event, seated, announced, fresh, weAreChoking, weAreInterested, theyAreChoking, theyAreInterested, pieces, Sizes, sizes, sizesWith, seatedBy, announcedBy, freshBy, chokingBy, wantingBy, chokedBy, wantedBy}
+use Rattle.history.specs.History.{Entry, History, Event, nothing, event, seated, announced, fresh, weAreChoking, weAreInterested, theyAreChoking, theyAreInterested, pieces, Sizes, sizesSet, sizesWith, seatedBy, announcedBy, freshBy, chokingBy, wantingBy, chokedBy, wantedBy}
 use Rattle.history.specs.Says.{hasPiece, held, loaded, recordOf, holders, takenSeats, completeSeats, headOf}
 
 -- the tables y of n seats agree with the history h
@@ -64,7 +64,7 @@ headBy z t c = record { pieces = z .pieces; «piece_length» = z .pieceLength; �
 -- the sizes stay, so the pieces do
 module _ (h : History) (e : Entry) (same : (z : Sizes) → sizesWith e z ≡ z) where
   pub pieces-same : pieces (e ∷ h) ≡ pieces h
-  pieces-same = ap (λ (z : Sizes). z .pieces) (same (sizes h))
+  pieces-same = ap (λ (z : Sizes). z .pieces) (same (sizesSet h))
 
   module _ (i : ℕ) (v : Event) (is : event i e ≡ v) where
     pub seated-then : seated (e ∷ h) i ≡ seatedBy v (seated h i)
@@ -116,9 +116,9 @@ module _ (n : ℕ) (h : History) (y : Yard) (agrees : Agrees n h y) where
   sized-head : (e : Entry) → ((z : Sizes) → sizesWith e z ≡ z) → (t c : ℕ) → t ≡ takenSeats n (e ∷ h) → c ≡ completeSeats n (e ∷ h)
       → counted t c (headOf n h) ≡ headOf n (e ∷ h)
   sized-head e same t c p q =
-      ap (λ (z : Sizes). headBy z t c) (sym (same (sizes h)))
-      ∙ ap (λ (k : ℕ). headBy (sizes (e ∷ h)) k c) p
-      ∙ ap (λ (k : ℕ). headBy (sizes (e ∷ h)) (takenSeats n (e ∷ h)) k) q
+      ap (λ (z : Sizes). headBy z t c) (sym (same (sizesSet h)))
+      ∙ ap (λ (k : ℕ). headBy (sizesSet (e ∷ h)) k c) p
+      ∙ ap (λ (k : ℕ). headBy (sizesSet (e ∷ h)) (takenSeats n (e ∷ h)) k) q
 
   module _ (e : Entry) (i : ℕ) (v : Event) (l : i < n) (one : One e i v) where
     taken-then : takenSeats n (e ∷ h) + bit (seated h i) ≡ takenSeats n h + bit (seatedBy v (seated h i))

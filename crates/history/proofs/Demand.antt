@@ -10,7 +10,7 @@ use lib.Dec.{leb}
 use lib.ListN.{length, getD}
 use Rattle.refusal.specs.Paper.{taken, refused}
 use Rattle.refusal.specs.Numbers.{damaged, seat, full}
-use Rattle.tables.specs.Counting.{count}
+use Rattle.tables.specs.Counting.{count, Least}
 use Rattle.tables.specs.Seats.{cleared}
 use Rattle.tables.specs.Tables.{Yard, Said, wait, serve, dropped, listed, scarce, seated}
 use Rattle.tables.specs.Step.{Call, sit, missing, scarcest, step}
@@ -18,9 +18,9 @@ use Rattle.tables.specs.Step.{written as writtenIn}
 use Rattle.tables.specs.declared.Page.{Page}
 use Rattle.history.specs.History.{History, announced, pieces}
 use Rattle.history.specs.History.{seated as sitsAt}
-use Rattle.history.specs.Says.{loaded, lacking, recordOf, holders, pageLines, pageOf, leastOf, Lowest, Least}
+use Rattle.history.specs.Says.{loaded, lacking, recordOf, holders, pageLines, pageOf, leastOf, Lowest}
 use Rattle.history.specs.Expected.{no, freeSeat, answer}
-use Rattle.history.specs.Causes.{Cause, Waits, Serves, Drops}
+use Rattle.history.specs.Causes.{Cause, WaitCause, Serves, Drops}
 use Rattle.history.specs.Run.{Accepted, after}
 use Rattle.history.proofs.Theorem.{right, answered, wrote, some-pieces}
 use Rattle.history.proofs.Lowest.{lowest-is, least-is}
@@ -68,7 +68,7 @@ module _ (p l k : ℕ) (y : Yard) (ok : Accepted p l k y) (cs : List Call) where
   pub fair : (c : Call) (number place : ℕ) → step c now .answer ≡ refused number place ↔ (Cause seats past c number × (place ≡ 0))
   fair c number place = let e = answered p l k y ok cs c in let f = refused-exactly seats past c number place in (λ q. f .0 (sym e ∙ q), λ q. e ∙ f .1 q)
 
-  pub fair-wait : (c : Call) → step c now .answer ≡ taken wait ↔ Waits seats past c
+  pub fair-wait : (c : Call) → step c now .answer ≡ taken wait ↔ WaitCause seats past c
   fair-wait c = let e = answered p l k y ok cs c in let f = wait-exactly-when seats past c in (λ q. f .0 (sym e ∙ q), λ q. e ∙ f .1 q)
 
   pub fair-taken : (c : Call) → ((number : ℕ) → Cause seats past c number → ⊥) → (a : Said) × (step c now .answer ≡ taken a)

@@ -29,12 +29,12 @@ use Rattle.tables.specs.Step.{choke as chokes}
 use Rattle.tables.proofs.Counts.{some-one, some-every}
 use Rattle.history.specs.History.{History, seated, fresh, weAreChoking, theyAreInterested, pieces}
 use Rattle.history.specs.Expected.{no, startFits, sits, lengthOf, blockFits, blockAnswer, requestAnswer, messageAnswer, frameAnswer, markAnswer, freeSeat, answer}
-use Rattle.history.specs.Causes.{Sits, Nobody, On, Marks, Says, Block, Fits, StartFits, Cause, Waits}
+use Rattle.history.specs.Causes.{Sits, Nobody, On, Marks, Says, SpeaksOf, Fits, StartFits, Cause, WaitCause}
 use Rattle.history.specs.Causes.On.{leaving, feeding, choking as on-choke, wanting as on-want}
 use Rattle.history.specs.Causes.Marks.{choking, wanting}
-use Rattle.history.specs.Causes.Block.{asked, sent, called-off}
+use Rattle.history.specs.Causes.SpeaksOf.{asked, sent, called-off}
 use Rattle.history.specs.Causes.Cause.{unfit, all-taken, nobody, past-list, past-look, past-has, no-room, too-long, wrong-payload, not-first, wrong-length, spare-bit, no-such-have, no-such-block, no-such-has, no-such-count, past-piece}
-use Rattle.history.specs.Causes.Waits.{cut-off}
+use Rattle.history.specs.Causes.WaitCause.{cut-off}
 use Rattle.history.proofs.Lowest.{lowest-is, lowest-unique}
 
 -- ---- tests as statements
@@ -92,14 +92,14 @@ IfWait (scarce p) Q = Unit
 
 module _ (n : ℕ) (h : History) where
   abbrev Caused : Call → Outcome Said → Type 0
-  Caused c (taken a) = IfWait a (Waits n h c)
+  Caused c (taken a) = IfWait a (WaitCause n h c)
   Caused c (refused number place) = Cause n h c number × (place ≡ 0)
 
   module _ (i : ℕ) (s : List ℕ) (here : Sits n h i) where
     request-caused : (bytes : ℕ) → Caused (feed i s) (taken (requestAnswer h i bytes))
     request-caused bytes = by-test (λ (a : Said). Caused (feed i s) (taken a)) (not (weAreChoking h i) && theyAreInterested h i) (λ e. tt) (λ e. tt)
 
-    block-caused : (m : Message (List ℕ)) (p b k bytes : ℕ) (a : Said) → Says s m bytes → Block p b k m → Caused (feed i s) (taken a) → Caused (feed i s) (blockAnswer h p b k a)
+    block-caused : (m : Message (List ℕ)) (p b k bytes : ℕ) (a : Said) → Says s m bytes → SpeaksOf p b k m → Caused (feed i s) (taken a) → Caused (feed i s) (blockAnswer h p b k a)
     block-caused m p b k bytes a f o g = by-test (Caused (feed i s)) (ltb p (pieces h))
         (λ d. by-test (Caused (feed i s)) (blockFits h p b k) (λ e. g)
         (λ e. (past-piece i s m p b k bytes here f o (ltb-true p (pieces h) d) (λ q. cannot _ e (fits-block h p b k q)), refl)))
@@ -178,12 +178,12 @@ module _ (n : ℕ) (h : History) where
   room-answer c i space (choking b) here l = rw (then-sits n h i here, lt-ltb space 5 l)
   room-answer c i space (wanting b) here l = rw (then-sits n h i here, lt-ltb space 5 l)
 
-  block-beyond : (i bytes p b k : ℕ) (m : Message (List ℕ)) → Block p b k m → pieces h ≤ p → messageAnswer h i bytes m ≡ no beyond
+  block-beyond : (i bytes p b k : ℕ) (m : Message (List ℕ)) → SpeaksOf p b k m → pieces h ≤ p → messageAnswer h i bytes m ≡ no beyond
   block-beyond i bytes p b k m asked l = rw (le-ltb p (pieces h) l)
   block-beyond i bytes p b k m (sent block e) l = rw (le-ltb p (pieces h) l)
   block-beyond i bytes p b k m called-off l = rw (le-ltb p (pieces h) l)
 
-  block-outside : (i bytes p b k : ℕ) (m : Message (List ℕ)) → Block p b k m → p < pieces h → (Fits h p b k → ⊥) → messageAnswer h i bytes m ≡ no outside
+  block-outside : (i bytes p b k : ℕ) (m : Message (List ℕ)) → SpeaksOf p b k m → p < pieces h → (Fits h p b k → ⊥) → messageAnswer h i bytes m ≡ no outside
   block-outside i bytes p b k m asked l f = rw (lt-ltb p (pieces h) l, false-if (blockFits h p b k) (λ e. f (block-fits h p b k e)))
   block-outside i bytes p b k m (sent block q) l f = rw (lt-ltb p (pieces h) l, q, false-if (blockFits h p b k) (λ e. f (block-fits h p b k e)))
   block-outside i bytes p b k m called-off l f = rw (lt-ltb p (pieces h) l, false-if (blockFits h p b k) (λ e. f (block-fits h p b k e)))
@@ -223,10 +223,10 @@ module _ (n : ℕ) (h : History) where
   pub refused-exactly : (c : Call) (number place : ℕ) → answer n h c ≡ refused number place ↔ (Cause n h c number × (place ≡ 0))
   refused-exactly c number place = (λ e. subst (Caused c) e (caused c), λ q. cause-given c number (q .0) ∙ ap (refused number) (sym (q .1)))
 
-  wait-given : (c : Call) → Waits n h c → answer n h c ≡ taken wait
+  wait-given : (c : Call) → WaitCause n h c → answer n h c ≡ taken wait
   wait-given c (cut-off i s here f) = frame-reads i s (taken more) here (wait-exactly s .1 f)
 
-  pub wait-exactly-when : (c : Call) → answer n h c ≡ taken wait ↔ Waits n h c
+  pub wait-exactly-when : (c : Call) → answer n h c ≡ taken wait ↔ WaitCause n h c
   wait-exactly-when c = (λ e. subst (Caused c) e (caused c), wait-given c)
 
   -- where no cause holds the call is taken

@@ -24,7 +24,7 @@ use Rattle.tables.proofs.Sizing.{Fitting, fitting}
 use Rattle.history.specs.History.{History, entry, event, pieces, sizesWith, seated}
 use Rattle.history.specs.Says.{hasPiece, held, loaded, holders, headOf}
 use Rattle.history.specs.Expected.{no, startFits}
-use Rattle.history.specs.Run.{Sized}
+use Rattle.history.specs.Run.{SizesFit}
 use Rattle.history.proofs.Agreeing.{Agrees, quiet-agrees, counted-fits}
 use Rattle.history.proofs.Calls.{Kept}
 
@@ -58,7 +58,7 @@ empty-agrees h y p l k w ok =
 -- ---- a further start
 
 -- the sizes fit exactly if they are legal and the tables have them
-pub sized-fits : (p l k : ℕ) (y : Yard) → Sized p l k y → fitsFor p l k y ≡ true
+pub sized-fits : (p l k : ℕ) (y : Yard) → SizesFit p l k y → fitsFor p l k y ≡ true
 unfolding sizesFit
 sized-fits p l k y s =
     both-true _ _ (le-leb 1 p (s .some-pieces))
@@ -71,7 +71,7 @@ sized-fits p l k y s =
     (both-true _ _ (eq-eqb (length (y .rows)) (length (y .seats) * width p) (s .rows-fit))
     (both-true _ _ (eq-eqb (length (y .holders)) p (s .holders-fit)) refl))))))))
 
-pub fits-sized : (p l k : ℕ) (y : Yard) → fitsFor p l k y ≡ true → Sized p l k y
+pub fits-sized : (p l k : ℕ) (y : Yard) → fitsFor p l k y ≡ true → SizesFit p l k y
 fits-sized p l k y e =
     let f : Fitting (emptied p l k y .head) (length (y .seats)) (length (y .rows)) (length (y .holders)) =
     fitting (emptied p l k y .head) (length (y .seats)) (length (y .rows)) (length (y .holders)) e in
@@ -100,7 +100,7 @@ module _ (n : ℕ) (h : History) (y : Yard) (agrees : Agrees n h y) (p l k : ℕ
 
   fits-then : fitsFor p l k y ≡ true → startFits h p l k ≡ true
   fits-then e =
-      let f : Sized p l k y = fits-sized p l k y e in
+      let f : SizesFit p l k y = fits-sized p l k y e in
       both-true (eqb p (pieces h)) _ (eq-eqb p (pieces h) (omega (arith, f .holders-fit, fits-now .counts)))
       (both-true (pieceLength l) _ (is-piece-length l (f .piece-length))
       (both-true (leb 1 k) (leb k l) (le-leb 1 k (f .some-last)) (le-leb k l (f .last-within))))

@@ -20,10 +20,10 @@ use Rattle.tables.specs.Step.{count as countAt, writes as writesIn, written as 
 use Rattle.tables.specs.declared.Head.{Head}
 use Rattle.tables.specs.declared.Seat.{Seat}
 use Rattle.tables.proofs.Counts.{count-le}
-use Rattle.history.specs.History.{History, entry, pieces, Sizes, sizes, seated, sizesWith}
+use Rattle.history.specs.History.{History, entry, pieces, Sizes, sizesSet, seated, sizesWith}
 use Rattle.history.specs.Says.{hasPiece, loaded}
-use Rattle.history.specs.Expected.{startFits, answer, writes, written}
-use Rattle.history.specs.Run.{State, next, run, Accepted, Sized, after, Answered, started, and-then, Right, calls}
+use Rattle.history.specs.Expected.{startFits, answer, writes, output}
+use Rattle.history.specs.Run.{State, next, run, Accepted, SizesFit, after, Answered, started, and-then, Right, calls}
 use Rattle.history.proofs.Agreeing.{Agrees}
 use Rattle.history.proofs.Calls.{Kept, sizes-here, feed-kept, choke-kept, interest-kept, leave-kept}
 use Rattle.history.proofs.Starting.{fitsFor, sized-fits, fits-sized, empty-agrees, start-kept}
@@ -59,7 +59,7 @@ module _ (n : ℕ) (h : History) (y : Yard) (agrees : Agrees n h y) where
   writes-same (has i p) = refl
   writes-same (countAt p) = refl
 
-  written-same : (c : Call) → writtenIn c y ≡ written n h c
+  written-same : (c : Call) → writtenIn c y ≡ output n h c
   written-same c = ap₂ (λ (a : Outcome Said) (l : List ℕ). ifTaken a l) (step-kept c [] .0) (writes-same c)
 
 -- ---- many
@@ -90,7 +90,7 @@ module _ (p l k : ℕ) (y : Yard) (ok : Accepted p l k y) where
   unfolding step startOf
   accepted-fits = by-bool (fitsFor p l k y) (λ e. e) (λ e. absurd (subst IsTaken (sym (rw e at ok)) tt))
 
-  accepted-sized : Sized p l k y
+  accepted-sized : SizesFit p l k y
   accepted-sized = fits-sized p l k y accepted-fits
 
   start-agrees : (w : List ℕ) → Agrees (length (y .seats)) (entry (start p l k) (step (start p l k) y .answer) w ∷ []) (step (start p l k) y .yard)
@@ -106,7 +106,7 @@ module _ (p l k : ℕ) (y : Yard) (ok : Accepted p l k y) where
   start-pieces w = ap (λ (a : Outcome Said). pieces (entry (start p l k) a w ∷ [])) ok
 
 -- a start is accepted exactly if its sizes are legal and the tables have them, whatever is in them
-pub accepted-exactly : (p l k : ℕ) (y : Yard) → Accepted p l k y ↔ Sized p l k y
+pub accepted-exactly : (p l k : ℕ) (y : Yard) → Accepted p l k y ↔ SizesFit p l k y
 unfolding step startOf
 accepted-exactly p l k y = (accepted-sized p l k y, λ s. rw (sized-fits p l k y s))
 
@@ -121,16 +121,16 @@ keeps-pieces : (n : ℕ) (h : History) (c : Call) (w : List ℕ) → pieces (ent
 unfolding sizesWith
 keeps-pieces n h (start p l k) w = by-test (λ (a : Outcome Said). pieces (entry (start p l k) a w ∷ h) ≡ pieces h) (startFits h p l k)
     (λ e. eqb-true p (pieces h) (and-eq-true-iff (eqb p (pieces h)) _ .0 e .0)) (λ e. refl)
-keeps-pieces n h sit w = ap (λ (z : Sizes). z .pieces) (plain sit (answer n h sit) w (sizes h) (λ b. refl))
-keeps-pieces n h (leave i) w = ap (λ (z : Sizes). z .pieces) (plain (leave i) (answer n h (leave i)) w (sizes h) (λ b. refl))
-keeps-pieces n h (feed i s) w = ap (λ (z : Sizes). z .pieces) (plain (feed i s) (answer n h (feed i s)) w (sizes h) (λ b. refl))
-keeps-pieces n h (choke i b space) w = ap (λ (z : Sizes). z .pieces) (plain (choke i b space) (answer n h (choke i b space)) w (sizes h) (λ b. refl))
-keeps-pieces n h (interest i b space) w = ap (λ (z : Sizes). z .pieces) (plain (interest i b space) (answer n h (interest i b space)) w (sizes h) (λ b. refl))
-keeps-pieces n h (missing first space) w = ap (λ (z : Sizes). z .pieces) (plain (missing first space) (answer n h (missing first space)) w (sizes h) (λ b. refl))
+keeps-pieces n h sit w = ap (λ (z : Sizes). z .pieces) (plain sit (answer n h sit) w (sizesSet h) (λ b. refl))
+keeps-pieces n h (leave i) w = ap (λ (z : Sizes). z .pieces) (plain (leave i) (answer n h (leave i)) w (sizesSet h) (λ b. refl))
+keeps-pieces n h (feed i s) w = ap (λ (z : Sizes). z .pieces) (plain (feed i s) (answer n h (feed i s)) w (sizesSet h) (λ b. refl))
+keeps-pieces n h (choke i b space) w = ap (λ (z : Sizes). z .pieces) (plain (choke i b space) (answer n h (choke i b space)) w (sizesSet h) (λ b. refl))
+keeps-pieces n h (interest i b space) w = ap (λ (z : Sizes). z .pieces) (plain (interest i b space) (answer n h (interest i b space)) w (sizesSet h) (λ b. refl))
+keeps-pieces n h (missing first space) w = ap (λ (z : Sizes). z .pieces) (plain (missing first space) (answer n h (missing first space)) w (sizesSet h) (λ b. refl))
 keeps-pieces n h scarcest w = refl
-keeps-pieces n h (look i) w = ap (λ (z : Sizes). z .pieces) (plain (look i) (answer n h (look i)) w (sizes h) (λ b. refl))
-keeps-pieces n h (has i p) w = ap (λ (z : Sizes). z .pieces) (plain (has i p) (answer n h (has i p)) w (sizes h) (λ b. refl))
-keeps-pieces n h (countAt p) w = ap (λ (z : Sizes). z .pieces) (plain (countAt p) (answer n h (countAt p)) w (sizes h) (λ b. refl))
+keeps-pieces n h (look i) w = ap (λ (z : Sizes). z .pieces) (plain (look i) (answer n h (look i)) w (sizesSet h) (λ b. refl))
+keeps-pieces n h (has i p) w = ap (λ (z : Sizes). z .pieces) (plain (has i p) (answer n h (has i p)) w (sizesSet h) (λ b. refl))
+keeps-pieces n h (countAt p) w = ap (λ (z : Sizes). z .pieces) (plain (countAt p) (answer n h (countAt p)) w (sizesSet h) (λ b. refl))
 
 run-pieces : (n : ℕ) (cs : List Call) (s : State) → Agrees n (s .past) (s .yard) → pieces (run cs s .past) ≡ pieces (s .past)
 unfolding run next
@@ -185,7 +185,7 @@ module _ (p l k : ℕ) (y : Yard) (ok : Accepted p l k y) (cs : List Call) where
   pub answered : (c : Call) → step c now .answer ≡ answer seats past c
   answered c = step-kept seats past now agrees-now c [] .0
 
-  pub wrote : (c : Call) → writtenIn c now ≡ written seats past c
+  pub wrote : (c : Call) → writtenIn c now ≡ output seats past c
   wrote c = written-same seats past now agrees-now c
 
   -- and so were all answers before it

@@ -9,7 +9,7 @@ use Rattle.refusal.specs.Paper.{taken}
 use Rattle.refusal.specs.Numbers.{frame, payload, late, beyond, bitfield, spare, outside, full, seat, room, sizes}
 use Rattle.refusal.specs.declared.Part.{Part}
 use Rattle.blocks.specs.Rules.{PieceLength}
-use Rattle.blocks.specs.Covers.{Block as InPiece}
+use Rattle.blocks.specs.Covers.{Block}
 use Rattle.wire.specs.Message.{Message, have, request, piece, cancel}
 use Rattle.wire.specs.Message.{bitfield as bits}
 use Rattle.wire.specs.Frames.{found, readOf, meant}
@@ -47,14 +47,14 @@ pub record Says (s : List ℕ) (m : Message (List ℕ)) (bytes : ℕ) : Type 0 w
   pub means : meant s at ≡ m
 
 -- m speaks of the block of k bytes at b in piece p
-pub data Block (p b k : ℕ) : Message (List ℕ) → Type 0 where
-  asked : Block p b k (request p b k)
-  sent : (block : List ℕ) → length block ≡ k → Block p b k (piece p b block)
-  called-off : Block p b k (cancel p b k)
+pub data SpeaksOf (p b k : ℕ) : Message (List ℕ) → Type 0 where
+  asked : SpeaksOf p b k (request p b k)
+  sent : (block : List ℕ) → length block ≡ k → SpeaksOf p b k (piece p b block)
+  called-off : SpeaksOf p b k (cancel p b k)
 
 -- it has 1 to 16,384 bytes and ends within its piece
 abbrev pub Fits : History → ℕ → ℕ → ℕ → Type 0
-Fits h p b k = InPiece (lengthOf h p) b k
+Fits h p b k = Block (lengthOf h p) b k
 
 -- a further start has as many pieces as the tables, a legal piece length, and a last piece from 1 to it
 abbrev pub StartFits : History → ℕ → ℕ → ℕ → Type 0
@@ -84,16 +84,16 @@ pub data Cause (n : ℕ) (h : History) : Call → ℕ → Type 0 where
       → pieces h ≤ p → p < 8 * length b → bitAt b p ≡ true → Cause n h (feed i s) spare
   -- 31
   no-such-have : (i : ℕ) (s : List ℕ) (p bytes : ℕ) → Sits n h i → Says s (have p) bytes → pieces h ≤ p → Cause n h (feed i s) beyond
-  no-such-block : (i : ℕ) (s : List ℕ) (m : Message (List ℕ)) (p b k bytes : ℕ) → Sits n h i → Says s m bytes → Block p b k m → pieces h ≤ p → Cause n h (feed i s) beyond
+  no-such-block : (i : ℕ) (s : List ℕ) (m : Message (List ℕ)) (p b k bytes : ℕ) → Sits n h i → Says s m bytes → SpeaksOf p b k m → pieces h ≤ p → Cause n h (feed i s) beyond
   no-such-has : (i p : ℕ) → i < n → pieces h ≤ p → Cause n h (has i p) beyond
   no-such-count : (p : ℕ) → pieces h ≤ p → Cause n h (count p) beyond
   -- 34
-  past-piece : (i : ℕ) (s : List ℕ) (m : Message (List ℕ)) (p b k bytes : ℕ) → Sits n h i → Says s m bytes → Block p b k m → p < pieces h → (Fits h p b k → ⊥) → Cause n h (feed i s) outside
+  past-piece : (i : ℕ) (s : List ℕ) (m : Message (List ℕ)) (p b k bytes : ℕ) → Sits n h i → Says s m bytes → SpeaksOf p b k m → p < pieces h → (Fits h p b k → ⊥) → Cause n h (feed i s) outside
 
 -- ---- a wait: the frame's four bytes of length, or the rest of it, are not all there
 
-pub data Waits (n : ℕ) (h : History) : Call → Type 0 where
-  cut-off : (i : ℕ) (s : List ℕ) → Sits n h i → Few s ⊎ Cut s → Waits n h (feed i s)
+pub data WaitCause (n : ℕ) (h : History) : Call → Type 0 where
+  cut-off : (i : ℕ) (s : List ℕ) → Sits n h i → Few s ⊎ Cut s → WaitCause n h (feed i s)
 
 -- ---- a request for a block that is there: to be served exactly if we don't choke the truck and it is interested, else to be dropped
 

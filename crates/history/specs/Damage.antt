@@ -13,7 +13,7 @@ use Rattle.tables.specs.Frames.{overTop, spareSet}
 use Rattle.tables.specs.Seating.{lowestFree, atZero}
 use Rattle.tables.specs.Step.{Call, start, sit, leave, feed, choke, interest, missing, scarcest, look, has, count}
 use Rattle.history.specs.Causes.{Says}
-use Rattle.history.specs.Run.{Sized}
+use Rattle.history.specs.Run.{SizesFit}
 
 -- the sizes of the head are legal and fit the tables beside it
 abbrev pub Fit : Yard → Type 0
@@ -21,7 +21,7 @@ Fit y = sizesFit (y .head) (length (y .seats)) (length (y .rows)) (length (y .ho
 
 -- 38: a start's own sizes do not fit, in any other call the head's
 abbrev pub Unfit : Yard → Call → Type 0
-Unfit y (start p l k) = Sized p l k y → ⊥
+Unfit y (start p l k) = SizesFit p l k y → ⊥
 Unfit y sit = Fit y → ⊥
 Unfit y (leave i) = Fit y → ⊥
 Unfit y (feed i s) = Fit y → ⊥

@@ -17,8 +17,8 @@ use Rattle.tables.specs.Frames.{spareSet}
 use Rattle.tables.specs.Tables.{Said, wait, done, used, serve, dropped, seated, wrote, listed, shows, holds, heldBy, scarce}
 use Rattle.tables.specs.Step.{Call, start, sit, leave, feed, interest, missing, scarcest, look, has, count, chokeFrame, interestFrame, ifTaken}
 use Rattle.tables.specs.Step.{choke as chokes}
-use Rattle.history.specs.History.{History, fresh, weAreChoking, theyAreInterested, pieces}
-use Rattle.history.specs.History.{seated as sitsAt, sizes as sizesOf}
+use Rattle.history.specs.History.{History, fresh, weAreChoking, theyAreInterested, pieces, sizesSet}
+use Rattle.history.specs.History.{seated as sitsAt}
 use Rattle.history.specs.Says.{hasPiece, recordOf, holders, pageLines, pageOf, lowestWithout, leastOf}
 
 abbrev pub no : ℕ → Outcome Said
@@ -34,7 +34,7 @@ sits n h i = ltb i n && sitsAt h i
 
 -- the length of piece p
 abbrev pub lengthOf : History → ℕ → ℕ
-lengthOf h p = cond (eqb (p + 1) (pieces h)) (sizesOf h .lastLength) (sizesOf h .pieceLength)
+lengthOf h p = cond (eqb (p + 1) (pieces h)) (sizesSet h .lastLength) (sizesSet h .pieceLength)
 
 -- a block has 1 to 16,384 bytes and ends within its piece
 abbrev pub blockFits : History → ℕ → ℕ → ℕ → Bool
@@ -112,5 +112,5 @@ writes n h (look i) = []
 writes n h (has i p) = []
 writes n h (count p) = []
 
-abbrev pub written : ℕ → History → Call → List ℕ
-written n h c = ifTaken (answer n h c) (writes n h c)
+abbrev pub output : ℕ → History → Call → List ℕ
+output n h c = ifTaken (answer n h c) (writes n h c)

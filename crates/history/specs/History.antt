@@ -16,10 +16,10 @@ use Rattle.tables.specs.Step.{choke as chokes}
 pub record Entry : Type 0 where
   pub call : Call
   pub answer : Outcome Said
-  pub written : List ℕ
+  pub output : List ℕ
 
 abbrev pub entry : Call → Outcome Said → List ℕ → Entry
-entry c a w = record { call = c; answer = a; written = w }
+entry c a w = record { call = c; answer = a; output = w }
 
 -- the newest first
 abbrev pub History : Type 0
@@ -246,9 +246,9 @@ sizesAfter c (refused n p) z = z
 unfoldable pub sizesWith : Entry → Sizes → Sizes
 sizesWith e z = sizesAfter (e .call) (e .answer) z
 
-abbrev pub sizes : History → Sizes
-sizes [] = record { pieces = 0; pieceLength = 0; lastLength = 0 }
-sizes (e ∷ h) = sizesWith e (sizes h)
+abbrev pub sizesSet : History → Sizes
+sizesSet [] = record { pieces = 0; pieceLength = 0; lastLength = 0 }
+sizesSet (e ∷ h) = sizesWith e (sizesSet h)
 
 abbrev pub pieces : History → ℕ
-pieces h = sizes h .pieces
+pieces h = sizesSet h .pieces

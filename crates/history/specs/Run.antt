@@ -10,9 +10,8 @@ use Rattle.tables.specs.Rows.{width, hasIn}
 use Rattle.tables.specs.Seats.{cleared}
 use Rattle.tables.specs.Tables.{Yard, done}
 use Rattle.tables.specs.Step.{Call, start, step, written}
-use Rattle.history.specs.History.{Entry, History, entry, pieces, sizes}
-use Rattle.history.specs.Expected
-use Rattle.history.specs.Expected.{answer}
+use Rattle.history.specs.History.{Entry, History, entry, pieces, sizesSet}
+use Rattle.history.specs.Expected.{answer, output}
 use Rattle.history.specs.Says.{hasPiece, recordOf, holders, takenSeats, completeSeats}
 
 -- the history so far, and the tables
@@ -34,7 +33,7 @@ abbrev pub Accepted : ℕ → ℕ → ℕ → Yard → Type 0
 Accepted p l k y = step (start p l k) y .answer ≡ taken done
 
 -- that is: the sizes are legal, and the lent tables have them
-pub record Sized (p l k : ℕ) (y : Yard) : Type 0 where
+pub record SizesFit (p l k : ℕ) (y : Yard) : Type 0 where
   pub some-pieces : 1 ≤ p
   pub few-pieces : p ≤ mostPieces
   pub some-seats : 1 ≤ length (y .seats)
@@ -57,7 +56,7 @@ calls (e ∷ h) cs = calls h (e .call ∷ cs)
 -- after the start, each answer of a history, and what was written, is the one that the history before it says
 pub data Answered (n : ℕ) : History → Type 0 where
   started : (e : Entry) → Answered n (e ∷ [])
-  and-then : (e : Entry) (h : History) → Answered n h → e .answer ≡ answer n h (e .call) → e .written ≡ Expected.written n h (e .call) → Answered n (e ∷ h)
+  and-then : (e : Entry) (h : History) → Answered n h → e .answer ≡ answer n h (e .call) → e .output ≡ output n h (e .call) → Answered n (e ∷ h)
 
 -- the tables of n seats are what the history says, and no count passes what it could reach
 pub record Right (n : ℕ) (h : History) (y : Yard) : Type 0 where
@@ -68,8 +67,8 @@ pub record Right (n : ℕ) (h : History) (y : Yard) : Type 0 where
   pub seat-right : (i : ℕ) → i < n → getD (y .seats) i cleared ≡ recordOf h i
   pub row-right : (i p : ℕ) → i < n → p < pieces h → hasIn (width (pieces h)) (y .rows) i p ≡ hasPiece h i p
   pub pieces-right : y .head .pieces ≡ pieces h
-  pub piece-length-right : y .head .«piece_length» ≡ sizes h .pieceLength
-  pub last-length-right : y .head .«last_length» ≡ sizes h .lastLength
+  pub piece-length-right : y .head .«piece_length» ≡ sizesSet h .pieceLength
+  pub last-length-right : y .head .«last_length» ≡ sizesSet h .lastLength
   pub holders-top : (p : ℕ) → p < pieces h → getD (y .holders) p 0 ≤ n
   pub held-top : (i : ℕ) → i < n → getD (y .seats) i cleared .held ≤ pieces h
   pub taken-top : y .head .taken ≤ n

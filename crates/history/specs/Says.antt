@@ -10,7 +10,7 @@ use Rattle.tables.specs.Looks.{firstOr}
 use Rattle.tables.specs.declared.Head.{Head}
 use Rattle.tables.specs.declared.Seat.{Seat}
 use Rattle.tables.specs.declared.Page.{Page}
-use Rattle.history.specs.History.{History, seated, announced, fresh, weAreChoking, weAreInterested, theyAreChoking, theyAreInterested, sizes, pieces}
+use Rattle.history.specs.History.{History, seated, announced, fresh, weAreChoking, weAreInterested, theyAreChoking, theyAreInterested, sizesSet, pieces}
 
 -- ---- one truck
 
@@ -57,8 +57,8 @@ completeSeats n h = count n (loaded h)
 abbrev pub headOf : ℕ → History → Head
 headOf n h = record {
   pieces = pieces h;
-  «piece_length» = sizes h .pieceLength;
-  «last_length» = sizes h .lastLength;
+  «piece_length» = sizesSet h .pieceLength;
+  «last_length» = sizesSet h .lastLength;
   taken = takenSeats n h;
   complete = completeSeats n h;
 }
@@ -105,12 +105,6 @@ pub record Lowest (f : ℕ → Bool) (n k : ℕ) : Type 0 where
   pub within : k ≤ n
   pub below : (j : ℕ) → j < k → f j ≡ true
   pub lacks : k < n → f k ≡ false
-
--- k is the smallest number below n where f is least
-pub record Least (f : ℕ → ℕ) (n k : ℕ) : Type 0 where
-  pub within : k < n
-  pub least : (q : ℕ) → q < n → f k ≤ f q
-  pub first : (q : ℕ) → q < k → f k < f q
 
 -- each number is greater than those before it, the first at least k
 pub data Ascending : ℕ → List ℕ → Type 0 where

@@ -12,10 +12,12 @@ use borrow.Author.Tests.{lt-ltb, le-ltb, eq-eqb, ne-eqb, not-false, not-true}
 use Rattle.refusal.specs.Numbers.{seat, sizes, beyond}
 use Rattle.refusal.specs.Paper.{Outcome, taken, refused}
 use Rattle.refusal.proofs.Cases.{pick-yes, pick-no, same-or, less-or}
+use Rattle.tables.specs.Counting.{Least}
 use Rattle.tables.specs.Rows.{digit, width, hasIn}
 use Rattle.tables.specs.Tables.{Said, shows, holds, heldBy, scarce, Around, Turn, around, paper, refuse, says, sizesFit, sized}
 use Rattle.tables.specs.Looks.{fewest, placeOf, scarcestOf, seatOf, hasOf, countOf}
 use Rattle.tables.proofs.Sizing.{fitting}
+use Rattle.tables.proofs.Scarce.{least-start, least-turn, least-unique, place-least}
 use Rattle.tables.specs.declared.Head.{Head}
 use Rattle.tables.specs.declared.Seat.{Seat}
 use Rattle.tables.specs.declared.Answer.{Answer}
@@ -114,58 +116,20 @@ module _ (h : Head) (n : ℕ) (rows holders : List ℕ) (b : Bool) (eb : b ≡ s
 
 -- ---- the scarcest piece
 
--- of the first n, b is the first of those with the smallest count
-pub record Rarest (l : List ℕ) (n b : ℕ) : Type 0 where
-  pub inside : b < n
-  pub least : (j : ℕ) → j < n → getD l b 0 ≤ getD l j 0
-  pub first : (j : ℕ) → j < b → getD l b 0 < getD l j 0
+-- of the first n counts, b is the first of the smallest
+abbrev pub Rarest : List ℕ → ℕ → ℕ → Type 0
+Rarest l n b = Least (λ q. getD l q 0) n b
 
 pub rarest-start : (l : List ℕ) → Rarest l 1 0
-rarest-start l = record {
-  inside = omega arith;
-  least = λ j h. let e : 0 ≡ j = omega arith in subst (λ (k : ℕ). getD l 0 0 ≤ getD l k 0) e (omega arith);
-  first = λ j h. absurd (not-suc-le-zero h);
-}
+rarest-start l = least-start (λ q. getD l q 0)
 
 pub rarest-turn : (l : List ℕ) (b p r : ℕ) → Rarest l p b → r ≡ cond (ltb (getD l p 0) (getD l b 0)) p b → Rarest l (p + 1) r
-rarest-turn l b p r x er = less-or (getD l p 0) (getD l b 0)
-    (λ h. subst (Rarest l (p + 1)) (pick-yes b (ltb (getD l p 0) (getD l b 0)) (lt-ltb (getD l p 0) (getD l b 0) h) refl ∙ sym er)
-    (record {
-      inside = omega arith;
-      least = λ j m. same-or j p (λ e. subst (λ (k : ℕ). getD l p 0 ≤ getD l k 0) (sym e) (omega arith)) (λ e. omega (arith, x .least j (omega arith)));
-      first = λ j m. omega (arith, x .least j m);
-    }))
-    (λ h. subst (Rarest l (p + 1)) (pick-no p (ltb (getD l p 0) (getD l b 0)) (le-ltb (getD l p 0) (getD l b 0) h) refl ∙ sym er)
-    (record {
-      inside = omega (arith, x .inside);
-      least = λ j m. same-or j p (λ e. subst (λ (k : ℕ). getD l b 0 ≤ getD l k 0) (sym e) h) (λ e. x .least j (omega arith));
-      first = x .first;
-    }))
-
--- the smallest count is at most each of them, and is one of them
-fewest-least : (l : List ℕ) (j : ℕ) → j < length l → fewest l ≤ getD l j 0
-unfolding fewest
-fewest-least [] j h = absurd (not-suc-le-zero h)
-fewest-least (k ∷ []) zero h = omega arith
-fewest-least (k ∷ []) (suc j) h = let z : j < 0 = omega arith in absurd (not-suc-le-zero z)
-fewest-least (k ∷ m ∷ ks) zero h = omega arith
-fewest-least (k ∷ m ∷ ks) (suc j) h = omega (arith, fewest-least (m ∷ ks) j (omega arith))
-
-fewest-at : (l : List ℕ) (m : ℕ) → 1 ≤ length l → ((j : ℕ) → j < length l → m ≤ getD l j 0) → m ≤ fewest l
-unfolding fewest
-fewest-at [] m h f = absurd (not-suc-le-zero h)
-fewest-at (k ∷ []) m h f = f 0 (omega arith)
-fewest-at (k ∷ x ∷ ks) m h f = omega (arith, f 0 (omega arith), fewest-at (x ∷ ks) m (omega arith) (λ j q. f (suc j) (omega arith)))
-
-place-is : (l : List ℕ) (m b : ℕ) → b < length l → getD l b 0 ≡ m → ((j : ℕ) → j < b → getD l j 0 ≢ m) → b ≡ placeOf m l
-unfolding placeOf
-place-is [] m b h e f = absurd (not-suc-le-zero h)
-place-is (k ∷ ks) m zero h e f = pick-yes (suc (placeOf m ks)) (eqb k m) (eq-eqb k m e) refl
-place-is (k ∷ ks) m (suc b) h e f =
-    pick-no 0 (eqb k m) (ne-eqb k m (f 0 (omega arith))) (ap suc (place-is ks m b (omega arith) e (λ j q. f (suc j) (omega arith))))
+rarest-turn l b p r x e =
+    let y : Rarest l (suc p) r = subst (Rarest l (suc p)) (sym e) (least-turn (λ q. getD l q 0) p b x) in
+    let next : suc p ≡ p + 1 = omega arith in
+    subst (λ (n : ℕ). Rarest l n r) next y
 
 pub rarest-is : (l : List ℕ) (n b : ℕ) → n ≡ length l → Rarest l n b → b ≡ placeOf (fewest l) l
 rarest-is l n b e x =
-    let low : fewest l ≤ getD l b 0 = fewest-least l b (omega (arith, x .inside)) in
-    let high : getD l b 0 ≤ fewest l = fewest-at l (getD l b 0) (omega (arith, x .inside)) (λ j q. x .least j (omega arith)) in
-    place-is l (fewest l) b (omega (arith, x .inside)) (omega arith) (λ j q z. omega (arith, x .first j q))
+    let y : Rarest l (length l) b = subst (λ (k : ℕ). Rarest l k b) e x in
+    least-unique (λ q. getD l q 0) (length l) b (placeOf (fewest l) l) y (place-least l (omega (arith, y .within)))

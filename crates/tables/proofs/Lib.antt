@@ -3,6 +3,7 @@ pub mod Sweeps
 pub mod Digits
 pub mod Sizing
 pub mod Counts
+pub mod Scarce
 pub mod Rows
 pub mod Telling
 pub mod Keeping

@@ -6,7 +6,7 @@ use lib.Dec.{eqb, ltb, leb}
 use lib.ListN.{length, getD}
 use Rattle.refusal.specs.Paper.{Outcome, taken, refused}
 use Rattle.refusal.specs.Numbers.{late, beyond, bitfield, spare, outside, damaged}
-use Rattle.refusal.specs.Limits.{longestBlock}
+use Rattle.blocks.specs.Answers.{lies}
 use Rattle.wire.specs.Message.{Message, keepalive, choke, unchoke, interested, notInterested, have, request, piece, cancel, other}
 use Rattle.wire.specs.Frames.{Found, wait, found, readOf, meant}
 use Rattle.tables.specs.Counting.{bit, count, some, each}
@@ -85,7 +85,7 @@ pieceSize h p = cond (eqb (p + 1) (h .pieces)) (h .«last_length») (h .«piece_
 
 -- a block has 1 to 16,384 bytes and ends within its piece
 abbrev pub blockFits : Head → ℕ → ℕ → ℕ → Bool
-blockFits h p begin len = leb 1 len && (leb len longestBlock && leb (begin + len) (pieceSize h p))
+blockFits h p begin len = lies (pieceSize h p) begin len
 
 -- a frame that speaks of a block
 unfoldable pub blockOf : ℕ → ℕ → ℕ → Said → Around → Turn

@@ -14,7 +14,7 @@ use Rattle.tables.specs.Rows.{width, bitAt}
 use Rattle.tables.specs.Tables.{Yard, wait}
 use Rattle.tables.specs.Step.{Call, start, sit, feed, missing, look, has, count, step}
 use Rattle.history.specs.History.{History, seated, fresh, pieces}
-use Rattle.history.specs.Causes.{Sits, Nobody, On, Marks, Says, Block, Fits, StartFits, Cause, Waits, cut-off, too-long, wrong-payload, not-first, no-such-have, no-such-block, no-such-has, no-such-count, wrong-length, spare-bit, past-piece, all-taken, nobody, past-list, past-look, past-has, no-room, unfit}
+use Rattle.history.specs.Causes.{Sits, Nobody, On, Marks, Says, SpeaksOf, Fits, StartFits, Cause, WaitCause, cut-off, too-long, wrong-payload, not-first, no-such-have, no-such-block, no-such-has, no-such-count, wrong-length, spare-bit, past-piece, all-taken, nobody, past-list, past-look, past-has, no-room, unfit}
 use Rattle.history.proofs.Demand.{fair, fair-wait, never-damaged}
 use Rattle.history.specs.Run.{Accepted, State, after}
 use Rattle.demands.specs.Three.Program.{Made, made-run}
@@ -30,7 +30,7 @@ module _ (n : ℕ) (h : History) where
   At30 c = ((i : ℕ) × (s : List ℕ) × (b : List ℕ) × (bytes : ℕ) × (c ≡ feed i s) × Sits n h i × Says s (bits b) bytes × (fresh h i ≡ false))
 
   abbrev At31 : Call → Type 0
-  At31 c = (((i : ℕ) × (s : List ℕ) × (q : ℕ) × (bytes : ℕ) × (c ≡ feed i s) × Sits n h i × Says s (have q) bytes × (pieces h ≤ q)) ⊎ (((i : ℕ) × (s : List ℕ) × (m : Message (List ℕ)) × (q : ℕ) × (b : ℕ) × (k : ℕ) × (bytes : ℕ) × (c ≡ feed i s) × Sits n h i × Says s m bytes × Block q b k m × (pieces h ≤ q)) ⊎ (((i : ℕ) × (q : ℕ) × (c ≡ has i q) × (i < n) × (pieces h ≤ q)) ⊎ ((q : ℕ) × (c ≡ count q) × (pieces h ≤ q)))))
+  At31 c = (((i : ℕ) × (s : List ℕ) × (q : ℕ) × (bytes : ℕ) × (c ≡ feed i s) × Sits n h i × Says s (have q) bytes × (pieces h ≤ q)) ⊎ (((i : ℕ) × (s : List ℕ) × (m : Message (List ℕ)) × (q : ℕ) × (b : ℕ) × (k : ℕ) × (bytes : ℕ) × (c ≡ feed i s) × Sits n h i × Says s m bytes × SpeaksOf q b k m × (pieces h ≤ q)) ⊎ (((i : ℕ) × (q : ℕ) × (c ≡ has i q) × (i < n) × (pieces h ≤ q)) ⊎ ((q : ℕ) × (c ≡ count q) × (pieces h ≤ q)))))
 
   abbrev At32 : Call → Type 0
   At32 c = ((i : ℕ) × (s : List ℕ) × (b : List ℕ) × (bytes : ℕ) × (c ≡ feed i s) × Sits n h i × Says s (bits b) bytes × (fresh h i ≡ true) × (length b ≡ width (pieces h) → ⊥))
@@ -39,7 +39,7 @@ module _ (n : ℕ) (h : History) where
   At33 c = ((i : ℕ) × (s : List ℕ) × (b : List ℕ) × (bytes : ℕ) × (q : ℕ) × (c ≡ feed i s) × Sits n h i × Says s (bits b) bytes × (fresh h i ≡ true) × (length b ≡ width (pieces h)) × (pieces h ≤ q) × (q < 8 * length b) × (bitAt b q ≡ true))
 
   abbrev At34 : Call → Type 0
-  At34 c = ((i : ℕ) × (s : List ℕ) × (m : Message (List ℕ)) × (q : ℕ) × (b : ℕ) × (k : ℕ) × (bytes : ℕ) × (c ≡ feed i s) × Sits n h i × Says s m bytes × Block q b k m × (q < pieces h) × (Fits h q b k → ⊥))
+  At34 c = ((i : ℕ) × (s : List ℕ) × (m : Message (List ℕ)) × (q : ℕ) × (b : ℕ) × (k : ℕ) × (bytes : ℕ) × (c ≡ feed i s) × Sits n h i × Says s m bytes × SpeaksOf q b k m × (q < pieces h) × (Fits h q b k → ⊥))
 
   abbrev At35 : Call → Type 0
   At35 c = ((c ≡ sit) × ((i : ℕ) → i < n → seated h i ≡ true))
@@ -121,7 +121,7 @@ module _ (n : ℕ) (h : History) where
   pub cause-30 : (c : Call) (place : ℕ) → (Cause n h c 30 × (place ≡ 0)) ↔ (((i : ℕ) × (s : List ℕ) × (b : List ℕ) × (bytes : ℕ) × (c ≡ feed i s) × Sits n h i × Says s (bits b) bytes × (fresh h i ≡ false)) × (place ≡ 0))
   cause-30 c place = (λ q. (by-number c 30 (q .0) (λ e x. absurd (omega arith)) (λ e x. absurd (omega arith)) (λ e x. x) (λ e x. absurd (omega arith)) (λ e x. absurd (omega arith)) (λ e x. absurd (omega arith)) (λ e x. absurd (omega arith)) (λ e x. absurd (omega arith)) (λ e x. absurd (omega arith)) (λ e x. absurd (omega arith)) (λ e x. absurd (omega arith)), q .1), λ q. (from-30 (q .0), q .1))
 
-  pub cause-31 : (c : Call) (place : ℕ) → (Cause n h c 31 × (place ≡ 0)) ↔ ((((i : ℕ) × (s : List ℕ) × (q : ℕ) × (bytes : ℕ) × (c ≡ feed i s) × Sits n h i × Says s (have q) bytes × (pieces h ≤ q)) ⊎ (((i : ℕ) × (s : List ℕ) × (m : Message (List ℕ)) × (q : ℕ) × (b : ℕ) × (k : ℕ) × (bytes : ℕ) × (c ≡ feed i s) × Sits n h i × Says s m bytes × Block q b k m × (pieces h ≤ q)) ⊎ (((i : ℕ) × (q : ℕ) × (c ≡ has i q) × (i < n) × (pieces h ≤ q)) ⊎ ((q : ℕ) × (c ≡ count q) × (pieces h ≤ q))))) × (place ≡ 0))
+  pub cause-31 : (c : Call) (place : ℕ) → (Cause n h c 31 × (place ≡ 0)) ↔ ((((i : ℕ) × (s : List ℕ) × (q : ℕ) × (bytes : ℕ) × (c ≡ feed i s) × Sits n h i × Says s (have q) bytes × (pieces h ≤ q)) ⊎ (((i : ℕ) × (s : List ℕ) × (m : Message (List ℕ)) × (q : ℕ) × (b : ℕ) × (k : ℕ) × (bytes : ℕ) × (c ≡ feed i s) × Sits n h i × Says s m bytes × SpeaksOf q b k m × (pieces h ≤ q)) ⊎ (((i : ℕ) × (q : ℕ) × (c ≡ has i q) × (i < n) × (pieces h ≤ q)) ⊎ ((q : ℕ) × (c ≡ count q) × (pieces h ≤ q))))) × (place ≡ 0))
   cause-31 c place = (λ q. (by-number c 31 (q .0) (λ e x. absurd (omega arith)) (λ e x. absurd (omega arith)) (λ e x. absurd (omega arith)) (λ e x. x) (λ e x. absurd (omega arith)) (λ e x. absurd (omega arith)) (λ e x. absurd (omega arith)) (λ e x. absurd (omega arith)) (λ e x. absurd (omega arith)) (λ e x. absurd (omega arith)) (λ e x. absurd (omega arith)), q .1), λ q. (from-31 (q .0), q .1))
 
   pub cause-32 : (c : Call) (place : ℕ) → (Cause n h c 32 × (place ≡ 0)) ↔ (((i : ℕ) × (s : List ℕ) × (b : List ℕ) × (bytes : ℕ) × (c ≡ feed i s) × Sits n h i × Says s (bits b) bytes × (fresh h i ≡ true) × (length b ≡ width (pieces h) → ⊥)) × (place ≡ 0))
@@ -130,7 +130,7 @@ module _ (n : ℕ) (h : History) where
   pub cause-33 : (c : Call) (place : ℕ) → (Cause n h c 33 × (place ≡ 0)) ↔ (((i : ℕ) × (s : List ℕ) × (b : List ℕ) × (bytes : ℕ) × (q : ℕ) × (c ≡ feed i s) × Sits n h i × Says s (bits b) bytes × (fresh h i ≡ true) × (length b ≡ width (pieces h)) × (pieces h ≤ q) × (q < 8 * length b) × (bitAt b q ≡ true)) × (place ≡ 0))
   cause-33 c place = (λ q. (by-number c 33 (q .0) (λ e x. absurd (omega arith)) (λ e x. absurd (omega arith)) (λ e x. absurd (omega arith)) (λ e x. absurd (omega arith)) (λ e x. absurd (omega arith)) (λ e x. x) (λ e x. absurd (omega arith)) (λ e x. absurd (omega arith)) (λ e x. absurd (omega arith)) (λ e x. absurd (omega arith)) (λ e x. absurd (omega arith)), q .1), λ q. (from-33 (q .0), q .1))
 
-  pub cause-34 : (c : Call) (place : ℕ) → (Cause n h c 34 × (place ≡ 0)) ↔ (((i : ℕ) × (s : List ℕ) × (m : Message (List ℕ)) × (q : ℕ) × (b : ℕ) × (k : ℕ) × (bytes : ℕ) × (c ≡ feed i s) × Sits n h i × Says s m bytes × Block q b k m × (q < pieces h) × (Fits h q b k → ⊥)) × (place ≡ 0))
+  pub cause-34 : (c : Call) (place : ℕ) → (Cause n h c 34 × (place ≡ 0)) ↔ (((i : ℕ) × (s : List ℕ) × (m : Message (List ℕ)) × (q : ℕ) × (b : ℕ) × (k : ℕ) × (bytes : ℕ) × (c ≡ feed i s) × Sits n h i × Says s m bytes × SpeaksOf q b k m × (q < pieces h) × (Fits h q b k → ⊥)) × (place ≡ 0))
   cause-34 c place = (λ q. (by-number c 34 (q .0) (λ e x. absurd (omega arith)) (λ e x. absurd (omega arith)) (λ e x. absurd (omega arith)) (λ e x. absurd (omega arith)) (λ e x. absurd (omega arith)) (λ e x. absurd (omega arith)) (λ e x. x) (λ e x. absurd (omega arith)) (λ e x. absurd (omega arith)) (λ e x. absurd (omega arith)) (λ e x. absurd (omega arith)), q .1), λ q. (from-34 (q .0), q .1))
 
   pub cause-35 : (c : Call) (place : ℕ) → (Cause n h c 35 × (place ≡ 0)) ↔ (((c ≡ sit) × ((i : ℕ) → i < n → seated h i ≡ true)) × (place ≡ 0))
@@ -161,8 +161,8 @@ module _ (lent : Yard) (h : History) (y : Yard) (made : Made lent h y) (c : Call
 
   pub made-wait : step c y .answer ≡ taken wait ↔ ((i : ℕ) × (s : List ℕ) × (c ≡ feed i s) × Sits n h i × (Few s ⊎ Cut s))
   made-wait =
-      let f = at-end (λ g z. step c z .answer ≡ taken wait ↔ Waits n g c) (λ p l k ok cs. fair-wait p l k lent ok cs c) in
-      (λ e. go c (f .0 e), λ q. f .1 (subst (Waits n h) (sym (q .2)) (cut-off (q .0) (q .1) (q .3) (q .4))))
+      let f = at-end (λ g z. step c z .answer ≡ taken wait ↔ WaitCause n g c) (λ p l k ok cs. fair-wait p l k lent ok cs c) in
+      (λ e. go c (f .0 e), λ q. f .1 (subst (WaitCause n h) (sym (q .2)) (cut-off (q .0) (q .1) (q .3) (q .4))))
     where
-      go : (c : Call) → Waits n h c → (i : ℕ) × (s : List ℕ) × (c ≡ feed i s) × Sits n h i × (Few s ⊎ Cut s)
+      go : (c : Call) → WaitCause n h c → (i : ℕ) × (s : List ℕ) × (c ≡ feed i s) × Sits n h i × (Few s ⊎ Cut s)
       go c (cut-off i s g w) = (i, s, refl, g, w)

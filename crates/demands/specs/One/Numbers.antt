@@ -54,7 +54,7 @@ use Rattle.tables.specs.Rows.{width, bitAt}
 use Rattle.tables.specs.Tables.{Yard, wait}
 use Rattle.tables.specs.Step.{Call, start, sit, feed, missing, look, has, count, step}
 use Rattle.history.specs.History.{History, seated, fresh, pieces}
-use Rattle.history.specs.Causes.{Sits, Nobody, On, Marks, Says, Block, Fits, StartFits}
+use Rattle.history.specs.Causes.{Sits, Nobody, On, Marks, Says, SpeaksOf, Fits, StartFits}
 use Rattle.history.specs.Damage.{Unfit, Damaged}
 use Rattle.history.proofs.Damage as damage
 use Rattle.demands.specs.One.Causes.{Unchecked, Unsized, NoReplyText}
@@ -362,7 +362,7 @@ yard-30 lent h y m c place = both-ways (reasons.made-fair lent h y m c 30 place)
 -- given by yard, after an accepted start and any calls
 pub yard-31 : (lent : Yard) (h : History) (y : Yard) → Made lent h y → (c : Call) (place : ℕ) → step c y .answer ≡ refused 31 place
     ↔ ((((i : ℕ) × (s : List ℕ) × (q : ℕ) × (bytes : ℕ) × (c ≡ feed i s) × Sits (length (lent .seats)) h i × Says s (have q) bytes × (pieces h ≤ q))
-    ⊎ (((i : ℕ) × (s : List ℕ) × (m : Message (List ℕ)) × (q : ℕ) × (b : ℕ) × (k : ℕ) × (bytes : ℕ) × (c ≡ feed i s) × Sits (length (lent .seats)) h i × Says s m bytes × Block q b k m × (pieces h ≤ q))
+    ⊎ (((i : ℕ) × (s : List ℕ) × (m : Message (List ℕ)) × (q : ℕ) × (b : ℕ) × (k : ℕ) × (bytes : ℕ) × (c ≡ feed i s) × Sits (length (lent .seats)) h i × Says s m bytes × SpeaksOf q b k m × (pieces h ≤ q))
     ⊎ (((i : ℕ) × (q : ℕ) × (c ≡ has i q) × (i < (length (lent .seats))) × (pieces h ≤ q))
     ⊎ ((q : ℕ) × (c ≡ count q) × (pieces h ≤ q))))) × (place ≡ 0))
 yard-31 lent h y m c place = both-ways (reasons.made-fair lent h y m c 31 place) (reasons.cause-31 (length (lent .seats)) h c place)
@@ -414,7 +414,7 @@ yard-33 lent h y m c place = both-ways (reasons.made-fair lent h y m c 33 place)
 
 -- given by yard, after an accepted start and any calls
 pub yard-34 : (lent : Yard) (h : History) (y : Yard) → Made lent h y → (c : Call) (place : ℕ) → step c y .answer ≡ refused 34 place
-    ↔ (((i : ℕ) × (s : List ℕ) × (m : Message (List ℕ)) × (q : ℕ) × (b : ℕ) × (k : ℕ) × (bytes : ℕ) × (c ≡ feed i s) × Sits (length (lent .seats)) h i × Says s m bytes × Block q b k m × (q < pieces h) × (Fits h q b k → ⊥)) × (place ≡ 0))
+    ↔ (((i : ℕ) × (s : List ℕ) × (m : Message (List ℕ)) × (q : ℕ) × (b : ℕ) × (k : ℕ) × (bytes : ℕ) × (c ≡ feed i s) × Sits (length (lent .seats)) h i × Says s m bytes × SpeaksOf q b k m × (q < pieces h) × (Fits h q b k → ⊥)) × (place ≡ 0))
 yard-34 lent h y m c place = both-ways (reasons.made-fair lent h y m c 34 place) (reasons.cause-34 (length (lent .seats)) h c place)
 
 -- given by blocks::block

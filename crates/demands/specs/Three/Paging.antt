@@ -18,7 +18,7 @@ use Rattle.tables.specs.Step.{missing, ifTaken}
 use Rattle.tables.specs.declared.Page.{Page}
 use Rattle.history.specs.History.{History}
 use Rattle.history.specs.Says.{Ascending, lacking, missingFrom, pageLines, pageOf}
-use Rattle.history.specs.Expected.{answer, written}
+use Rattle.history.specs.Expected.{answer, output}
 use Rattle.history.proofs.Pages.{listed-lacks, lacking-listed, list-ascends, lines-fit}
 
 -- the total is of all seats, whatever the page
@@ -44,7 +44,7 @@ module _ (n : ℕ) (h : History) (first : ℕ) (page out : List ℕ) (x : Page) 
       let z : 0 + length (take (length page) list) ≡ length (take (length page) list) = omega arith in
       e ∙ rw z at (sets-eq (take (length page) list) page 0 (omega (arith, length-take (length page) list)))
 
-  pub page-listed : answer n h (missing first (length page)) ≡ taken (listed x) → out ≡ sets page 0 (written n h (missing first (length page))) → Listed
+  pub page-listed : answer n h (missing first (length page)) ≡ taken (listed x) → out ≡ sets page 0 (output n h (missing first (length page))) → Listed
   page-listed e w = go (leb first n) refl e w
     where
       go : (b : Bool) → leb first n ≡ b → cond b (taken (listed (pageOf n h first (length page)))) (refused 36 0) ≡ taken (listed x)

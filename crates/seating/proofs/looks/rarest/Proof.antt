@@ -27,7 +27,7 @@ loop-holds c = (c .before .pre, rarest-start (c .before .args .holders .now))
 
 -- src/looks.rt:82:9
 rarer-requires : tie.Need-rarer-requires Inv-loop μ-loop
-rarer-requires c κs = (omega (arith, c .before .loop .inv .1 .inside), c .loop-test .taken)
+rarer-requires c κs = (omega (arith, c .before .loop .inv .1 .within), c .loop-test .taken)
 
 -- src/looks.rt:83:9
 add-p : tie.Need-add-p Inv-loop μ-loop
