@@ -25,7 +25,8 @@ use Rattle.tables.proofs.Digits.{or-had, row-in}
 use Rattle.tables.proofs.Counts.{count-none, some-none}
 use Rattle.tables.proofs.Single.{each-none, count-only, some-only, each-only}
 use Rattle.hearing.specs.Passes.{checked, raised, merged}
-use Rattle.hearing.specs.Steps.{InTables, stepped, refusing, tooMany, gained}
+use Rattle.tables.specs.Replies.{stepped, refusing}
+use Rattle.hearing.specs.Steps.{InTables, tooMany, gained}
 use Rattle.hearing.specs.declared.row.News.{News}
 use Rattle.hearing.proofs.Passing.{added-is, over-is, checked-le, raised-is, merged-is}
 use Rattle.hearing.proofs.Gaining.{many-none, room-holders}

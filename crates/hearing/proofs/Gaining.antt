@@ -12,7 +12,8 @@ use Rattle.tables.specs.declared.Head.{Head}
 use Rattle.tables.specs.declared.Seat.{Seat}
 use Rattle.tables.specs.declared.Answer.the-variants.{Taken}
 use Rattle.tables.specs.declared.Stepped.{Stepped}
-use Rattle.hearing.specs.Steps.{stepped, full, tooMany, gained}
+use Rattle.tables.specs.Replies.{stepped}
+use Rattle.hearing.specs.Steps.{full, tooMany, gained}
 use Rattle.hearing.specs.declared.row.News.{News}
 
 or-last : (a b o : Bool) → o ≡ true → true ≡ (a || (b || o))

@@ -24,6 +24,7 @@ use Rattle.wire.specs.declared.Read.{Read}
 use Rattle.wire.specs.declared.Read.the-variants.{Wait, Keepalive, Whole, Refused}
 use Rattle.wire.proofs.Decided.{exactly}
 use Rattle.wire.proofs.Steps.{by-id, message-other, read-sized, sized-whole}
+use Rattle.tables.specs.Replies.{stepped, refusing}
 use Rattle.tables.specs.Seats.{spoken, theyChoke, theyWant}
 use Rattle.tables.specs.Tables.{used, Turn, around, turn, sizesFit}
 use Rattle.tables.specs.Frames.{haveOf, bitfieldOf, blockOf, requested, messageOf, frameOf, feedOf}
@@ -32,7 +33,7 @@ use Rattle.tables.specs.declared.Seat.{Seat}
 use Rattle.tables.specs.declared.Answer.the-variants as A
 use Rattle.tables.specs.declared.Stepped.{Stepped}
 use Rattle.tables.proofs.Sizing.{fitting}
-use Rattle.hearing.specs.Steps.{InTables, Inside, stepped, refusing}
+use Rattle.hearing.specs.Steps.{InTables, Inside}
 
 -- ---- the bytes that a frame speaks of lie in the text
 

@@ -1,6 +1,5 @@
 -- What the proofs of several functions use.
 pub mod Passing
-pub mod Blocks
 pub mod Gaining
 pub mod Announcing
 pub mod Hearing

@@ -10,12 +10,12 @@ use Rattle.refusal.specs.Limits.{mostPieces, mostSeats}
 use Rattle.refusal.specs.declared.Part.{Part}
 use Rattle.wire.specs.Message.{Message, keepalive, choke, unchoke, interested, notInterested, have, bitfield, request, piece, cancel, other}
 use Rattle.tables.specs.Counting.{bit}
+use Rattle.tables.specs.Replies.{stepped}
 use Rattle.tables.specs.Rows.{width}
 use Rattle.tables.specs.Seats.{spoken, holding, counted}
 use Rattle.tables.specs.declared.Head.{Head}
 use Rattle.tables.specs.declared.Seat.{Seat}
-use Rattle.tables.specs.declared.Answer.{Answer}
-use Rattle.tables.specs.declared.Answer.the-variants.{Refused, Taken}
+use Rattle.tables.specs.declared.Answer.the-variants.{Taken}
 use Rattle.tables.specs.declared.Stepped.{Stepped}
 use Rattle.hearing.specs.declared.row.News.{News}
 
@@ -40,12 +40,6 @@ Inside s (request p b l) = Unit
 Inside s (piece p b block) = block .from + block .len ≤ length s
 Inside s (cancel p b l) = Unit
 Inside s (other id payload) = Unit
-
-abbrev pub stepped : Head → Seat → Answer → Stepped
-stepped h s a = record { head = h; seat = s; answer = a }
-
-abbrev pub refusing : Head → Seat → ℕ → Stepped
-refusing h s number = stepped h s (Refused (record { number = number; place = 0 }))
 
 -- with the new pieces the truck comes to hold every piece
 abbrev pub full : Head → Seat → News → Bool

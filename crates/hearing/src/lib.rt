@@ -2,7 +2,7 @@
 // the holder counts as they are lent; whatever they hold, a refusal and a wait leave them as they were.
 ghost use mathlib.Core.Path.{_≡_};
 ghost use Rattle.wire.specs.Frames.{message, meant};
-ghost use Rattle.tables.specs.Seats.{theyChoke, theyWant, counted};
+ghost use Rattle.tables.specs.Seats.{counted};
 ghost use Rattle.tables.specs.Tables.{around, turn};
 ghost use Rattle.tables.specs.Frames.{messageOf, feedOf};
 ghost use Rattle.hearing.specs.Steps.{InTables, Inside};
@@ -11,13 +11,13 @@ use tables::Answer;
 use tables::Head;
 use tables::Seat;
 use tables::Stepped;
+use tables::block;
+use tables::reply;
 use tables::sizes;
 use tables::sizes::wide;
 use wire::Frame;
 use wire::Read;
 
-mod answer;
-mod block;
 mod have;
 mod news;
 mod row;
@@ -37,22 +37,22 @@ pub fn feed_step(
     let rows_len = rows.len();
     let holders_len = holders.len();
     if !sizes::sizes_fit(h, n, rows_len, holders_len) {
-        return answer::refused(h, s, number::SIZES);
+        return reply::refused(h, s, number::SIZES);
     }
     if n <= i {
-        return answer::refused(h, s, number::SEAT);
+        return reply::refused(h, s, number::SEAT);
     }
     if !s.taken {
-        return answer::refused(h, s, number::SEAT);
+        return reply::refused(h, s, number::SEAT);
     }
     // Most frames are haves. One that is all there goes past the reader of all frames, whose answer is large.
     if have::is_whole(bytes) {
         return news::have_step(h, s, rows, holders, i, n, 9, wide(have::number(bytes, 5)));
     }
     match wire::read_frame(bytes) {
-        Read::Wait => answer::waiting(h, s),
-        Read::Refused(r) => answer::refused(h, s, r.number),
-        Read::Keepalive(used) => answer::passed(h, s, used),
+        Read::Wait => reply::waiting(h, s),
+        Read::Refused(r) => reply::refused(h, s, r.number),
+        Read::Keepalive(used) => reply::passed(h, s, used),
         Read::Whole(f, used) => {
             // Copies are lent to the call, so that LLVM may keep h and s out of memory.
             let g = h;
@@ -78,10 +78,10 @@ fn frame_step(
     ensures { λ r. ⌜ turn r (now (rows .exit)) (now (holders .exit)) ≡ messageOf n i used (meant (now (bytes .entry)) (message f)) (around h s (now (rows .entry)) (now (holders .entry))) ⌝ }
 {
     match f {
-        Frame::Choke => answer::passed(h, they_choke(s, true), used),
-        Frame::Unchoke => answer::passed(h, they_choke(s, false), used),
-        Frame::Interested => answer::passed(h, they_want(s, true), used),
-        Frame::NotInterested => answer::passed(h, they_want(s, false), used),
+        Frame::Choke => reply::passed(h, reply::they_choke(s, true), used),
+        Frame::Unchoke => reply::passed(h, reply::they_choke(s, false), used),
+        Frame::Interested => reply::passed(h, reply::they_want(s, true), used),
+        Frame::NotInterested => reply::passed(h, reply::they_want(s, false), used),
         Frame::Have(p) => news::have_step(h, s, rows, holders, i, n, used, wide(p)),
         Frame::Bitfield(part) => {
             let from = part.from;
@@ -100,7 +100,7 @@ fn frame_step(
             let within = block::lies_within(h, p, begin, wide(len));
             block::block_step(h, s, p, within, Answer::Taken(used))
         }
-        Frame::Other(_, _) => answer::passed(h, s, used),
+        Frame::Other(_, _) => reply::passed(h, s, used),
     }
 }
 
@@ -111,20 +111,4 @@ pub fn heard_head(was: Head, h: Head) -> Head
     let mut g = was;
     g.complete = h.complete;
     g
-}
-
-fn they_choke(s: Seat, b: bool) -> Seat
-    ensures { λ r. ⌜ r ≡ theyChoke b s ⌝ }
-{
-    let mut t = s;
-    t.peer_choking = b;
-    t
-}
-
-fn they_want(s: Seat, b: bool) -> Seat
-    ensures { λ r. ⌜ r ≡ theyWant b s ⌝ }
-{
-    let mut t = s;
-    t.peer_interested = b;
-    t
 }

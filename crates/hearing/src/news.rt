@@ -8,7 +8,6 @@ ghost use Rattle.tables.specs.Rows.{width, bitAt, withBits};
 ghost use Rattle.tables.specs.Tables.{around, turn};
 ghost use Rattle.tables.specs.Frames.{announce, haveOf, bitfieldOf};
 ghost use Rattle.hearing.specs.Steps.{InTables, full, tooMany, gained};
-use crate::answer;
 use crate::row;
 use crate::row::News;
 use refusal::number;
@@ -16,6 +15,7 @@ use tables::Head;
 use tables::Seat;
 use tables::Stepped;
 use tables::bits;
+use tables::reply;
 use tables::sizes::wide;
 
 // Have: piece p.
@@ -34,17 +34,17 @@ pub fn have_step(
 {
     let pieces = wide(h.pieces);
     if pieces <= p {
-        return answer::refused(h, s, number::BEYOND);
+        return reply::refused(h, s, number::BEYOND);
     }
     let at = i * ((pieces + 7) / 8) + p / 8;
     let had = rows[at];
     if bits::bit_of(had, p) {
-        return answer::passed(h, s, used);
+        return reply::passed(h, s, used);
     }
     let count = holders[p];
     let news = one_more(count, n);
     if too_many(h, s, n, news) {
-        return answer::refused(h, s, number::DAMAGED);
+        return reply::refused(h, s, number::DAMAGED);
     }
     holders[p] = count + 1;
     rows[at] = had | bits::mask(p);
@@ -66,14 +66,14 @@ pub fn bitfield_step(
     ensures { λ r. ⌜ turn r (now (rows .exit)) (now (holders .exit)) ≡ bitfieldOf n i used (now (said .entry)) (around h s (now (rows .entry)) (now (holders .entry))) ⌝ }
 {
     if !s.fresh {
-        return answer::refused(h, s, number::LATE);
+        return reply::refused(h, s, number::LATE);
     }
     let pieces = wide(h.pieces);
     if said.len() != (pieces + 7) / 8 {
-        return answer::refused(h, s, number::BITFIELD);
+        return reply::refused(h, s, number::BITFIELD);
     }
     if row::spare_set(said, pieces) {
-        return answer::refused(h, s, number::SPARE);
+        return reply::refused(h, s, number::SPARE);
     }
     add_step(h, s, rows, holders, i, n, used, said)
 }
@@ -97,7 +97,7 @@ fn add_step(
     let at = i * w;
     let news = row::check_row(rows, said, holders, at, pieces, n as u16);
     if too_many(h, s, n, news) {
-        return answer::refused(h, s, number::DAMAGED);
+        return reply::refused(h, s, number::DAMAGED);
     }
     row::raise_row(rows, said, holders, at, pieces);
     row::merge_row(rows, said, at, w);
@@ -142,14 +142,14 @@ fn gain(h: Head, s: Seat, n: usize, news: News, used: usize) -> Stepped
     ensures { λ r. ⌜ r ≡ gained h s news used ⌝ }
 {
     let sum = wide(s.held) + news.added;
-    let mut t = answer::spoken(s);
+    let mut t = reply::spoken(s);
     t.held = sum as u32;
     if completes(h, s, news) {
         let mut g = h;
         g.complete = h.complete + 1;
-        return answer::taken(g, t, used);
+        return reply::taken(g, t, used);
     }
-    answer::taken(h, t, used)
+    reply::taken(h, t, used)
 }
 
 // Whether the truck comes to hold every piece.

@@ -8,3 +8,4 @@ pub mod Rows
 pub mod Telling
 pub mod Keeping
 pub mod Single
+pub mod Blocks

@@ -2,6 +2,7 @@ pub mod Counting
 pub mod Rows
 pub mod Seats
 pub mod Tables
+pub mod Replies
 pub mod Frames
 pub mod Seating
 pub mod Looks

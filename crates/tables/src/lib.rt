@@ -4,6 +4,8 @@ ghost use Rattle.tables.specs.Seats.{cleared, arrived};
 use refusal::Refusal;
 
 pub mod bits;
+pub mod block;
+pub mod reply;
 pub mod sizes;
 
 // The yard's head record: its sizes, and how many of its seats are taken and how many hold every piece.

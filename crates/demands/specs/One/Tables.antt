@@ -2,11 +2,17 @@
 use mathlib.Core.Bool.{Bool}
 use mathlib.Core.Path.{_≡_, sym, _∙_}
 use Prim.Native.Nat.{ℕ, _-_, _%_, _^_}
+use Rattle.refusal.specs.Paper.{taken}
+use Rattle.tables.specs.Frames.{blockFits, requested}
+use Rattle.tables.specs.Replies.{stepped, refusing, blockStep}
 use Rattle.tables.specs.Rows.{digit}
-use Rattle.tables.specs.Seats.{cleared, arrived}
-use Rattle.tables.specs.Tables.{sizesFit}
+use Rattle.tables.specs.Seats.{cleared, arrived, spoken, theyChoke, theyWant}
+use Rattle.tables.specs.Tables.{paper, sizesFit}
+use Rattle.tables.specs.declared.Answer.{Answer}
 use Rattle.tables.specs.declared.Head.{Head}
 use Rattle.tables.specs.declared.Seat.{Seat}
+use Rattle.tables.specs.declared.Stepped.{Stepped}
+use Rattle.tables.proofs.Telling.{paper-tells}
 use Rattle.demands.specs.One.{Determined}
 
 -- tables::cleared_seat
@@ -36,6 +42,76 @@ mask-ensures p r = r ≡ 2 ^ (7 - p % 8)
 
 pub mask-determined : (p : ℕ) → Determined (mask-ensures p)
 mask-determined p r r′ e f = e ∙ sym f
+
+-- tables::block::block_step
+abbrev block-step-ensures : (h : Head) (s : Seat) (p : ℕ) (fits : Bool) (a : Answer) → Stepped → Type 0
+block-step-ensures h s p fits a r = r ≡ blockStep h s p fits a
+
+pub block-step-determined : (h : Head) (s : Seat) (p : ℕ) (fits : Bool) (a : Answer) → Determined (block-step-ensures h s p fits a)
+block-step-determined h s p fits a r r′ e f = e ∙ sym f
+
+-- tables::block::asked
+abbrev asked-ensures : (s : Seat) (used : ℕ) → Answer → Type 0
+asked-ensures s used r = paper r ≡ taken (requested used s)
+
+pub asked-determined : (s : Seat) (used : ℕ) → Determined (asked-ensures s used)
+asked-determined s used r r′ e f = paper-tells r r′ (e ∙ sym f)
+
+-- tables::block::lies_within
+abbrev lies-within-ensures : (h : Head) (p begin len : ℕ) → Bool → Type 0
+lies-within-ensures h p begin len r = r ≡ blockFits h p begin len
+
+pub lies-within-determined : (h : Head) (p begin len : ℕ) → Determined (lies-within-ensures h p begin len)
+lies-within-determined h p begin len r r′ e f = e ∙ sym f
+
+-- tables::reply::refused
+abbrev refused-ensures : (h : Head) (s : Seat) (number : ℕ) → Stepped → Type 0
+refused-ensures h s number r = r ≡ refusing h s number
+
+pub refused-determined : (h : Head) (s : Seat) (number : ℕ) → Determined (refused-ensures h s number)
+refused-determined h s number r r′ e f = e ∙ sym f
+
+-- tables::reply::waiting
+abbrev waiting-ensures : (h : Head) (s : Seat) → Stepped → Type 0
+waiting-ensures h s r = r ≡ stepped h s Answer.Wait
+
+pub waiting-determined : (h : Head) (s : Seat) → Determined (waiting-ensures h s)
+waiting-determined h s r r′ e f = e ∙ sym f
+
+-- tables::reply::taken
+abbrev taken-ensures : (h : Head) (s : Seat) (used : ℕ) → Stepped → Type 0
+taken-ensures h s used r = r ≡ stepped h s (Answer.Taken used)
+
+pub taken-determined : (h : Head) (s : Seat) (used : ℕ) → Determined (taken-ensures h s used)
+taken-determined h s used r r′ e f = e ∙ sym f
+
+-- tables::reply::passed
+abbrev passed-ensures : (h : Head) (s : Seat) (used : ℕ) → Stepped → Type 0
+passed-ensures h s used r = r ≡ stepped h (spoken s) (Answer.Taken used)
+
+pub passed-determined : (h : Head) (s : Seat) (used : ℕ) → Determined (passed-ensures h s used)
+passed-determined h s used r r′ e f = e ∙ sym f
+
+-- tables::reply::spoken
+abbrev spoken-ensures : (s : Seat) → Seat → Type 0
+spoken-ensures s r = r ≡ spoken s
+
+pub spoken-determined : (s : Seat) → Determined (spoken-ensures s)
+spoken-determined s r r′ e f = e ∙ sym f
+
+-- tables::reply::they_choke
+abbrev they-choke-ensures : (s : Seat) (b : Bool) → Seat → Type 0
+they-choke-ensures s b r = r ≡ theyChoke b s
+
+pub they-choke-determined : (s : Seat) (b : Bool) → Determined (they-choke-ensures s b)
+they-choke-determined s b r r′ e f = e ∙ sym f
+
+-- tables::reply::they_want
+abbrev they-want-ensures : (s : Seat) (b : Bool) → Seat → Type 0
+they-want-ensures s b r = r ≡ theyWant b s
+
+pub they-want-determined : (s : Seat) (b : Bool) → Determined (they-want-ensures s b)
+they-want-determined s b r r′ e f = e ∙ sym f
 
 -- tables::sizes::sizes_fit
 abbrev sizes-fit-ensures : (h : Head) (n rows holders : ℕ) → Bool → Type 0

@@ -4,6 +4,7 @@ use Prim.Native.Nat.{_-_, _/_}
 use native.Mathlib.Omega.{arith}
 use Rattle.tables.specs.Frames.{requested}
 use Rattle.tables.specs.Tables.{used}
+use Rattle.tables.proofs.Blocks.{block-said}
 use Rattle.hearing.proofs.Hearing.{heard-choke, heard-unchoke, heard-interested, heard-not-interested, heard-other, said-have, part-in, said-bits, said-request, said-piece, said-cancel}
 use borrow.Author.Needs.{needs}
 use Rattle.hearing.proofs.frame_step.Statement.{statement}
@@ -145,13 +146,13 @@ returns-6 : tie.Need-returns-6
 returns-6 c = said-bits (c .before .before .before .before .before .before .before .before .before .before .before .before .before .before .before .args .h) (c .before .before .before .before .before .before .before .before .before .before .before .before .before .before .before .args .s) (c .before .before .before .before .before .before .before .before .before .before .before .before .before .before .before .args .rows .now) (c .before .before .before .before .before .before .before .before .before .before .before .before .before .before .before .args .holders .now) (c .before .before .before .before .before .before .before .before .before .before .before .before .before .before .before .args .n) (c .before .before .before .before .before .before .before .before .before .before .before .before .before .before .before .args .i) (c .before .before .before .before .before .before .before .before .before .before .before .before .before .before .before .args .used) (c .before .before .before .before .before .before .before .before .before .before .before .before .before .before .before .args .bytes .now) (c .before .before .before .before .before .before .before .before .before .before .before .before .before .before .before .args .f) _ _ (c .before .before .before .before .before .before .before .before .before .before .f2 .given .1) (c .before .before .before .before .bitfield-step .ensures)
 
 returns-7 : tie.Need-returns-7
-returns-7 c = said-request (c .before .before .before .before .before .before .before .before .before .before .args .h) (c .before .before .before .before .before .before .before .before .before .before .args .s) (c .before .before .before .before .before .before .before .before .before .before .args .rows .now) (c .before .before .before .before .before .before .before .before .before .before .args .holders .now) (c .before .before .before .before .before .before .before .before .before .before .args .n) (c .before .before .before .before .before .before .before .before .before .before .args .i) (c .before .before .before .before .before .before .before .before .before .before .args .used) (c .before .before .before .before .before .before .before .before .before .before .args .bytes .now) (c .before .before .before .before .before .before .before .before .before .before .args .f) _ _ _ _ (c .before .before .before .wide2 .result) (c .before .before .before .before .before .f3 .given .1) (c .before .before .before .wide2 .ensures) (c .block-step .ensures (c .before .before .before .before .before .before .before .before .before .before .args .rows .now) (c .before .before .before .before .before .before .before .before .before .before .args .holders .now) _ (c .before .before .before .wide2 .result) (requested (c .before .before .before .before .before .before .before .before .before .before .args .used) (c .before .before .before .before .before .before .before .before .before .before .args .s)) (c .before .before .lies-within .ensures) (c .before .asked .ensures))
+returns-7 c = said-request (c .before .before .before .before .before .before .before .before .before .before .args .h) (c .before .before .before .before .before .before .before .before .before .before .args .s) (c .before .before .before .before .before .before .before .before .before .before .args .rows .now) (c .before .before .before .before .before .before .before .before .before .before .args .holders .now) (c .before .before .before .before .before .before .before .before .before .before .args .n) (c .before .before .before .before .before .before .before .before .before .before .args .i) (c .before .before .before .before .before .before .before .before .before .before .args .used) (c .before .before .before .before .before .before .before .before .before .before .args .bytes .now) (c .before .before .before .before .before .before .before .before .before .before .args .f) _ _ _ _ (c .before .before .before .wide2 .result) (c .before .before .before .before .before .f3 .given .1) (c .before .before .before .wide2 .ensures) (block-said (c .before .before .before .before .before .before .before .before .before .before .args .h) (c .before .before .before .before .before .before .before .before .before .before .args .s) _ _ (c .before .before .before .wide2 .result) _ (requested (c .before .before .before .before .before .before .before .before .before .before .args .used) (c .before .before .before .before .before .before .before .before .before .before .args .s)) _ _ (c .before .before .before .before .before .before .before .before .before .before .args .rows .now) (c .before .before .before .before .before .before .before .before .before .before .args .holders .now) (c .before .before .lies-within .ensures) (c .before .asked .ensures) (c .block-step .ensures))
 
 returns-8 : tie.Need-returns-8
-returns-8 c = said-piece (c .before .before .before .before .before .before .before .before .args .h) (c .before .before .before .before .before .before .before .before .args .s) (c .before .before .before .before .before .before .before .before .args .rows .now) (c .before .before .before .before .before .before .before .before .args .holders .now) (c .before .before .before .before .before .before .before .before .args .n) (c .before .before .before .before .before .before .before .before .args .i) (c .before .before .before .before .before .before .before .before .args .used) (c .before .before .before .before .before .before .before .before .args .bytes .now) (c .before .before .before .before .before .before .before .before .args .f) _ _ _ _ (c .before .before .before .f4 .given .1) (c .before .before .before .before .before .before .before .before .pre .1) (c .block-step2 .ensures (c .before .before .before .before .before .before .before .before .args .rows .now) (c .before .before .before .before .before .before .before .before .args .holders .now) _ _ (used (c .before .before .before .before .before .before .before .before .args .used)) (c .before .lies-within2 .ensures) refl)
+returns-8 c = said-piece (c .before .before .before .before .before .before .before .before .args .h) (c .before .before .before .before .before .before .before .before .args .s) (c .before .before .before .before .before .before .before .before .args .rows .now) (c .before .before .before .before .before .before .before .before .args .holders .now) (c .before .before .before .before .before .before .before .before .args .n) (c .before .before .before .before .before .before .before .before .args .i) (c .before .before .before .before .before .before .before .before .args .used) (c .before .before .before .before .before .before .before .before .args .bytes .now) (c .before .before .before .before .before .before .before .before .args .f) _ _ _ _ (c .before .before .before .f4 .given .1) (c .before .before .before .before .before .before .before .before .pre .1) (block-said (c .before .before .before .before .before .before .before .before .args .h) (c .before .before .before .before .before .before .before .before .args .s) _ _ _ _ (used (c .before .before .before .before .before .before .before .before .args .used)) _ _ (c .before .before .before .before .before .before .before .before .args .rows .now) (c .before .before .before .before .before .before .before .before .args .holders .now) (c .before .lies-within2 .ensures) refl (c .block-step2 .ensures))
 
 returns-9 : tie.Need-returns-9
-returns-9 c = said-cancel (c .before .before .before .before .before .before .before .before .before .args .h) (c .before .before .before .before .before .before .before .before .before .args .s) (c .before .before .before .before .before .before .before .before .before .args .rows .now) (c .before .before .before .before .before .before .before .before .before .args .holders .now) (c .before .before .before .before .before .before .before .before .before .args .n) (c .before .before .before .before .before .before .before .before .before .args .i) (c .before .before .before .before .before .before .before .before .before .args .used) (c .before .before .before .before .before .before .before .before .before .args .bytes .now) (c .before .before .before .before .before .before .before .before .before .args .f) _ _ _ _ (c .before .before .wide3 .result) (c .before .before .before .before .f5 .given .1) (c .before .before .wide3 .ensures) (c .block-step3 .ensures (c .before .before .before .before .before .before .before .before .before .args .rows .now) (c .before .before .before .before .before .before .before .before .before .args .holders .now) _ (c .before .before .wide3 .result) (used (c .before .before .before .before .before .before .before .before .before .args .used)) (c .before .lies-within3 .ensures) refl)
+returns-9 c = said-cancel (c .before .before .before .before .before .before .before .before .before .args .h) (c .before .before .before .before .before .before .before .before .before .args .s) (c .before .before .before .before .before .before .before .before .before .args .rows .now) (c .before .before .before .before .before .before .before .before .before .args .holders .now) (c .before .before .before .before .before .before .before .before .before .args .n) (c .before .before .before .before .before .before .before .before .before .args .i) (c .before .before .before .before .before .before .before .before .before .args .used) (c .before .before .before .before .before .before .before .before .before .args .bytes .now) (c .before .before .before .before .before .before .before .before .before .args .f) _ _ _ _ (c .before .before .wide3 .result) (c .before .before .before .before .f5 .given .1) (c .before .before .wide3 .ensures) (block-said (c .before .before .before .before .before .before .before .before .before .args .h) (c .before .before .before .before .before .before .before .before .before .args .s) _ _ (c .before .before .wide3 .result) _ (used (c .before .before .before .before .before .before .before .before .before .args .used)) _ _ (c .before .before .before .before .before .before .before .before .before .args .rows .now) (c .before .before .before .before .before .before .before .before .before .args .holders .now) (c .before .lies-within3 .ensures) refl (c .block-step3 .ensures))
 
 returns-10 : tie.Need-returns-10
 returns-10 c = heard-other (c .before .before .before .before .before .before .args .h) (c .before .before .before .before .before .before .args .s) (c .before .before .before .before .before .before .args .rows .now) (c .before .before .before .before .before .before .args .holders .now) (c .before .before .before .before .before .before .args .n) (c .before .before .before .before .before .before .args .i) (c .before .before .before .before .before .before .args .used) (c .before .before .before .before .before .before .args .bytes .now) (c .before .before .before .before .before .before .args .f) (c .before .before .before .before .before .before .args .s) (c .passed5 .result) (c .passed5 .ensures) _ _ (c .before .enum-told5 .given .1) refl

@@ -74,7 +74,7 @@ one-requires-5 : tie.Need-one-requires-5
 one-requires-5 c κs = search needs
 
 returns : tie.Need-returns
-returns c = search needs
+returns c = ap (λ (x : Answer). toldOf (paper x) (c .before .before .args .was)) (sym (c .enum-told .given .1))
 
 returns-2 : tie.Need-returns-2
 returns-2 c = search needs

@@ -1,33 +1,32 @@
 // Frames that speak of a block.
 ghost use mathlib.Core.Path.{_≡_};
-ghost use mathlib.Core.List.{List};
-ghost use Prim.Native.Nat.{ℕ};
 ghost use Rattle.refusal.specs.Paper.{taken};
-ghost use Rattle.tables.specs.Tables.{Said, around, turn, paper};
-ghost use Rattle.tables.specs.Frames.{pieceSize, blockFits, blockOf, requested};
-use crate::answer;
+ghost use Rattle.tables.specs.Tables.{paper};
+ghost use Rattle.tables.specs.Frames.{pieceSize, blockFits, requested};
+ghost use Rattle.tables.specs.Replies.{blockStep};
+use crate::Answer;
+use crate::Head;
+use crate::Seat;
+use crate::Stepped;
+use crate::reply;
+use crate::sizes::wide;
 use refusal::limit;
 use refusal::number;
-use tables::Answer;
-use tables::Head;
-use tables::Seat;
-use tables::Stepped;
-use tables::sizes::wide;
 
 // A block of piece p that fits or not; a is the answer where it does. The head's lengths are looked at by who calls, so that
 // LLVM keeps the numbers of the head that is handed on apart.
 pub fn block_step(h: Head, s: Seat, p: u32, fits: bool, a: Answer) -> Stepped
-    ensures { λ r. ⌜ ((rows holders : List ℕ) (begin len : ℕ) (said : Said) → fits ≡ blockFits h p begin len → paper a ≡ taken said → turn r rows holders ≡ blockOf p begin len said (around h s rows holders)) ⌝ }
+    ensures { λ r. ⌜ r ≡ blockStep h s p fits a ⌝ }
 {
     if h.pieces <= p {
-        return answer::refused(h, s, number::BEYOND);
+        return reply::refused(h, s, number::BEYOND);
     }
     if !fits {
-        return answer::refused(h, s, number::OUTSIDE);
+        return reply::refused(h, s, number::OUTSIDE);
     }
     Stepped {
         head: h,
-        seat: answer::spoken(s),
+        seat: reply::spoken(s),
         answer: a,
     }
 }

@@ -1,12 +1,12 @@
-// Answers by value, from which the steps are put together.
+// Steps by value, from which the answers of calls at one seat are put together.
 ghost use mathlib.Core.Path.{_≡_};
-ghost use Rattle.tables.specs.Seats.{spoken};
-ghost use Rattle.hearing.specs.Steps.{stepped, refusing};
+ghost use Rattle.tables.specs.Seats.{spoken, theyChoke, theyWant};
+ghost use Rattle.tables.specs.Replies.{stepped, refusing};
+use crate::Answer;
+use crate::Head;
+use crate::Seat;
+use crate::Stepped;
 use refusal::Refusal;
-use tables::Answer;
-use tables::Head;
-use tables::Seat;
-use tables::Stepped;
 
 // Nothing changes.
 pub fn refused(h: Head, s: Seat, number: u8) -> Stepped
@@ -54,5 +54,22 @@ pub fn spoken(s: Seat) -> Seat
 {
     let mut t = s;
     t.fresh = false;
+    t
+}
+
+// With the truck's own marks.
+pub fn they_choke(s: Seat, b: bool) -> Seat
+    ensures { λ r. ⌜ r ≡ theyChoke b s ⌝ }
+{
+    let mut t = s;
+    t.peer_choking = b;
+    t
+}
+
+pub fn they_want(s: Seat, b: bool) -> Seat
+    ensures { λ r. ⌜ r ≡ theyWant b s ⌝ }
+{
+    let mut t = s;
+    t.peer_interested = b;
     t
 }

@@ -1,11 +1,11 @@
--- `hearing::answer::passed` meets its contract. Assumes nothing.
+-- `tables::reply::passed` meets its contract. Assumes nothing.
 use mathlib.Core.Path.{ap, _∙_}
 use Rattle.tables.specs.declared.Seat.{Seat}
 use Rattle.tables.specs.declared.Answer.the-variants.{Taken}
-use Rattle.hearing.specs.Steps.{stepped}
+use Rattle.tables.specs.Replies.{stepped}
 use borrow.Author.Needs.{needs}
-use Rattle.hearing.proofs.answer.passed.Statement.{statement}
-use Rattle.hearing.proofs.answer.passed.Tie as tie
+use Rattle.tables.proofs.reply.passed.Statement.{statement}
+use Rattle.tables.proofs.reply.passed.Tie as tie
 
 spoken-requires : tie.Need-spoken-requires
 spoken-requires c κs = search needs

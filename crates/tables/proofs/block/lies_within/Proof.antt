@@ -1,8 +1,8 @@
--- `hearing::block::lies_within` meets its contract. Assumes nothing.
-use Rattle.hearing.proofs.Blocks.{fits-none, fits-long, fits-ends}
+-- `tables::block::lies_within` meets its contract. Assumes nothing.
+use Rattle.tables.proofs.Blocks.{fits-none, fits-long, fits-ends}
 use borrow.Author.Needs.{needs}
-use Rattle.hearing.proofs.block.lies_within.Statement.{statement}
-use Rattle.hearing.proofs.block.lies_within.Tie as tie
+use Rattle.tables.proofs.block.lies_within.Statement.{statement}
+use Rattle.tables.proofs.block.lies_within.Tie as tie
 
 returns : tie.Need-returns
 returns c = fits-none (c .before .args .h) (c .before .args .p) (c .before .args .begin) (c .before .args .len) (c .if1 .taken)

@@ -1,7 +1,7 @@
--- `hearing::block::asked` meets its contract. Assumes nothing.
-use Rattle.hearing.proofs.Blocks.{asked-choking, asked-served, asked-idle}
-use Rattle.hearing.proofs.block.asked.Statement.{statement}
-use Rattle.hearing.proofs.block.asked.Tie as tie
+-- `tables::block::asked` meets its contract. Assumes nothing.
+use Rattle.tables.proofs.Blocks.{asked-choking, asked-served, asked-idle}
+use Rattle.tables.proofs.block.asked.Statement.{statement}
+use Rattle.tables.proofs.block.asked.Tie as tie
 
 returns : tie.Need-returns
 returns c = asked-choking (c .before .args .used) (c .before .args .s) (c .if1 .taken)

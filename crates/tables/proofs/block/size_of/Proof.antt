@@ -1,8 +1,8 @@
--- `hearing::block::size_of` meets its contract. Assumes nothing.
-use Rattle.hearing.proofs.Blocks.{size-last, size-other}
+-- `tables::block::size_of` meets its contract. Assumes nothing.
+use Rattle.tables.proofs.Blocks.{size-last, size-other}
 use borrow.Author.Needs.{needs}
-use Rattle.hearing.proofs.block.size_of.Statement.{statement}
-use Rattle.hearing.proofs.block.size_of.Tie as tie
+use Rattle.tables.proofs.block.size_of.Statement.{statement}
+use Rattle.tables.proofs.block.size_of.Tie as tie
 
 wide-requires : tie.Need-wide-requires
 wide-requires c κs = search needs

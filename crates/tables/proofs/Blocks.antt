@@ -1,6 +1,6 @@
 -- Frames that speak of a block, by the tests that the code makes. Assumes nothing.
 use mathlib.Core.Path.{_≡_, refl, sym, ap, _∙_}
-use mathlib.Core.Bool.{Bool, true, false, not, _&&_, true≢false}
+use mathlib.Core.Bool.{Bool, true, false, not, cond, _&&_, true≢false}
 use mathlib.Core.List.{List}
 use Prim.Native.Nat.{ℕ, _+_, _≤_, _<_}
 use native.Mathlib.Omega.{arith}
@@ -10,14 +10,14 @@ use Rattle.refusal.specs.Limits.{longestBlock}
 use Rattle.refusal.specs.Numbers.{beyond, outside}
 use Rattle.refusal.specs.Paper.{Outcome, taken}
 use Rattle.refusal.proofs.Cases.{pick-yes, pick-no}
 use Rattle.tables.specs.Seats.{spoken}
-use Rattle.tables.specs.Tables.{Said, serve, dropped, around, turn, paper}
-use Rattle.tables.specs.Frames.{pieceSize, blockFits, blockOf, requested}
+use Rattle.tables.specs.Tables.{Said, serve, dropped, around, turn, paper, refuse, says}
+use Rattle.tables.specs.Frames.{pieceSize, blockFits, blockOf, passed, requested}
 use Rattle.tables.specs.declared.Head.{Head}
 use Rattle.tables.specs.declared.Seat.{Seat}
 use Rattle.tables.specs.declared.Answer.{Answer}
 use Rattle.tables.specs.declared.Stepped.{Stepped}
-use Rattle.hearing.specs.Steps.{stepped, refusing}
+use Rattle.tables.specs.Replies.{stepped, refusing, blockStep}
 
 module _ (h : Head) (p : ℕ) where
   pub size-last : {a b r : ℕ} → a ≡ p → b ≡ h .pieces → a + 1 ≡ b → r ≡ h .«last_length» → r ≡ pieceSize h p
@@ -42,26 +42,18 @@ module _ (h : Head) (p : ℕ) where
         let f : leb len longestBlock ≡ true = le-leb len longestBlock l in
         rw (e, f, eb, ez)
 
-module _ (h : Head) (s : Seat) (p begin len : ℕ) (r : Stepped) (rows holders : List ℕ) (said : Said) where
-  as-turn : {t : Stepped} → r ≡ t → turn r rows holders ≡ turn t rows holders
-  as-turn e = ap (λ (a : Stepped). turn a rows holders) e
-
-  pub block-beyond : h .pieces ≤ p → r ≡ refusing h s beyond → turn r rows holders ≡ blockOf p begin len said (around h s rows holders)
-  unfolding blockOf
-  block-beyond l e = pick-no _ (ltb p (h .pieces)) (le-ltb p (h .pieces) l) (as-turn e)
-
-  pub block-outside : (b : Bool) → p < h .pieces → b ≡ blockFits h p begin len → b ≡ false → r ≡ refusing h s outside → turn r rows holders ≡ blockOf p begin len said (around h s rows holders)
-  unfolding blockOf
-  block-outside b l eb f e =
-      pick-yes _ (ltb p (h .pieces)) (lt-ltb p (h .pieces) l) (pick-no _ (blockFits h p begin len) (sym eb ∙ f) (as-turn e))
-
-  pub block-there : (b : Bool) (a : Answer) → p < h .pieces → b ≡ blockFits h p begin len → b ≡ true → r ≡ stepped h (spoken s) a → paper a ≡ taken said
-      → turn r rows holders ≡ blockOf p begin len said (around h s rows holders)
-  unfolding blockOf
-  block-there b a l eb f e o =
-      pick-yes _ (ltb p (h .pieces)) (lt-ltb p (h .pieces) l)
-      (pick-yes _ (blockFits h p begin len) (sym eb ∙ f)
-      (as-turn e ∙ ap (λ (x : Outcome Said). record { answer = x; after = around h (spoken s) rows holders }) o))
+-- a step over a block, by what the block's frame is to get
+pub block-said : (h : Head) (s : Seat) (p begin len : ℕ) (a : Answer) (said : Said) (fits : Bool) (r : Stepped) (rows holders : List ℕ)
+    → fits ≡ blockFits h p begin len → paper a ≡ taken said → r ≡ blockStep h s p fits a → turn r rows holders ≡ blockOf p begin len said (around h s rows holders)
+unfolding blockOf
+block-said h s p begin len a said fits r rows holders ef ea er =
+    ap (λ (x : Stepped). turn x rows holders) er ∙ go (ltb p (h .pieces)) fits ∙ ap (λ (b : Bool). cond (ltb p (h .pieces)) (cond b (says said (passed (around h s rows holders))) (refuse outside (around h s rows holders))) (refuse beyond (around h s rows holders))) ef
+  where
+    go : (b c : Bool) → turn (cond b (cond c (stepped h (spoken s) a) (refusing h s outside)) (refusing h s beyond)) rows holders
+        ≡ cond b (cond c (says said (passed (around h s rows holders))) (refuse outside (around h s rows holders))) (refuse beyond (around h s rows holders))
+    go true true = ap (λ (o : Outcome Said). record { answer = o; after = around h (spoken s) rows holders }) ea
+    go true false = refl
+    go false c = refl
 
 -- a request
 module _ (used : ℕ) (s : Seat) where
