@@ -69,17 +69,6 @@ module _ (found has : Bool) (k : ℕ) where
   pub piece-lacks : found ≡ false → has ≡ false → false ≡ (found || (has && eqb k 0))
   piece-lacks e f = ap₂ (λ (a b : Bool). a || (b && eqb k 0)) (sym e) (sym f)
 
--- one count
-pub down-zero : (k : ℕ) (has : Bool) → k ≡ 0 → 0 ≡ k - bit has
-down-zero k true e = omega arith
-down-zero k false e = omega arith
-
-pub down-one : (k : ℕ) (has : Bool) → has ≡ true → k - 1 ≡ k - bit has
-down-one k has e = ap (λ (b : Bool). k - bit b) (sym e)
-
-pub down-none : (k : ℕ) (has : Bool) → has ≡ false → k ≡ k - bit has
-down-none k has e = let z : k ≡ k - 0 = omega arith in z ∙ ap (λ (b : Bool). k - bit b) (sym e)
-
 module _ (rows : List ℕ) (at : ℕ) where
   -- a byte of no bits
   pub has-none : (p q : ℕ) → q / 8 ≡ p / 8 → getD rows (at + p / 8) 0 ≡ 0 → hasAt rows at q ≡ false

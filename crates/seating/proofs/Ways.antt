@@ -31,28 +31,18 @@ use Rattle.tables.specs.declared.Seat.{Seat}
 use Rattle.tables.specs.declared.Stepped.{Stepped}
 use Rattle.tables.specs.declared.Answer.the-variants.{Refused, Done, Seated, Wrote}
 use Rattle.seating.specs.declared.Begun.{Begun}
-use Rattle.seating.specs.Steps.{begun, emptyHead, faultAt, headAtZero, markedOr, refusedStep, hasAt, someZero, lowered}
+use Rattle.tables.specs.Replies.{refusing, headAtZero}
+use Rattle.tables.proofs.Lowering.{zero-taken, zero-complete}
+use Rattle.seating.specs.Steps.{begun, emptyHead, faultAt, markedOr, hasAt, someZero, lowered}
 use Rattle.seating.proofs.Passes.{lowered-each, all-clear}
 
 module _ (h : Head) (s : Seat) where
-  pub zero-taken : h .taken ≡ 0 → true ≡ headAtZero h s
-  zero-taken e = sym (ap (λ (b : Bool). b || (eqb (s .held) (h .pieces) && eqb (h .complete) 0)) (eq-eqb (h .taken) 0 e))
-
-  past : (b : Bool) → (h .taken ≡ 0 → ⊥) → eqb (s .held) (h .pieces) ≡ b → headAtZero h s ≡ (b && eqb (h .complete) 0)
-  past b n e = ap₂ (λ (x y : Bool). x || (y && eqb (h .complete) 0)) (ne-eqb (h .taken) 0 n) e
-
-  pub zero-complete : (h .taken ≡ 0 → ⊥) → s .held ≡ h .pieces → eqb (h .complete) 0 ≡ headAtZero h s
-  zero-complete n e = sym (past true n (eq-eqb (s .held) (h .pieces) e))
-
-  pub zero-none : (h .taken ≡ 0 → ⊥) → (s .held ≡ h .pieces → ⊥) → false ≡ headAtZero h s
-  zero-none n e = sym (past false n (ne-eqb (s .held) (h .pieces) e))
-
   pub some-taken : headAtZero h s ≡ false → 1 ≤ h .taken
-  some-taken e = let n : h .taken ≢ 0 = λ z. cannot _ e (sym (zero-taken z)) in omega arith
+  some-taken e = let n : h .taken ≢ 0 = λ z. cannot _ e (sym (zero-taken h s z)) in omega arith
 
   pub some-complete : headAtZero h s ≡ false → s .held ≡ h .pieces → 1 ≤ h .complete
   some-complete e q =
-      let n : h .complete ≢ 0 = eqb-false (h .complete) 0 (zero-complete (λ z. cannot _ e (sym (zero-taken z))) q ∙ e) in
+      let n : h .complete ≢ 0 = eqb-false (h .complete) 0 (zero-complete h s (λ z. cannot _ e (sym (zero-taken h s z))) q ∙ e) in
       omega arith
 
   -- the head of a leaver: it was complete, or it was not
@@ -133,28 +123,28 @@ module _ (h : Head) (s : Seat) (i n : ℕ) (rows holders : List ℕ) (k : ℕ) (
       let T : Turn = cond (ltb space 5) (refuse room X) (says (wrote 5) (around h (f s) rows holders)) in
       by-bool (eqb k 0)
       (λ z. by-bool (ltb space 5)
-      (λ l. ap (λ (a : Stepped). turn a rows holders) (er ∙ sym (pick-yes (refusedStep h s k) (eqb k 0) z (pick-yes (record { head = h; seat = t; answer = Wrote 5 }) (ltb space 5) l refl)))
+      (λ l. ap (λ (a : Stepped). turn a rows holders) (er ∙ sym (pick-yes (refusing h s k) (eqb k 0) z (pick-yes (record { head = h; seat = t; answer = Wrote 5 }) (ltb space 5) l refl)))
       ∙ pick-yes (says (wrote 5) (around h (f s) rows holders)) (ltb space 5) l refl
       ∙ fault-passes T (eqb-true k 0 z))
-      (λ l. ap (λ (a : Stepped). turn a rows holders) (er ∙ sym (pick-yes (refusedStep h s k) (eqb k 0) z (pick-no (refusedStep h s room) (ltb space 5) l refl)))
+      (λ l. ap (λ (a : Stepped). turn a rows holders) (er ∙ sym (pick-yes (refusing h s k) (eqb k 0) z (pick-no (refusing h s room) (ltb space 5) l refl)))
       ∙ pick-no (refuse room X) (ltb space 5) l (ap (λ (u : Seat). says (wrote 5) (around h u rows holders)) et)
       ∙ fault-passes T (eqb-true k 0 z)))
-      (λ z. ap (λ (a : Stepped). turn a rows holders) (er ∙ sym (pick-no (cond (ltb space 5) (refusedStep h s room) (record { head = h; seat = t; answer = Wrote 5 })) (eqb k 0) z refl))
+      (λ z. ap (λ (a : Stepped). turn a rows holders) (er ∙ sym (pick-no (cond (ltb space 5) (refusing h s room) (record { head = h; seat = t; answer = Wrote 5 })) (eqb k 0) z refl))
       ∙ fault-refuses T (eqb-false k 0 z))
 
 -- the step of a mark in its three ways
 module _ (h : Head) (s t : Seat) (k space : ℕ) (r : Stepped) where
-  pub mark-fault : (k ≡ 0 → ⊥) → r ≡ refusedStep h s k → r ≡ markedOr h s t k space
-  mark-fault z e = pick-no (cond (ltb space 5) (refusedStep h s room) (record { head = h; seat = t; answer = Wrote 5 })) (eqb k 0) (ne-eqb k 0 z) e
+  pub mark-fault : (k ≡ 0 → ⊥) → r ≡ refusing h s k → r ≡ markedOr h s t k space
+  mark-fault z e = pick-no (cond (ltb space 5) (refusing h s room) (record { head = h; seat = t; answer = Wrote 5 })) (eqb k 0) (ne-eqb k 0 z) e
 
-  pub mark-room : k ≡ 0 → space < 5 → r ≡ refusedStep h s room → r ≡ markedOr h s t k space
-  mark-room z l e = pick-yes (refusedStep h s k) (eqb k 0) (eq-eqb k 0 z) (pick-yes (record { head = h; seat = t; answer = Wrote 5 }) (ltb space 5) (lt-ltb space 5 l) e)
+  pub mark-room : k ≡ 0 → space < 5 → r ≡ refusing h s room → r ≡ markedOr h s t k space
+  mark-room z l e = pick-yes (refusing h s k) (eqb k 0) (eq-eqb k 0 z) (pick-yes (record { head = h; seat = t; answer = Wrote 5 }) (ltb space 5) (lt-ltb space 5 l) e)
 
   pub mark-done : k ≡ 0 → 5 ≤ space → r ≡ record { head = h; seat = t; answer = Wrote 5 } → r ≡ markedOr h s t k space
-  mark-done z l e = pick-yes (refusedStep h s k) (eqb k 0) (eq-eqb k 0 z) (pick-no (refusedStep h s room) (ltb space 5) (le-ltb space 5 l) e)
+  mark-done z l e = pick-yes (refusing h s k) (eqb k 0) (eq-eqb k 0 z) (pick-no (refusing h s room) (ltb space 5) (le-ltb space 5 l) e)
 
 -- a refusal writes nothing
-pub refused-writes : (h : Head) (s : Seat) (k : ℕ) (r : Stepped) (o bytes : List ℕ) → r ≡ refusedStep h s k → o ≡ sets o 0 (ifTaken (paper (r .answer)) bytes)
+pub refused-writes : (h : Head) (s : Seat) (k : ℕ) (r : Stepped) (o bytes : List ℕ) → r ≡ refusing h s k → o ≡ sets o 0 (ifTaken (paper (r .answer)) bytes)
 refused-writes h s k r o bytes e = ap (λ (a : Stepped). sets o 0 (ifTaken (paper (a .answer)) bytes)) (sym e)
 
 allowed-mark : (id : ℕ) → id < 4 → allowed id 1 ≡ true
@@ -218,17 +208,17 @@ module _ (h : Head) (s : Seat) (i n : ℕ) (rows holders : List ℕ) (b : Bool) 
   abbrev Sits : Turn
   Sits = cond (leb n i) (refuse full Y) (cond (leb n (h .taken)) (refuse damaged Y) (says (seated i) (seatedAt i Y)))
 
-  pub sit-sizes : not b ≡ true → r ≡ refusedStep h s sizes → turn r rows holders ≡ sitOf i n Y
+  pub sit-sizes : not b ≡ true → r ≡ refusing h s sizes → turn r rows holders ≡ sitOf i n Y
   unfolding sitOf
   sit-sizes e er = pick-no Sits (sizesFit h n (length rows) (length holders)) (sym eb ∙ not-true b e) (ap (λ (a : Stepped). turn a rows holders) er)
 
-  pub sit-full : not b ≡ false → n ≤ i → r ≡ refusedStep h s full → turn r rows holders ≡ sitOf i n Y
+  pub sit-full : not b ≡ false → n ≤ i → r ≡ refusing h s full → turn r rows holders ≡ sitOf i n Y
   unfolding sitOf
   sit-full e l er =
       pick-yes (refuse sizes Y) (sizesFit h n (length rows) (length holders)) (sym eb ∙ not-false b e)
       (pick-yes (cond (leb n (h .taken)) (refuse damaged Y) (says (seated i) (seatedAt i Y))) (leb n i) (le-leb n i l) (ap (λ (a : Stepped). turn a rows holders) er))
 
-  pub sit-damaged : not b ≡ false → i < n → n ≤ h .taken → r ≡ refusedStep h s damaged → turn r rows holders ≡ sitOf i n Y
+  pub sit-damaged : not b ≡ false → i < n → n ≤ h .taken → r ≡ refusing h s damaged → turn r rows holders ≡ sitOf i n Y
   unfolding sitOf
   sit-damaged e l m er =
       pick-yes (refuse sizes Y) (sizesFit h n (length rows) (length holders)) (sym eb ∙ not-false b e)
@@ -253,7 +243,7 @@ module _ (h : Head) (s : Seat) (i n : ℕ) (rows holders : List ℕ) (k : ℕ) (
   abbrev Leaves : Turn
   Leaves = cond (atZero i Z) (refuse damaged Z) (says done (left i Z))
 
-  pub leave-fault : (k ≡ 0 → ⊥) → r ≡ refusedStep h s k → turn r rows holders ≡ leaveOf i n Z
+  pub leave-fault : (k ≡ 0 → ⊥) → r ≡ refusing h s k → turn r rows holders ≡ leaveOf i n Z
   unfolding leaveOf
   leave-fault z er = ap (λ (a : Stepped). turn a rows holders) er ∙ fault-refuses h s i n rows holders k ek Leaves z
 
@@ -265,7 +255,7 @@ module _ (h : Head) (s : Seat) (i n : ℕ) (rows holders : List ℕ) (k : ℕ) (
       sym (or-assoc (eqb (h .taken) 0) (eqb (s .held) (h .pieces) && eqb (h .complete) 0) (someZero rows (i * width (h .pieces)) holders (h .pieces)))
       ∙ ap₂ (λ (a m : ℕ). headAtZero h s || someZero rows (i * a) holders m) (sym ew) (sym (ep ∙ f .counts))
 
-  pub leave-head : (x : Bool) → k ≡ 0 → x ≡ headAtZero h s → x ≡ true → r ≡ refusedStep h s damaged → turn r rows holders ≡ leaveOf i n Z
+  pub leave-head : (x : Bool) → k ≡ 0 → x ≡ headAtZero h s → x ≡ true → r ≡ refusing h s damaged → turn r rows holders ≡ leaveOf i n Z
   unfolding leaveOf
   leave-head x z ex t er =
       pick-yes (says done (left i Z)) (atZero i Z)
@@ -274,7 +264,7 @@ module _ (h : Head) (s : Seat) (i n : ℕ) (rows holders : List ℕ) (k : ℕ) (
       ∙ fault-passes h s i n rows holders k ek Leaves z
 
   pub leave-piece : (w p : ℕ) (x y : Bool) → k ≡ 0 → w ≡ width (h .pieces) → p ≡ length holders → x ≡ headAtZero h s → x ≡ false → y ≡ someZero rows (i * w) holders p → y ≡ true
-      → r ≡ refusedStep h s damaged → turn r rows holders ≡ leaveOf i n Z
+      → r ≡ refusing h s damaged → turn r rows holders ≡ leaveOf i n Z
   unfolding leaveOf
   leave-piece w p x y z ew ep ex fx ey ty er =
       pick-yes (says done (left i Z)) (atZero i Z)

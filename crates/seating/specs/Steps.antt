@@ -7,14 +7,14 @@ use lib.Dec.{eqb, ltb, leb}
 use lib.ListN.{length, getD, set, replicate}
 use Rattle.refusal.specs.Numbers.{seat, sizes, room}
 use Rattle.tables.specs.Counting.{bit, some}
+use Rattle.tables.specs.Replies.{refusing, stepped}
 use Rattle.tables.specs.Rows.{digit}
 use Rattle.tables.specs.Seats.{cleared}
 use Rattle.tables.specs.Tables.{paper, Out, yardOf, sizesFit}
 use Rattle.tables.specs.declared.Head.{Head}
 use Rattle.tables.specs.declared.Seat.{Seat}
 use Rattle.tables.specs.declared.Stepped.{Stepped}
-use Rattle.tables.specs.declared.Answer.{Answer}
-use Rattle.tables.specs.declared.Answer.the-variants.{Refused, Wrote}
+use Rattle.tables.specs.declared.Answer.the-variants.{Wrote}
 use Rattle.seating.specs.declared.Begun.{Begun}
 
 -- the head of a yard of these sizes with nobody in it
@@ -33,17 +33,10 @@ begun r seats rows holders = record { answer = paper (r .answer); yard = yardOf 
 abbrev pub faultAt : Head → Seat → ℕ → ℕ → ℕ → ℕ → ℕ
 faultAt h s i n rows holders = cond (sizesFit h n rows holders) (cond (ltb i n && s .taken) 0 seat) sizes
 
-abbrev pub refusedStep : Head → Seat → ℕ → Stepped
-refusedStep h s number = record { head = h; seat = s; answer = Refused (record { place = 0; number = number }) }
-
 -- the seat s becomes t, unless there is a fault or less room than a frame of 5 bytes takes
 abbrev pub markedOr : Head → Seat → Seat → ℕ → ℕ → Stepped
 markedOr h s t fault space =
-    cond (eqb fault 0) (cond (ltb space 5) (refusedStep h s room) (record { head = h; seat = t; answer = Wrote 5 })) (refusedStep h s fault)
-
--- one of the head's counts that the leaving of s lowers is 0
-abbrev pub headAtZero : Head → Seat → Bool
-headAtZero h s = eqb (h .taken) 0 || (eqb (s .held) (h .pieces) && eqb (h .complete) 0)
+    cond (eqb fault 0) (cond (ltb space 5) (refusing h s room) (stepped h t (Wrote 5))) (refusing h s fault)
 
 -- bit p of the row that begins at a byte
 abbrev pub hasAt : List ℕ → ℕ → ℕ → Bool

@@ -16,13 +16,16 @@ ghost use Rattle.tables.specs.Seats.{cleared, arrived, counted, weChoke, weWant
 ghost use Rattle.tables.specs.Tables.{paper, around, turn, yardOf, sizesFit};
 ghost use Rattle.tables.specs.Seating.{startOf, sitOf, leaveOf, markOf};
 ghost use Rattle.tables.specs.Step.{chokeFrame, interestFrame, ifTaken};
-ghost use Rattle.seating.specs.Steps.{begun, emptyHead, faultAt, headAtZero, markedOr, refusedStep};
+ghost use Rattle.tables.specs.Replies.{headAtZero};
+ghost use Rattle.seating.specs.Steps.{begun, emptyHead, faultAt, markedOr};
 use refusal::Refusal;
 use refusal::number;
 use tables::Answer;
 use tables::Head;
 use tables::Seat;
 use tables::Stepped;
+use tables::leaving;
+use tables::reply;
 use tables::sizes;
 use wire::write;
 
@@ -67,13 +70,13 @@ pub fn sit_step(h: Head, s: Seat, rows: &mut [u8], holders: &[u16], i: usize, n:
     let row_bytes = rows.len();
     let counts = holders.len();
     if !sizes::sizes_fit(h, n, row_bytes, counts) {
-        return refuse(h, s, number::SIZES);
+        return reply::refused(h, s, number::SIZES);
     }
     if n <= i {
-        return refuse(h, s, number::FULL);
+        return reply::refused(h, s, number::FULL);
     }
     if n <= h.taken as usize {
-        return refuse(h, s, number::DAMAGED);
+        return reply::refused(h, s, number::DAMAGED);
     }
     let w = row::width(h);
     row::clear(rows, i * w, w);
@@ -95,15 +98,15 @@ pub fn leave_step(
     let counts = holders.len();
     let fault = fault_at(h, s, i, n, row_bytes, counts);
     if fault != 0 {
-        return refuse(h, s, fault);
+        return reply::refused(h, s, fault);
     }
     let w = row::width(h);
     let at = i * w;
-    if head_at_zero(h, s) {
-        return refuse(h, s, number::DAMAGED);
+    if leaving::head_at_zero(h, s) {
+        return reply::refused(h, s, number::DAMAGED);
     }
     if row::some_zero(rows, holders, at, counts) {
-        return refuse(h, s, number::DAMAGED);
+        return reply::refused(h, s, number::DAMAGED);
     }
     row::lower(rows, holders, at, counts);
     row::clear(rows, at, w);
@@ -157,10 +160,10 @@ fn mark(h: Head, s: Seat, t: Seat, fault: u8, id: u8, out: &mut [u8]) -> Stepped
     ensures frame { λ r. ⌜ now (out .exit) ≡ sets (now (out .entry)) 0 (ifTaken (paper (r .answer)) (framed (id ∷ []))) ⌝ }
 {
     if fault != 0 {
-        return refuse(h, s, fault);
+        return reply::refused(h, s, fault);
     }
     if out.len() < 5 {
-        return refuse(h, s, number::ROOM);
+        return reply::refused(h, s, number::ROOM);
     }
     write::plain(out, id);
     marked(h, t)
@@ -198,19 +201,6 @@ fn fault_at(h: Head, s: Seat, i: usize, n: usize, row_bytes: usize, counts: usiz
         return 0;
     }
     number::SEAT
-}
-
-// The head's counts that the leaving of s lowers: one of them is 0.
-fn head_at_zero(h: Head, s: Seat) -> bool
-    ensures { λ r. ⌜ r ≡ headAtZero h s ⌝ }
-{
-    if h.taken == 0 {
-        return true;
-    }
-    if s.held == h.pieces {
-        return h.complete == 0;
-    }
-    false
 }
 
 fn empty_head(pieces: u32, piece_length: u32, last_length: u32) -> Head
@@ -292,15 +282,5 @@ fn marked(h: Head, s: Seat) -> Stepped
         head: h,
         seat: s,
         answer: Answer::Wrote(5),
-    }
-}
-
-fn refuse(h: Head, s: Seat, number: u8) -> Stepped
-    ensures { λ r. ⌜ r ≡ refusedStep h s number ⌝ }
-{
-    Stepped {
-        head: h,
-        seat: s,
-        answer: Answer::Refused(Refusal { place: 0, number }),
     }
 }

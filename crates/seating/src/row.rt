@@ -11,6 +11,7 @@ ghost use Rattle.tables.specs.Rows.{digit, width};
 ghost use Rattle.seating.specs.Steps.{someZero, lowered};
 use tables::Head;
 use tables::bits;
+use tables::leaving;
 
 // The bytes of a row.
 pub fn width(h: Head) -> usize
@@ -99,7 +100,7 @@ fn lower_byte(rows: &[u8], holders: &mut [u16], at: usize, p: usize, end: usize)
     }
     let mut q = p;
     while q < end {
-        holders[q] = lower_to(holders[q], bits::bit_of(byte, q));
+        holders[q] = leaving::lower_to(holders[q], bits::bit_of(byte, q));
         q += 1;
     }
 }
@@ -125,16 +126,4 @@ fn one_zero(found: bool, has: bool, count: u16) -> bool
         return count == 0;
     }
     false
-}
-
-fn lower_to(count: u16, has: bool) -> u16
-    ensures { λ r. ⌜ r ≡ count - bit has ⌝ }
-{
-    if has {
-        if count == 0 {
-            return 0;
-        }
-        return count - 1;
-    }
-    count
 }

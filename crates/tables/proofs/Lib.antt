@@ -9,3 +9,4 @@ pub mod Telling
 pub mod Keeping
 pub mod Single
 pub mod Blocks
+pub mod Lowering

@@ -1,8 +1,8 @@
 -- The steps by value, from which the answers of calls at one seat are put together: contracts of functions cite these. Assumes nothing: these are definitions.
 -- They need not be believed: `turn` of Tables.antt reads them, and the calls' contracts say what is to come of it.
-use mathlib.Core.Bool.{Bool, cond}
+use mathlib.Core.Bool.{Bool, cond, _&&_, _||_}
 use Prim.Native.Nat.{ℕ}
-use lib.Dec.{ltb}
+use lib.Dec.{eqb, ltb}
 use Rattle.refusal.specs.Numbers.{beyond, outside}
 use Rattle.tables.specs.Seats.{spoken}
 use Rattle.tables.specs.declared.Head.{Head}
@@ -20,3 +20,7 @@ refusing h s number = stepped h s (Refused (record { number = number; place = 0 
 -- a frame that speaks of a block of piece p, which fits or not; a is the answer where it does
 abbrev pub blockStep : Head → Seat → ℕ → Bool → Answer → Stepped
 blockStep h s p fits a = cond (ltb p (h .pieces)) (cond fits (stepped h (spoken s) a) (refusing h s outside)) (refusing h s beyond)
+
+-- one of the head's counts that the leaving of s lowers is 0
+abbrev pub headAtZero : Head → Seat → Bool
+headAtZero h s = eqb (h .taken) 0 || (eqb (s .held) (h .pieces) && eqb (h .complete) 0)

@@ -5,6 +5,7 @@ use refusal::Refusal;
 
 pub mod bits;
 pub mod block;
+pub mod leaving;
 pub mod reply;
 pub mod sizes;
 

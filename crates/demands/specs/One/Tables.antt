@@ -3,8 +3,9 @@ use mathlib.Core.Bool.{Bool}
 use mathlib.Core.Path.{_≡_, sym, _∙_}
 use Prim.Native.Nat.{ℕ, _-_, _%_, _^_}
 use Rattle.refusal.specs.Paper.{taken}
+use Rattle.tables.specs.Counting.{bit}
 use Rattle.tables.specs.Frames.{blockFits, requested}
-use Rattle.tables.specs.Replies.{stepped, refusing, blockStep}
+use Rattle.tables.specs.Replies.{stepped, refusing, blockStep, headAtZero}
 use Rattle.tables.specs.Rows.{digit}
 use Rattle.tables.specs.Seats.{cleared, arrived, spoken, theyChoke, theyWant}
 use Rattle.tables.specs.Tables.{paper, sizesFit}
@@ -63,6 +64,20 @@ lies-within-ensures h p begin len r = r ≡ blockFits h p begin len
 
 pub lies-within-determined : (h : Head) (p begin len : ℕ) → Determined (lies-within-ensures h p begin len)
 lies-within-determined h p begin len r r′ e f = e ∙ sym f
+
+-- tables::leaving::head_at_zero
+abbrev head-at-zero-ensures : (h : Head) (s : Seat) → Bool → Type 0
+head-at-zero-ensures h s r = r ≡ headAtZero h s
+
+pub head-at-zero-determined : (h : Head) (s : Seat) → Determined (head-at-zero-ensures h s)
+head-at-zero-determined h s r r′ e f = e ∙ sym f
+
+-- tables::leaving::lower_to
+abbrev lower-to-ensures : (count : ℕ) (has : Bool) → ℕ → Type 0
+lower-to-ensures count has r = r ≡ count - bit has
+
+pub lower-to-determined : (count : ℕ) (has : Bool) → Determined (lower-to-ensures count has)
+lower-to-determined count has r r′ e f = e ∙ sym f
 
 -- tables::reply::refused
 abbrev refused-ensures : (h : Head) (s : Seat) (number : ℕ) → Stepped → Type 0

@@ -5,7 +5,7 @@ use Rattle.tables.specs.Seats.{cleared, arrived, counted}
 use Rattle.tables.specs.declared.Answer.the-variants.{Done, Seated}
 use Rattle.tables.specs.declared.Head.{Head}
 use Rattle.seating.proofs.Ways.{fault-sizes, fault-past, fault-none, fault-free, fault-refuses, fault-passes, fault-seat, mark-way, mark-fault, mark-room, mark-done, refused-writes, plain-writes, mark-writes, choke-frame, interest-frame, gone-full, gone-part}
-use Rattle.seating.proofs.Ways.{zero-taken, zero-complete, zero-none, some-taken, some-complete}
+use Rattle.seating.proofs.Ways.{some-taken, some-complete}
 use lib.Seq.{sets}
 use lib.ListN.{length, getD, set, replicate, length-set}
 use native.Mathlib.Omega.{arith}

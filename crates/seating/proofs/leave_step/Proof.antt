@@ -16,8 +16,6 @@ use Rattle.seating.proofs.leave_step.Reads as reads
 use Rattle.seating.proofs.leave_step.Lts as lts
 use Rattle.seating.proofs.fault_at.Reads as fault-at-reads
 use Rattle.seating.proofs.gone.Reads as gone-reads
-use Rattle.seating.proofs.head_at_zero.Reads as head-at-zero-reads
-use Rattle.seating.proofs.refuse.Reads as refuse-reads
 use Rattle.seating.proofs.row.clear.Reads as clear-reads
 use Rattle.seating.proofs.row.lower.Reads as lower-reads
 use Rattle.seating.proofs.row.some_zero.Reads as some-zero-reads
@@ -28,12 +26,12 @@ fault-at-requires : tie.Need-fault-at-requires
 fault-at-requires c κs = search needs
 
 -- src/lib.rt:97:9
-refuse-requires : tie.Need-refuse-requires
-refuse-requires c κs = search needs
+refused-requires : tie.Need-refused-requires
+refused-requires c κs = search needs
 
 -- src/lib.rt:97:9
 returns : tie.Need-returns
-returns c = leave-fault (c .before .before .before .before .before .args .h) (c .before .before .before .before .before .args .s) (c .before .before .before .before .before .args .i) (c .before .before .before .before .before .args .n) (c .before .before .before .before .before .args .rows .now) (c .before .before .before .before .before .args .holders .now) _ (c .before .before .fault-at .ensures) _ (c .before .if1 .taken) (c .refuse .ensures)
+returns c = leave-fault (c .before .before .before .before .before .args .h) (c .before .before .before .before .before .args .s) (c .before .before .before .before .before .args .i) (c .before .before .before .before .before .args .n) (c .before .before .before .before .before .args .rows .now) (c .before .before .before .before .before .args .holders .now) _ (c .before .before .fault-at .ensures) _ (c .before .if1 .taken) (c .refused .ensures)
 
 -- src/lib.rt:99:9
 width-requires : tie.Need-width-requires
@@ -48,20 +46,20 @@ head-at-zero-requires : tie.Need-head-at-zero-requires
 head-at-zero-requires c κs = search needs
 
 -- src/lib.rt:102:9
-refuse-requires-2 : tie.Need-refuse-requires-2
-refuse-requires-2 c κs = search needs
+refused-requires-2 : tie.Need-refused-requires-2
+refused-requires-2 c κs = search needs
 
 -- src/lib.rt:102:9
 returns-2 : tie.Need-returns-2
-returns-2 c = leave-head (c .before .before .before .before .before .before .before .before .args .h) (c .before .before .before .before .before .before .before .before .args .s) (c .before .before .before .before .before .before .before .before .args .i) (c .before .before .before .before .before .before .before .before .args .n) (c .before .before .before .before .before .before .before .before .args .rows .now) (c .before .before .before .before .before .before .before .before .args .holders .now) _ (c .before .before .before .before .before .fault-at .ensures) _ _ (c .before .before .before .before .if1 .left) (c .before .before .head-at-zero .ensures) (c .before .if2 .taken) (c .refuse2 .ensures)
+returns-2 c = leave-head (c .before .before .before .before .before .before .before .before .args .h) (c .before .before .before .before .before .before .before .before .args .s) (c .before .before .before .before .before .before .before .before .args .i) (c .before .before .before .before .before .before .before .before .args .n) (c .before .before .before .before .before .before .before .before .args .rows .now) (c .before .before .before .before .before .before .before .before .args .holders .now) _ (c .before .before .before .before .before .fault-at .ensures) _ _ (c .before .before .before .before .if1 .left) (c .before .before .head-at-zero .ensures) (c .before .if2 .taken) (c .refused2 .ensures)
 
 -- src/lib.rt:104:8
 some-zero-requires : tie.Need-some-zero-requires
 some-zero-requires c κs = row-room (c .before .before .before .before .before .before .before .before .before .args .h) (c .before .before .before .before .before .before .before .before .before .args .n) (length (c .before .before .before .before .before .before .before .before .before .args .rows .now)) (length (c .before .before .before .before .before .before .before .before .before .args .holders .now)) (fault-seat (c .before .before .before .before .before .before .before .before .before .args .h) (c .before .before .before .before .before .before .before .before .before .args .s) (c .before .before .before .before .before .before .before .before .before .args .i) (c .before .before .before .before .before .before .before .before .before .args .n) (c .before .before .before .before .before .before .before .before .before .args .rows .now) (c .before .before .before .before .before .before .before .before .before .args .holders .now) _ (c .before .before .before .before .before .before .fault-at .ensures) (c .before .before .before .before .before .if1 .left) .0) (c .before .before .before .before .before .before .before .before .before .args .i) _ (fault-seat (c .before .before .before .before .before .before .before .before .before .args .h) (c .before .before .before .before .before .before .before .before .before .args .s) (c .before .before .before .before .before .before .before .before .before .args .i) (c .before .before .before .before .before .before .before .before .before .args .n) (c .before .before .before .before .before .before .before .before .before .args .rows .now) (c .before .before .before .before .before .before .before .before .before .args .holders .now) _ (c .before .before .before .before .before .before .fault-at .ensures) (c .before .before .before .before .before .if1 .left) .1) (c .before .before .before .before .width .ensures)
 
 -- src/lib.rt:105:9
-refuse-requires-3 : tie.Need-refuse-requires-3
-refuse-requires-3 c κs = search needs
+refused-requires-3 : tie.Need-refused-requires-3
+refused-requires-3 c κs = search needs
 
 -- src/lib.rt:105:9
 same-length : tie.Need-same-length
@@ -73,7 +71,7 @@ same-length-2 c = search needs
 
 -- src/lib.rt:105:9
 returns-3 : tie.Need-returns-3
-returns-3 c = leave-piece (c .before .before .before .before .before .before .before .before .before .before .before .before .args .h) (c .before .before .before .before .before .before .before .before .before .before .before .before .args .s) (c .before .before .before .before .before .before .before .before .before .before .before .before .args .i) (c .before .before .before .before .before .before .before .before .before .before .before .before .args .n) (c .before .before .before .before .before .before .before .before .before .before .before .before .args .rows .now) (c .before .before .before .before .before .before .before .before .before .before .before .before .args .holders .now) _ (c .before .before .before .before .before .before .before .before .before .fault-at .ensures) _ _ _ _ _ (c .before .before .before .before .before .before .before .before .if1 .left) (c .before .before .before .before .before .before .before .width .ensures) refl (c .before .before .before .before .before .before .head-at-zero .ensures) (c .before .before .before .before .before .if2 .left) (c .before .before .some-zero .ensures) (c .before .if3 .taken) (c .refuse3 .ensures)
+returns-3 c = leave-piece (c .before .before .before .before .before .before .before .before .before .before .before .before .args .h) (c .before .before .before .before .before .before .before .before .before .before .before .before .args .s) (c .before .before .before .before .before .before .before .before .before .before .before .before .args .i) (c .before .before .before .before .before .before .before .before .before .before .before .before .args .n) (c .before .before .before .before .before .before .before .before .before .before .before .before .args .rows .now) (c .before .before .before .before .before .before .before .before .before .before .before .before .args .holders .now) _ (c .before .before .before .before .before .before .before .before .before .fault-at .ensures) _ _ _ _ _ (c .before .before .before .before .before .before .before .before .if1 .left) (c .before .before .before .before .before .before .before .width .ensures) refl (c .before .before .before .before .before .before .head-at-zero .ensures) (c .before .before .before .before .before .if2 .left) (c .before .before .some-zero .ensures) (c .before .if3 .taken) (c .refused3 .ensures)
 
 -- src/lib.rt:107:5
 lower-requires : tie.Need-lower-requires
@@ -104,15 +102,15 @@ leave-step-spec =
     tie.close
     (tie.spec
     fault-at-requires
-    refuse-requires
+    refused-requires
     returns
     width-requires
     mul-at
     head-at-zero-requires
-    refuse-requires-2
+    refused-requires-2
     returns-2
     some-zero-requires
-    refuse-requires-3
+    refused-requires-3
     same-length
     same-length-2
     returns-3

@@ -16,24 +16,23 @@ use Rattle.seating.proofs.mark.Tie as tie
 use Rattle.seating.proofs.mark.Reads as reads
 use Rattle.seating.proofs.mark.Lts as lts
 use Rattle.seating.proofs.marked.Reads as marked-reads
-use Rattle.seating.proofs.refuse.Reads as refuse-reads
 use Rattle.wire.proofs.write.plain.Reads as plain-reads
 
 -- src/lib.rt:159:9
-refuse-requires : tie.Need-refuse-requires
-refuse-requires c κs = search needs
+refused-requires : tie.Need-refused-requires
+refused-requires c κs = search needs
 
 -- src/lib.rt:159:9
 returns : tie.Need-returns
-returns c = (mark-fault (c .before .before .before .args .h) (c .before .before .before .args .s) (c .before .before .before .args .t) (c .before .before .before .args .fault) (length (c .before .before .before .args .out .now)) _ (c .before .if1 .taken) (c .refuse .ensures), refused-writes (c .before .before .before .args .h) (c .before .before .before .args .s) _ _ (c .before .before .before .args .out .now) _ (c .refuse .ensures))
+returns c = (mark-fault (c .before .before .before .args .h) (c .before .before .before .args .s) (c .before .before .before .args .t) (c .before .before .before .args .fault) (length (c .before .before .before .args .out .now)) _ (c .before .if1 .taken) (c .refused .ensures), refused-writes (c .before .before .before .args .h) (c .before .before .before .args .s) _ _ (c .before .before .before .args .out .now) _ (c .refused .ensures))
 
 -- src/lib.rt:162:9
-refuse-requires-2 : tie.Need-refuse-requires-2
-refuse-requires-2 c κs = search needs
+refused-requires-2 : tie.Need-refused-requires-2
+refused-requires-2 c κs = search needs
 
 -- src/lib.rt:162:9
 returns-2 : tie.Need-returns-2
-returns-2 c = (mark-room (c .before .before .before .before .args .h) (c .before .before .before .before .args .s) (c .before .before .before .before .args .t) (c .before .before .before .before .args .fault) (length (c .before .before .before .before .args .out .now)) _ (c .before .before .if1 .left) (c .before .if2 .taken) (c .refuse2 .ensures), refused-writes (c .before .before .before .before .args .h) (c .before .before .before .before .args .s) _ _ (c .before .before .before .before .args .out .now) _ (c .refuse2 .ensures))
+returns-2 c = (mark-room (c .before .before .before .before .args .h) (c .before .before .before .before .args .s) (c .before .before .before .before .args .t) (c .before .before .before .before .args .fault) (length (c .before .before .before .before .args .out .now)) _ (c .before .before .if1 .left) (c .before .if2 .taken) (c .refused2 .ensures), refused-writes (c .before .before .before .before .args .h) (c .before .before .before .before .args .s) _ _ (c .before .before .before .before .args .out .now) _ (c .refused2 .ensures))
 
 -- src/lib.rt:164:5
 plain-requires : tie.Need-plain-requires
@@ -55,9 +54,9 @@ pub mark-spec : {M : Type 1} → statement M
 mark-spec =
     tie.close
     (tie.spec
-    refuse-requires
+    refused-requires
     returns
-    refuse-requires-2
+    refused-requires-2
     returns-2
     plain-requires
     marked-requires

@@ -14,7 +14,6 @@ use Rattle.seating.proofs.sit_step.Statement.{statement}
 use Rattle.seating.proofs.sit_step.Tie as tie
 use Rattle.seating.proofs.sit_step.Reads as reads
 use Rattle.seating.proofs.sit_step.Lts as lts
-use Rattle.seating.proofs.refuse.Reads as refuse-reads
 use Rattle.seating.proofs.row.clear.Reads as clear-reads
 use Rattle.seating.proofs.row.width.Reads as width-reads
 use Rattle.seating.proofs.seated.Reads as seated-reads
@@ -25,32 +24,32 @@ sizes-fit-requires : tie.Need-sizes-fit-requires
 sizes-fit-requires c κs = search needs
 
 -- src/lib.rt:69:9
-refuse-requires : tie.Need-refuse-requires
-refuse-requires c κs = search needs
+refused-requires : tie.Need-refused-requires
+refused-requires c κs = search needs
 
 -- src/lib.rt:69:9
 returns : tie.Need-returns
-returns c = sit-sizes (c .before .before .before .before .before .args .h) (c .before .before .before .before .before .args .s) (c .before .before .before .before .before .args .i) (c .before .before .before .before .before .args .n) (c .before .before .before .before .before .args .rows .now) (c .before .before .before .before .before .args .holders .now) _ (c .before .before .sizes-fit .ensures) _ (c .before .if1 .taken) (c .refuse .ensures)
+returns c = sit-sizes (c .before .before .before .before .before .args .h) (c .before .before .before .before .before .args .s) (c .before .before .before .before .before .args .i) (c .before .before .before .before .before .args .n) (c .before .before .before .before .before .args .rows .now) (c .before .before .before .before .before .args .holders .now) _ (c .before .before .sizes-fit .ensures) _ (c .before .if1 .taken) (c .refused .ensures)
 
 -- src/lib.rt:72:9
-refuse-requires-2 : tie.Need-refuse-requires-2
-refuse-requires-2 c κs = search needs
+refused-requires-2 : tie.Need-refused-requires-2
+refused-requires-2 c κs = search needs
 
 -- src/lib.rt:72:9
 returns-2 : tie.Need-returns-2
-returns-2 c = sit-full (c .before .before .before .before .before .before .args .h) (c .before .before .before .before .before .before .args .s) (c .before .before .before .before .before .before .args .i) (c .before .before .before .before .before .before .args .n) (c .before .before .before .before .before .before .args .rows .now) (c .before .before .before .before .before .before .args .holders .now) _ (c .before .before .before .sizes-fit .ensures) _ (c .before .before .if1 .left) (c .before .if2 .taken) (c .refuse2 .ensures)
+returns-2 c = sit-full (c .before .before .before .before .before .before .args .h) (c .before .before .before .before .before .before .args .s) (c .before .before .before .before .before .before .args .i) (c .before .before .before .before .before .before .args .n) (c .before .before .before .before .before .before .args .rows .now) (c .before .before .before .before .before .before .args .holders .now) _ (c .before .before .before .sizes-fit .ensures) _ (c .before .before .if1 .left) (c .before .if2 .taken) (c .refused2 .ensures)
 
 -- src/lib.rt:74:13
 cast-if3 : tie.Need-cast-if3
 cast-if3 c = search needs
 
 -- src/lib.rt:75:9
-refuse-requires-3 : tie.Need-refuse-requires-3
-refuse-requires-3 c κs = search needs
+refused-requires-3 : tie.Need-refused-requires-3
+refused-requires-3 c κs = search needs
 
 -- src/lib.rt:75:9
 returns-3 : tie.Need-returns-3
-returns-3 c = sit-damaged (c .before .before .before .before .before .before .before .before .args .h) (c .before .before .before .before .before .before .before .before .args .s) (c .before .before .before .before .before .before .before .before .args .i) (c .before .before .before .before .before .before .before .before .args .n) (c .before .before .before .before .before .before .before .before .args .rows .now) (c .before .before .before .before .before .before .before .before .args .holders .now) _ (c .before .before .before .before .before .sizes-fit .ensures) _ (c .before .before .before .before .if1 .left) (omega arith) (c .before .if3 .taken) (c .refuse3 .ensures)
+returns-3 c = sit-damaged (c .before .before .before .before .before .before .before .before .args .h) (c .before .before .before .before .before .before .before .before .args .s) (c .before .before .before .before .before .before .before .before .args .i) (c .before .before .before .before .before .before .before .before .args .n) (c .before .before .before .before .before .before .before .before .args .rows .now) (c .before .before .before .before .before .before .before .before .args .holders .now) _ (c .before .before .before .before .before .sizes-fit .ensures) _ (c .before .before .before .before .if1 .left) (omega arith) (c .before .if3 .taken) (c .refused3 .ensures)
 
 -- src/lib.rt:77:9
 width-requires : tie.Need-width-requires
@@ -81,12 +80,12 @@ sit-step-spec =
     tie.close
     (tie.spec
     sizes-fit-requires
-    refuse-requires
+    refused-requires
     returns
-    refuse-requires-2
+    refused-requires-2
     returns-2
     cast-if3
-    refuse-requires-3
+    refused-requires-3
     returns-3
     width-requires
     mul-clear
