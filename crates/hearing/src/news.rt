@@ -15,6 +15,7 @@ use tables::Head;
 use tables::Seat;
 use tables::Stepped;
 use tables::bits;
+use tables::held;
 use tables::reply;
 use tables::sizes::wide;
 
@@ -125,7 +126,7 @@ fn too_many(h: Head, s: Seat, n: usize, news: News) -> bool
     if news.added == 0 {
         return false;
     }
-    let sum = wide(s.held) + news.added;
+    let sum = held(s) + news.added;
     let pieces = wide(h.pieces);
     if sum < pieces {
         return false;
@@ -141,9 +142,9 @@ fn gain(h: Head, s: Seat, n: usize, news: News, used: usize) -> Stepped
     requires { ⌜ (n ≤ 2000) × (h .pieces ≤ 16384) × (news .added ≤ 65536) × (tooMany n h s news ≡ false) ⌝ }
     ensures { λ r. ⌜ r ≡ gained h s news used ⌝ }
 {
-    let sum = wide(s.held) + news.added;
+    let sum = held(s) + news.added;
     let mut t = reply::spoken(s);
-    t.held = sum as u32;
+    t.held = sum as u16;
     if completes(h, s, news) {
         let mut g = h;
         g.complete = h.complete + 1;
@@ -160,5 +161,5 @@ fn completes(h: Head, s: Seat, news: News) -> bool
     if news.added == 0 {
         return false;
     }
-    wide(s.held) + news.added == wide(h.pieces)
+    held(s) + news.added == wide(h.pieces)
 }

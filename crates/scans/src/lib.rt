@@ -12,6 +12,8 @@ ghost use Rattle.scans.specs.Pages.{emptyPage, pageStep, lineStep, lineO
 use tables::Page;
 use tables::Seat;
 use tables::cleared_seat;
+use tables::held;
+use tables::sizes::wide;
 
 // The seat at i, and a cleared one past the end.
 pub fn seat_get(seats: &[Seat], i: usize) -> Seat
@@ -110,7 +112,7 @@ fn list_step(asked: Asked, p: Page, s: Seat, i: usize, page: &mut [u32]) -> Page
     if !s.taken {
         return p;
     }
-    if s.held == asked.pieces {
+    if held(s) == wide(asked.pieces) {
         return p;
     }
     let total = p.total + 1;

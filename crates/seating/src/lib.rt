@@ -258,7 +258,7 @@ fn gone(h: Head, s: Seat) -> Stepped
 {
     let mut g = h;
     g.taken = h.taken - 1;
-    if s.held == h.pieces {
+    if tables::held(s) == sizes::wide(h.pieces) {
         g.complete = h.complete - 1;
         return left_seat(g);
     }

@@ -5,6 +5,8 @@ ghost use Rattle.tables.specs.Counting.{bit};
 ghost use Rattle.tables.specs.Replies.{headAtZero};
 use crate::Head;
 use crate::Seat;
+use crate::held;
+use crate::sizes::wide;
 
 // Whether one of the head's counts is 0 that the leaving of s lowers.
 pub fn head_at_zero(h: Head, s: Seat) -> bool
@@ -13,7 +15,7 @@ pub fn head_at_zero(h: Head, s: Seat) -> bool
     if h.taken == 0 {
         return true;
     }
-    if s.held == h.pieces {
+    if held(s) == wide(h.pieces) {
         return h.complete == 0;
     }
     false

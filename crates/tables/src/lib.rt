@@ -28,7 +28,7 @@ pub struct Seat {
     pub am_interested: bool,
     pub peer_choking: bool,
     pub peer_interested: bool,
-    pub held: u32,
+    pub held: u16,
 }
 
 // A page of the missing list: how many lines were written, how many trucks of the whole yard lack a piece, and the
@@ -67,6 +67,13 @@ pub struct Stepped {
     pub head: Head,
     pub seat: Seat,
     pub answer: Answer,
+}
+
+// How many pieces the truck of a seat holds. A seat's own count has 16 bits, so that no byte of a seat is padding.
+pub fn held(s: Seat) -> usize
+    ensures { λ r. ⌜ r ≡ s .held ⌝ }
+{
+    s.held as usize
 }
 
 // A free seat: all marks off, nothing held.

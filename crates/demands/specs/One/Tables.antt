@@ -135,6 +135,13 @@ sizes-fit-ensures h n rows holders r = r ≡ sizesFit h n rows holders
 pub sizes-fit-determined : (h : Head) (n rows holders : ℕ) → Determined (sizes-fit-ensures h n rows holders)
 sizes-fit-determined h n rows holders r r′ e f = e ∙ sym f
 
+-- tables::held
+abbrev held-ensures : (s : Seat) → ℕ → Type 0
+held-ensures s r = r ≡ s .held
+
+pub held-determined : (s : Seat) → Determined (held-ensures s)
+held-determined s r r′ e f = e ∙ sym f
+
 -- tables::sizes::wide
 abbrev wide-ensures : (x : ℕ) → ℕ → Type 0
 wide-ensures x r = r ≡ x

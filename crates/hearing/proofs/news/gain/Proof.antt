@@ -7,8 +7,8 @@ use borrow.Author.Needs.{needs}
 use Rattle.hearing.proofs.news.gain.Statement.{statement}
 use Rattle.hearing.proofs.news.gain.Tie as tie
 
-wide-requires : tie.Need-wide-requires
-wide-requires c κs = search needs
+held-requires : tie.Need-held-requires
+held-requires c κs = search needs
 
 add-sum : tie.Need-add-sum
 add-sum c = search needs
@@ -17,7 +17,7 @@ spoken-requires : tie.Need-spoken-requires
 spoken-requires c κs = search needs
 
 cast-t : tie.Need-cast-t
-cast-t c = omega (arith, c .before .before .wide .ensures, room-sum (c .before .before .before .args .n) (c .before .before .before .args .h) (c .before .before .before .args .s) (c .before .before .before .args .news) (c .before .before .before .pre .3) 4294967295 (omega arith) (omega arith))
+cast-t c = omega (arith, c .before .before .held .ensures, room-sum (c .before .before .before .args .n) (c .before .before .before .args .h) (c .before .before .before .args .s) (c .before .before .before .args .news) (c .before .before .before .pre .3) 65535 (omega arith) (omega arith))
 
 completes-requires : tie.Need-completes-requires
 completes-requires c κs = search needs
@@ -29,19 +29,19 @@ taken-requires : tie.Need-taken-requires
 taken-requires c κs = search needs
 
 returns : tie.Need-returns
-returns c = gained-full (c .before .before .before .before .before .before .before .args .h) (c .before .before .before .before .before .before .before .args .s) (c .before .before .before .before .before .before .before .args .news) (c .before .before .before .before .before .before .wide .ensures) (c .before .before .before .before .spoken .ensures) (c .before .before .before .completes .ensures) (c .before .before .if1 .taken) (c .taken .ensures)
+returns c = gained-full (c .before .before .before .before .before .before .before .args .h) (c .before .before .before .before .before .before .before .args .s) (c .before .before .before .before .before .before .before .args .news) (c .before .before .before .before .before .before .held .ensures) (c .before .before .before .before .spoken .ensures) (c .before .before .before .completes .ensures) (c .before .before .if1 .taken) (c .taken .ensures)
 
 taken-requires-2 : tie.Need-taken-requires-2
 taken-requires-2 c κs = search needs
 
 returns-2 : tie.Need-returns-2
-returns-2 c = gained-part (c .before .before .before .before .before .before .args .h) (c .before .before .before .before .before .before .args .s) (c .before .before .before .before .before .before .args .news) (c .before .before .before .before .before .wide .ensures) (c .before .before .before .spoken .ensures) (c .before .before .completes .ensures) (c .before .if1 .left) (c .taken2 .ensures)
+returns-2 c = gained-part (c .before .before .before .before .before .before .args .h) (c .before .before .before .before .before .before .args .s) (c .before .before .before .before .before .before .args .news) (c .before .before .before .before .before .held .ensures) (c .before .before .before .spoken .ensures) (c .before .before .completes .ensures) (c .before .if1 .left) (c .taken2 .ensures)
 
 pub gain-spec : {M : Type 1} → statement M
 gain-spec =
     tie.close
     (tie.spec
-    wide-requires
+    held-requires
     add-sum
     spoken-requires
     cast-t
