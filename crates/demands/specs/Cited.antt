@@ -36,6 +36,7 @@ use Rattle.telling.specs.declared.Told.{Told}
 use Rattle.telling.proofs.Laws.{unused, told-kept as untold, shown-kept as unshown}
 use Rattle.demands.specs.One.{Ref, now, Refused, Unused}
 pub mod Numbers
+pub mod Only
 pub mod Reasons
 
 -- ---- parts handed back

@@ -2,7 +2,7 @@
 -- 1. No public function has a `requires`: tests/determined looks. Each is proved safe and ending: `rt check` does.
 -- 2, 3. The words of these statements are below. The functions stand in the files of One/, one for each crate, each under its path: its contract as
 -- `src/` has it (-ensures), that it permits one outcome (-determined), and that a refusal leaves what is lent (-keeps). None is left out: tests/determined.
--- 4. One/Numbers.antt.
+-- 4. One/Numbers.antt, and One/Only.antt: no other number is given.
 use mathlib.Core.Path.{_≡_}
 use mathlib.Core.Logic.{_⊎_}
 use Prim.Native.Nat.{ℕ}
@@ -38,6 +38,7 @@ pub mod HostWriters
 pub mod HostYard
 pub mod Causes
 pub mod Numbers
+pub mod Only
 
 -- ---- what is lent
 

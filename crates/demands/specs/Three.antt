@@ -2,12 +2,12 @@
 -- Nothing is asked of what stands in the tables that are lent first: the first call of a run is a start that is accepted, and from there on the tables are handed
 -- from call to call as each leaves them. A history holds the calls with their answers, the newest first; `seated`, `announced`, `fresh` and the four marks are
 -- recursions on it that look at no table (history/specs/History.antt).
-use mathlib.Core.Path.{_≡_, refl, sym, ap, _∙_, subst}
+use mathlib.Core.Path.{_≡_, refl, sym, ap, ap₂, _∙_, subst}
 use mathlib.Core.Logic.{_↔_}
 use mathlib.Core.Bool.{true, false, not, _&&_}
 use mathlib.Core.List.{List, [], _∷_, _++_}
 use mathlib.Core.List.{List·Memᴰ as In}
-use Prim.Native.Nat.{ℕ, _≤_, _<_, min}
+use Prim.Native.Nat.{ℕ, _*_, _≤_, _<_, min}
 use lib.Dec.{eqb}
 use lib.ListN.{length, getD, take, drop}
 use lib.Seq.{sets}
@@ -32,9 +32,11 @@ use Rattle.history.proofs.Demand as demand
 use Rattle.demands.specs.Three.Program.{Made, made-run}
 use Rattle.demands.specs.Three.Paging.{page-total, page-listed}
 use Rattle.demands.specs.Three.Loaded.{nobody-lacks}
+use Rattle.demands.specs.Three.Fitting.{tables-fit}
 pub mod Program
 mod Paging
 mod Loaded
+mod Fitting
 
 -- a start is accepted exactly when the sizes are legal and the lent tables have them, whatever stands in the tables
 pub start-exact : (p l k : ℕ) (lent : Yard) (r : Answer) → paper r ≡ step (start p l k) lent .answer → paper r ≡ taken done ↔ SizesFit p l k lent
@@ -76,13 +78,20 @@ module _ (lent : Yard) (h : History) (y : Yard) (made : Made lent h y) where
   }
   seat-right = here (λ g z. (i : ℕ) → i < seats → getD (z .seats) i cleared ≡ recordOf g i) (λ p l k ok cs. demand.seat-right p l k lent ok cs)
 
-  -- each bit of each row, the number of seats, and the sizes
+  -- each piece's bit in each seat's row
   pub row-right : (i p : ℕ) → i < seats → p < pieces h → hasIn (width (pieces h)) (y .rows) i p ≡ (seated h i && announced h i p)
   row-right = here (λ g z. (i p : ℕ) → i < seats → p < pieces g → hasIn (width (pieces g)) (z .rows) i p ≡ (seated g i && announced g i p)) (λ p l k ok cs. theorem.right p l k lent ok cs .row-right)
 
+  -- the sizes that the head holds, and those of the tables
   pub sizes-right : (length (y .seats) ≡ seats) × (y .head .pieces ≡ pieces h) × (y .head .«piece_length» ≡ sizesSet h .pieceLength) × (y .head .«last_length» ≡ sizesSet h .lastLength)
   sizes-right = here (λ g z. (length (z .seats) ≡ seats) × (z .head .pieces ≡ pieces g) × (z .head .«piece_length» ≡ sizesSet g .pieceLength) × (z .head .«last_length» ≡ sizesSet g .lastLength))
       (λ p l k ok cs. let r = theorem.right p l k lent ok cs in (r .seats-same, r .pieces-right, r .piece-length-right, r .last-length-right))
+
+  pub tables-right : (length (y .rows) ≡ seats * width (pieces h)) × (length (y .holders) ≡ pieces h)
+  tables-right =
+      let f = tables-fit lent h y made in
+      let z = sizes-right in
+      (f .row ∙ ap₂ (λ (n p : ℕ). n * width p) (z .0) (z .1), f .counts ∙ z .1)
 
   -- every call's answer, and all that it writes, is the one that the history before it says: document 01's checks in their order, with no table in them
   pub answer-right : (c : Call) (r : Answer) → paper r ≡ step c y .answer → paper r ≡ answer seats h c

@@ -2,8 +2,8 @@
 -- Each statement is about any answer r, and any lent output `out` at exit, that the contract of the call named above it permits: the contract is its premise.
 -- A text is a list of bytes. An outcome is `taken` with what is handed back, or `refused` with number and place.
 use mathlib.Core.Path.{_≡_, refl, sym, ap, _∙_, subst}
-use mathlib.Core.Logic.{_↔_, inl, inr}
-use mathlib.Core.Bool.{true, false}
+use mathlib.Core.Logic.{_⊎_, _↔_, inl, inr}
+use mathlib.Core.Bool.{true, false, cond}
 use mathlib.Core.List.{List, [], _∷_, _++_}
 use Prim.Native.Nat.{ℕ, _+_, _-_, _*_, _%_, _≤_, _<_, min}
 use native.Mathlib.Omega.{arith}
@@ -14,13 +14,15 @@ use Rattle.refusal.specs.BigEndian.{Bytes}
 use Rattle.refusal.specs.Paper.{Outcome, taken, refused, map, then}
 use Rattle.refusal.specs.Parts.{bytesAt}
 use Rattle.refusal.specs.declared.Part.{Part}
-use Rattle.bencode.specs.Value.{Value, str, int, dict, empty, entry, encode, count, Keeps}
+use Rattle.bencode.specs.Value.{Value, Items, Entries, str, int, list, dict, empty, entry, encode, count, Keeps}
 use Rattle.bencode.specs.Decode.{decode}
 use Rattle.bencode.specs.Exact.{Fine}
 use Rattle.bencode.specs.Answers.{paper as countPaper, checkOf}
 use Rattle.bencode.specs.declared.Checked.{Checked}
 use Rattle.bencode.proofs.Exact.{exactly, fine-taken}
 use Rattle.walk.specs.Has.{Has}
+use Rattle.walk.specs.Lookup.{under, lookup}
+use Rattle.fields.specs.Values.{dictionaryAt}
 use Rattle.writer.specs.Put.{Left, left, putOf}
 use Rattle.writer.specs.Put.{paper as putPaper}
 use Rattle.writer.specs.declared.Put.{Put}
@@ -29,25 +31,27 @@ use Rattle.sha1.specs.Digest.{paper as hashPaper, left as hashing, Left as Hash
 use Rattle.sha1.specs.declared.Hashed.{Hashed}
 use Rattle.blocks.specs.Rules.{sum, Lawful, piecesOf}
 use Rattle.blocks.specs.Spans.{FilePart, part, joinedFiles, partsOf}
-use Rattle.blocks.specs.Answers.{Spot, partsPaper, placePaper, blockOf, byteOf, flat}
+use Rattle.blocks.specs.Answers.{Spot, partsPaper, placePaper, sizePaper, sizeOf, blockOf, byteOf, flat}
 use Rattle.blocks.specs.Answers.{partsWritten, left as parting, Left as Parting}
 use Rattle.blocks.specs.Covers.{run, placesOf, Neat}
 use Rattle.blocks.specs.declared.Parts.{Parts}
 use Rattle.blocks.specs.declared.Place.{Place}
+use Rattle.blocks.specs.declared.Size.{Size}
 use Rattle.blocks.proofs.Whole as whole
 use Rattle.blocks.proofs.Joined.{joined-laid}
 use Rattle.wire.specs.Message.{Message, FieldsFit, body, keepalive}
 use Rattle.wire.specs.Message.{encode as frameOf}
-use Rattle.wire.specs.Frames.{Found, found, readOf, meant, Lengths, Stream, streamOf, encodeAll, KeepAll, writeOf}
+use Rattle.wire.specs.Frames.{Found, found, messageIn, readOf, meant, Lengths, Stream, streamOf, encodeAll, KeepAll, writeOf}
 use Rattle.wire.specs.Handshake.{Shaken, hello, name, handshake, zeros, shakeOf}
-use Rattle.wire.specs.Causes.{Cause}
+use Rattle.wire.specs.Causes.{Cause, Zero, All, Right, named}
 use Rattle.wire.proofs.Decided as decided
 use Rattle.wire.proofs.Exact as frames
 use Rattle.wire.proofs.Written as framing
 use Rattle.wire.proofs.Shaking as shaking
-use Rattle.metainfo.specs.Keys.{announceKey, infoKey, lengthKey, nameKey, pieceLengthKey, piecesKey}
+use Rattle.metainfo.specs.Keys.{announceKey, infoKey, filesKey, lengthKey, nameKey, pieceLengthKey, piecesKey}
 use Rattle.metainfo.specs.Reading.{announceIn, nameIn}
 use Rattle.metainfo.specs.Reading.{paper as torrentPaper, readOf as torrentRead}
+use Rattle.metainfo.specs.Rules.{torrentOf}
 use Rattle.metainfo.specs.Hashes.{infoHashOf}
 use Rattle.metainfo.specs.declared.Torrent.{Torrent}
 use Rattle.metainfo.specs.declared.Reading.{Reading}
@@ -55,6 +59,7 @@ use Rattle.torrents.specs.Torrent.{OneFile, TorrentFiles, single, many, Torrent
 use Rattle.torrents.specs.Exact.{isSingle, filesUnder, StandsAt, PathAt, EachAt, ShowsTorrent}
 use Rattle.torrents.proofs.Laws as torrents
 use Rattle.torrents.proofs.Determined as said
+use Rattle.fields.specs.Nth.{nth}
 use Rattle.contents.specs.Files.{foundPaper, entryOf}
 use Rattle.contents.specs.Files.{single as oneEntry}
 use Rattle.contents.specs.declared.Entry as file-entry
@@ -70,7 +75,7 @@ use Rattle.authoring.proofs.Written as authored
 use Rattle.authoring.proofs.Rewriting as again
 use Rattle.tracker.specs.Keys.{interval, peers}
 use Rattle.tracker.specs.Entries.{PeerEntry}
-use Rattle.tracker.specs.Reply.{Answer, compact, sixes, counted, replyOf, nthOf}
+use Rattle.tracker.specs.Reply.{Answer, compact, sixes, counted, replyIn, replyOf, nthOf}
 use Rattle.tracker.specs.Reading.{entriesIn, peerPaper}
 use Rattle.tracker.specs.Reading.{paper as replyPaper}
 use Rattle.tracker.specs.Writing.{textOf}
@@ -84,10 +89,12 @@ use Rattle.tracker.proofs.Exact.{reply-only, reply-every}
 use Rattle.tracker.proofs.Numbering.{entries-said}
 use Rattle.tracker.proofs.Walking.{walked}
 use Rattle.tracker.proofs.Rewriting as replies
-use Rattle.demands.specs.Two.Joins.{reply-again, piece-hashed, piece-tells, piece-yes, piece-no, block-parts, block-taken, block-takes, byte-taken, byte-takes, byte-found}
+use Rattle.demands.specs.Two.Joins.{reply-again, piece-hashed, piece-tells, piece-yes, piece-no, block-parts, block-taken, block-takes, size-taken, size-takes, byte-taken, byte-takes, byte-found}
 use Rattle.demands.specs.Two.Numbered.{noFile, many-within, many-beyond, one-within, one-beyond, sum-one, part-bytes}
+use Rattle.demands.specs.Two.Places.{PartUnder, FilesPlaced, ReplyPlaced, torrent-placed, only-placed, many-placed, hash-placed, reply-placed}
 mod Joins
 mod Numbered
+pub mod Places
 
 -- the bytes s are the value v as BEP 3 writes it, and v keeps the rules: integers of 64 bits, keys strictly ascending, at most 32 levels;
 -- at most 16,384 values, each key counted, and at most 1,048,576 bytes
@@ -148,6 +155,20 @@ module _ (s : List ℕ) (r : Reading) (c : torrentPaper r ≡ torrentRead s) whe
       let f = w .files in
       (w .announce, w .info, w .name, w .pieces, w .piece-length, w .count, f .one, f .files, f .total, f .place, f .each)
 
+  -- and where they stand: each string is the very part of the text under its key, past its length and colon; info is its dictionary, and the content's place
+  -- is that of the value under length or files. `lookup` gives the place of what is under a key, from where the dictionary's first key stands
+  pub torrent-places : (x : Torrent) → torrentPaper r ≡ taken x → (es : Entries) → Encodes s (dict es)
+      → PartUnder 1 es announceKey (x .announce)
+      × ((q : ℕ) × (is : Entries) × (lookup 1 es infoKey ≡ under q (dict is))
+      × (x .info ≡ record { from = q; len = length (encode (dict is)) })
+      × PartUnder (q + 1) is nameKey (x .name)
+      × PartUnder (q + 1) is piecesKey (x .pieces)
+      × ((w : Value) × (lookup (q + 1) is (cond (x .content .single) lengthKey filesKey) ≡ under (x .content .place) w)))
+  torrent-places x e es n =
+      let t = torrent-placed es x (sym (ap (λ (o : Outcome Value). then o torrentOf) (fine-taken s (dict es) (fine n))) ∙ sym c ∙ e) in
+      let i = t .1 in
+      (t .0, (i .0, i .1, i .2, i .3 .0, i .3 .1, i .3 .2, i .3 .3))
+
 -- of metainfo::announce and metainfo::name: what they hand back
 pub announce-said : (s r : List ℕ) → r ≡ bytesAt s (announceIn (torrentRead s)) → (v : Value) (t : TorrentSays) → Encodes s v → IsTorrent v t → r ≡ t .announce
 announce-said s r c v t e i = c ∙ torrents.announce-said s v t (fine e) i
@@ -155,9 +176,10 @@ announce-said s r c v t e i = c ∙ torrents.announce-said s v t (fine e) i
 pub name-said : (s r : List ℕ) → r ≡ bytesAt s (nameIn (torrentRead s)) → (v : Value) (t : TorrentSays) → Encodes s v → IsTorrent v t → r ≡ t .name
 name-said s r c v t e i = c ∙ torrents.name-said s v t (fine e) i
 
--- of contents::file: file number n of a torrent of many files has its length and path, and starts where those before it end; beyond the last it is 31
+-- of contents::file: file number n of a torrent of many files has its length and path, starts where those before it end, and is not said to
+-- be the only one; beyond the last it is 31
 pub file-exact : (s : List ℕ) (n : ℕ) (r : file.Found) → foundPaper r ≡ entryOf s n → (v : Value) (t : TorrentSays) → Encodes s v → IsTorrent v t → (fs : List OneFile) → t .files ≡ many fs
-    → (n < length fs → (e : file-entry.Entry) × (foundPaper r ≡ taken e) × (e .offset .0 ≡ sum (take n (sizesOf fs))) × (e .length ≡ getD fs n noFile .size) × PathAt s (e .path) (getD fs n noFile .path))
+    → (n < length fs → (e : file-entry.Entry) × (foundPaper r ≡ taken e) × (e .offset .0 ≡ sum (take n (sizesOf fs))) × (e .length ≡ getD fs n noFile .size) × PathAt s (e .path) (getD fs n noFile .path) × (e .single ≡ false))
     × (length fs ≤ n → foundPaper r ≡ refused 31 0)
 file-exact s n r c v t e i fs f =
     let h = torrents.torrent-exact s .every v t (fine e) i in
@@ -165,22 +187,35 @@ file-exact s n r c v t e i fs f =
     let one = w .one ∙ ap isSingle f in
     let all = w .files ∙ ap (λ (g : TorrentFiles). length (lengthsIn g)) f in
     let each = subst (λ (g : TorrentFiles). EachAt s (h .0 .content .place + 1) g) f (w .each) in (
-      λ l. let k = many-within s n (h .0) (h .1) fs one all each l in (k .0, c ∙ k .1, omega (arith, k .2 .0), k .2 .1, k .2 .2),
+      λ l. let k = many-within s n (h .0) (h .1) fs one all each l in (k .0, c ∙ k .1, omega (arith, k .2 .0), k .2 .1, k .2 .2, k .2 .3),
       λ l. c ∙ many-beyond s n (h .0) (h .1) fs one all each l,
     )
 
--- and of a torrent of one file: file 0 has its length and its name, and any other number is 31
+-- and of a torrent of one file: file 0 has its length and its name and is said to be the only one, and any other number is 31
 pub one-file-exact : (s : List ℕ) (n : ℕ) (r : file.Found) → foundPaper r ≡ entryOf s n → (v : Value) (t : TorrentSays) → Encodes s v → IsTorrent v t → (m : ℕ) → t .files ≡ single m
-    → (n ≡ 0 → (e : file-entry.Entry) × (foundPaper r ≡ taken e) × (e .offset .0 ≡ 0) × (e .length ≡ m) × (take (length (t .name)) (drop (e .path) s) ≡ t .name))
+    → (n ≡ 0 → (e : file-entry.Entry) × (foundPaper r ≡ taken e) × (e .offset .0 ≡ 0) × (e .length ≡ m) × (take (length (t .name)) (drop (e .path) s) ≡ t .name) × (e .single ≡ true))
     × (1 ≤ n → foundPaper r ≡ refused 31 0)
 one-file-exact s n r c v t e i m f =
     let h = torrents.torrent-exact s .every v t (fine e) i in
     let w = h .2 .files in
     let one = w .one ∙ ap isSingle f in
     let all : h .0 .content .total ≡ m = w .total ∙ ap (λ (g : TorrentFiles). sum (lengthsIn g)) f ∙ sum-one m in (
-      λ z. (oneEntry (h .0), c ∙ one-within s n (h .0) (h .1) one z, refl, all, part-bytes s (h .0 .name) (t .name) (h .2 .name)),
+      λ z. (oneEntry (h .0), c ∙ one-within s n (h .0) (h .1) one z, refl, all, part-bytes s (h .0 .name) (t .name) (h .2 .name), refl),
       λ l. c ∙ one-beyond s n (h .0) (h .1) one l,
     )
+
+-- and the place of its path: of one file the name's; of many the first element of the list under path in its own dictionary, the dictionaries standing one after
+-- the other in the list under files
+module _ (s : List ℕ) (n : ℕ) (r : file.Found) (c : foundPaper r ≡ entryOf s n) (e : file-entry.Entry) (h : foundPaper r ≡ taken e)
+    (x : Torrent) (t : torrentRead s ≡ taken x) (es : Entries) (k : Encodes s (dict es)) where
+  pub only-file-place : x .content .single ≡ true → n ≡ 0 → e .path ≡ x .name .from
+  only-file-place = only-placed s n es (fine-taken s (dict es) (fine k)) x t e (sym c ∙ h)
+
+  pub file-place : x .content .single ≡ false
+      → (q : ℕ) × (is : Entries) × (vs : Items) × (l : List file-entry.Entry)
+      × (lookup 1 es infoKey ≡ under q (dict is)) × (lookup (q + 1) is filesKey ≡ under (x .content .place) (list vs))
+      × FilesPlaced (x .content .place + 1) vs l × (nth n l ≡ taken e)
+  file-place = many-placed s n es (fine-taken s (dict es) (fine k)) x t e (sym c ∙ h)
 
 -- a value says one thing as a torrent
 pub torrent-says-one : (s : List ℕ) (v : Value) (t u : TorrentSays) → Encodes s v → IsTorrent v t → IsTorrent v u → t ≡ u
@@ -210,6 +245,16 @@ module _ (s : List ℕ) (r : Reply) (c : replyPaper r ≡ map counted (replyOf s
       let z : h .0 ≡ y .0 = cc in
       let w = subst (λ (a : Answer (List PeerEntry)). ShowsReply s a t) z (h .2) in
       (y .0, y .2, w, ap entriesIn (y .2) ∙ entries-said s (y .0) t w, walked s (y .0) (y .1), λ n f d. d ∙ ap (λ (o : Outcome (Answer (List PeerEntry))). then o (nthOf n)) (y .1))
+
+  -- and where it stands: the failure reason and each entry's id and ip are the very parts under their keys, and the first entry's place is in the value under
+  -- peers
+  pub reply-places : (x : Answer ℕ) → replyPaper r ≡ taken x → (es : Entries) → Encodes s (dict es)
+      → (y : Answer (List PeerEntry)) × (x ≡ counted y) × ReplyPlaced es y × ((n : ℕ) (f : peer.Found) → peerPaper f ≡ then (replyOf s) (nthOf n) → peerPaper f ≡ nthOf n y)
+  unfolding replyOf
+  reply-places x p es e =
+      let y = replied (replyOf s) refl x p in
+      let d = ap (λ (o : Outcome Value). then o (λ v. then (dictionaryAt 0 v) replyIn)) (fine-taken s (dict es) (fine e)) in
+      (y .0, y .2, reply-placed es (y .0) (sym d ∙ y .1), λ n f g. g ∙ ap (λ (o : Outcome (Answer (List PeerEntry))). then o (nthOf n)) (y .1))
 
 -- ---- 7. "What is written reads back": "Reading gives the fields back; rewriting a read text that has only those keys [..] gives its bytes."
 
@@ -242,6 +287,11 @@ module _ (s : List ℕ) (bytes : Bytes s) (m : Message (List ℕ)) (q : ℕ) whe
         let r = frames.reads-back m (f, k) (drop q s) in
         (r .at, ap readOf e ∙ r .answer ∙ ap (λ (n : ℕ). taken (found (r .at) n)) (sym l), ap (λ (t : List ℕ). meant t (r .at)) e ∙ r .means),
   )
+
+-- and its parts are those of the frame itself: `messageIn` puts each after its id and the numbers before it
+pub frame-parts : (s : List ℕ) (at : Message Part) (q : ℕ)
+    → readOf s ≡ taken (found at q) ↔ ((Zero s × (at ≡ keepalive) × (q ≡ 4)) ⊎ (All s × Right s × (at ≡ messageIn s (named s)) × (q ≡ 4 + named s)))
+frame-parts s at q = decided.exactly s (taken (found at q))
 
 -- frames written one after the other are read one after the other, each from where the one before ended, whatever follows
 pub stream-reads-back : (ms : List (Message (List ℕ))) → KeepAll ms → (rest : List ℕ) → streamOf (length ms) (encodeAll ms ++ rest) ≡ record { messages = ms; after = rest }
@@ -319,6 +369,11 @@ pub piece-hash : (s : List ℕ) (n : ℕ) (r : hash.Hash) → pieceHashPaper r �
     → (n < t .count → (x : Part) × (pieceHashPaper r ≡ taken x) × (bytesAt s x ≡ take 20 (drop (20 * n) (t .pieces)))) × (t .count ≤ n → pieceHashPaper r ≡ refused 31 0)
 piece-hash s n r c v t e i = let h = piece-hashed s n v t (fine e) i in (λ l. let x = h .0 l in (x .0, c ∙ x .1, x .2), λ l. c ∙ h .1 l)
 
+-- and it is that part of pieces
+pub piece-hash-place : (s : List ℕ) (n : ℕ) (r : hash.Hash) → pieceHashPaper r ≡ pieceHashOf s n → (y : Torrent) → torrentRead s ≡ taken y
+    → (x : Part) → pieceHashPaper r ≡ taken x → (x .from ≡ y .pieces .from + 20 * n) × (x .len ≡ 20)
+piece-hash-place s n r c y t x e = hash-placed s n y t x (sym c ∙ e)
+
 -- of contents::check_piece: yes exactly when the text is a torrent that has piece n, m is as long as that piece, and its digest is the n-th 20 bytes of pieces;
 -- no exactly when all of this holds but the last
 module _ (s : List ℕ) (n : ℕ) (m : List ℕ) (r : piece.Checked) (c : checkPaper r ≡ pieceOf s n m) where
@@ -361,6 +416,11 @@ block-exact ns pl p q n o out r c = (
   λ (k, t). block-taken ns pl p q n o (partsPaper r) out c k t,
   λ h. let e = block-takes ns pl p q n o h in (e .0, ap (λ (x : Parting). x .answer) c ∙ e .1),
 )
+
+-- of blocks::piece_size: taken exactly when the numbers keep the rules and there is such a piece, and it is then the piece length, of the last piece what is left
+pub piece-size-exact : (ns : List ℕ) (pl p : ℕ) (r : Size) → sizePaper r ≡ sizeOf (joinedFiles ns) pl p → (k : ℕ)
+    → sizePaper r ≡ taken k ↔ (Lawful pl ns (piecesOf (sum ns) pl) × (p < piecesOf (sum ns) pl) × (k ≡ min pl (sum ns - p * pl)))
+piece-size-exact ns pl p r c k = (λ e. size-taken ns pl p k (sym c ∙ e), λ h. c ∙ size-takes ns pl p k h)
 
 -- of blocks::byte: byte o of file f. Its piece and offset are its place in the joined content, and the block of that one byte is that byte of that file
 module _ (ns : List ℕ) (pl f o : ℕ) (r : Place) (c : placePaper r ≡ byteOf (joinedFiles ns) pl f o) where

@@ -2,7 +2,8 @@
 use mathlib.Core.Path.{_≡_, refl, sym, ap, subst, _∙_}
 use mathlib.Core.Logic.{_⊎_, inl, inr, ⊎-elim, _↔_}
 use mathlib.Core.Bool.{Bool, true, false, cond}
-use mathlib.Core.List.{List, [], _∷_}
+use mathlib.Core.List.{List, [], _∷_, List·Memᴰ·head, List·Memᴰ·tail, List·Memᴰ·cases-cons, List·Memᴰ·not-nil}
+use mathlib.Core.List.{List·Memᴰ as In}
 use Prim.Native.Nat.{ℕ, zero, suc, _+_, _%_, _≤_, _<_}
 use native.Mathlib.Omega.{arith}
 use borrow.Author.Tests.{ltb-true, ltb-false, leb-true, leb-false, eqb-true, eqb-false, lt-ltb, le-ltb, lt-leb, le-leb, ne-eqb}
@@ -72,13 +73,13 @@ pub both-ways : {A B C : Type 0} → A ↔ B → B ↔ C → A ↔ C
 both-ways f g = (λ a. g .0 (f .0 a), λ c. f .1 (g .1 c))
 
 -- two refusals that are one have one number and one place
-same-refusal : {A : Type 0} (m q n p : ℕ) → _≡_ {A = Outcome A} (refused m q) (refused n p) → (m ≡ n) × (q ≡ p)
+pub same-refusal : {A : Type 0} (m q n p : ℕ) → _≡_ {A = Outcome A} (refused m q) (refused n p) → (m ≡ n) × (q ≡ p)
 same-refusal m q n p e = (cc, cc)
 
 refusal-is : {A : Type 0} {m q n p : ℕ} → m ≡ n → q ≡ p → _≡_ {A = Outcome A} (refused m q) (refused n p)
 refusal-is a b = rw (a, b)
 
-taken-not : {A P : Type 0} {x : A} {n p : ℕ} → _≡_ {A = Outcome A} (taken x) (refused n p) → P
+pub taken-not : {A P : Type 0} {x : A} {n p : ℕ} → _≡_ {A = Outcome A} (taken x) (refused n p) → P
 taken-not e = no-way (cc)
 
 -- ---- outcomes
@@ -182,25 +183,49 @@ module _ (rest o : List ℕ) (p : ℕ) where
 
 -- the numbers by which a value is no reply: 10, 11 and 15
 abbrev Ours : ℕ → Type 0
-Ours n = (10 ≤ n) × (n ≤ 15)
+Ours n = In n (10 ∷ 11 ∷ 15 ∷ [])
+
+ten : Ours 10
+ten = List·Memᴰ·head refl
+
+eleven : Ours 11
+eleven = List·Memᴰ·tail (List·Memᴰ·head refl)
+
+fifteen : Ours 15
+fifteen = List·Memᴰ·tail (List·Memᴰ·tail (List·Memᴰ·head refl))
+
+ours-within : (n : ℕ) → Ours n → (10 ≤ n) × (n ≤ 15)
+ours-within n h = go (List·Memᴰ·cases-cons h)
+  where
+    last : (n ≡ 15) ⊎ In n [] → (10 ≤ n) × (n ≤ 15)
+    last (inl e) = (omega arith, omega arith)
+    last (inr m) = absurd (List·Memᴰ·not-nil m)
+
+    next : (n ≡ 11) ⊎ In n (15 ∷ []) → (10 ≤ n) × (n ≤ 15)
+    next (inl e) = (omega arith, omega arith)
+    next (inr m) = last (List·Memᴰ·cases-cons m)
+
+    go : (n ≡ 10) ⊎ In n (11 ∷ 15 ∷ []) → (10 ≤ n) × (n ≤ 15)
+    go (inl e) = (omega arith, omega arith)
+    go (inr m) = next (List·Memᴰ·cases-cons m)
 
 lacks-ours : (d : ℕ) (u : Under) (W : ℕ → Value → ℕ → ℕ → Type 0) → ((p : ℕ) (v : Value) (n q : ℕ) → W p v n q → Ours n) → (n q : ℕ) → Lacks d u W n q → Ours n
-lacks-ours d u W h n q (missing e) = (omega arith, omega arith)
+lacks-ours d u W h n q (missing e) = ten
 lacks-ours d u W h n q (wrong p v m r e i) = h p v m r i
 
 string-ours : (p : ℕ) (v : Value) (n q : ℕ) → NoString p v n q → Ours n
-string-ours p v n q (no-string w h) = (omega arith, omega arith)
+string-ours p v n q (no-string w h) = ten
 
 id-ours : (p : ℕ) (v : Value) (n q : ℕ) → NoId p v n q → Ours n
 id-ours p v n q (no-id w m r h) = string-ours p w m r h
-id-ours p v n q (other-length bs h) = (omega arith, omega arith)
+id-ours p v n q (other-length bs h) = fifteen
 
 number-ours : (R : ℕ → Type 0) (p : ℕ) (v : Value) (n q : ℕ) → NoNumber R p v n q → Ours n
-number-ours R p v n q (no-integer w h) = (omega arith, omega arith)
-number-ours R p v n q (out-of-range z h) = (omega arith, omega arith)
+number-ours R p v n q (no-integer w h) = ten
+number-ours R p v n q (out-of-range z h) = eleven
 
 peer-ours : (p : ℕ) (v : Value) (n q : ℕ) → NoPeer p v n q → Ours n
-peer-ours p v n q (no-dictionary w h) = (omega arith, omega arith)
+peer-ours p v n q (no-dictionary w h) = ten
 peer-ours p v n q (bad-id es m r h) = lacks-ours _ _ _ id-ours m r h
 peer-ours p v n q (bad-ip es m r i h) = lacks-ours _ _ _ string-ours m r h
 peer-ours p v n q (bad-port es m r i j h) = lacks-ours _ _ _ (number-ours _) m r h
@@ -210,12 +235,12 @@ some-ours p vs n q (this o v ws m r h) = peer-ours o v m r h
 some-ours p vs n q (later o v ws m r i h) = some-ours _ ws m r h
 
 peers-ours : (p : ℕ) (v : Value) (n q : ℕ) → NoPeers p v n q → Ours n
-peers-ours p v n q (other-kind w f g) = (omega arith, omega arith)
-peers-ours p v n q (not-whole bs h) = (omega arith, omega arith)
+peers-ours p v n q (other-kind w f g) = ten
+peers-ours p v n q (not-whole bs h) = fifteen
 peers-ours p v n q (bad-peer vs m r h) = some-ours _ vs m r h
 
-reply-ours : (v : Value) (n q : ℕ) → NoReply v n q → Ours n
-reply-ours v n q (no-top w h) = (omega arith, omega arith)
+pub reply-ours : (v : Value) (n q : ℕ) → NoReply v n q → Ours n
+reply-ours v n q (no-top w h) = ten
 reply-ours v n q (bad-reason es p w m r e h) = string-ours p w m r h
 reply-ours v n q (bad-interval es m p e h) = lacks-ours _ _ _ (number-ours _) m p h
 reply-ours v n q (bad-peers es m r e i h) = lacks-ours _ _ _ peers-ours m r h
@@ -225,7 +250,7 @@ module _ (s : List ℕ) (n p : ℕ) where
   why (no-bencode m q e) = inl e
   why (no-reply v m q e h) = inr (v, e, h)
 
-  reply-law : map counted (replyOf s) ≡ refused n p ↔ ((decode s ≡ refused n p) ⊎ NoReplyText s n p)
+  pub reply-law : map counted (replyOf s) ≡ refused n p ↔ ((decode s ≡ refused n p) ⊎ NoReplyText s n p)
   reply-law = both-ways (map-refused counted (replyOf s) n p) (
     λ e. why (reply-causes s n p e),
     ⊎-elim (λ (h : decode s ≡ refused n p). reply-refused s n p (no-bencode n p h)) (λ (h : NoReplyText s n p). reply-refused s n p (no-reply (h .0) n p (h .1) (h .2))),
@@ -233,13 +258,13 @@ module _ (s : List ℕ) (n p : ℕ) where
 
   -- 1 to 8 are bencode's, the others the reply's
   pub reply-bencode : n ≤ 8 → map counted (replyOf s) ≡ refused n p ↔ decode s ≡ refused n p
-  reply-bencode l = both-ways reply-law (⊎-elim (λ (h : decode s ≡ refused n p). h) (λ (h : NoReplyText s n p). absurd (let o = reply-ours (h .0) n p (h .2) in omega arith)), λ h. inl h)
+  reply-bencode l = both-ways reply-law (⊎-elim (λ (h : decode s ≡ refused n p). h) (λ (h : NoReplyText s n p). absurd (let o = ours-within n (reply-ours (h .0) n p (h .2)) in omega arith)), λ h. inl h)
 
   pub reply-own : 9 ≤ n → map counted (replyOf s) ≡ refused n p ↔ NoReplyText s n p
   reply-own l = both-ways reply-law (⊎-elim (λ (h : decode s ≡ refused n p). absurd (let o = bencode.none-other s n p h in omega arith)) (λ (h : NoReplyText s n p). h), λ h. inr h)
 
   reply-numbers : replyOf s ≡ refused n p → n ≤ 15
-  reply-numbers e = ⊎-elim (λ (h : decode s ≡ refused n p). let o = bencode.none-other s n p h in omega arith) (λ (h : NoReplyText s n p). reply-ours (h .0) n p (h .2) .1) (why (reply-causes s n p e))
+  reply-numbers e = ⊎-elim (λ (h : decode s ≡ refused n p). let o = bencode.none-other s n p h in omega arith) (λ (h : NoReplyText s n p). ours-within n (reply-ours (h .0) n p (h .2)) .1) (why (reply-causes s n p e))
 
 past-entries : (n p : ℕ) (x : Answer (List PeerEntry)) → nthOf n x ≡ refused 31 p → (entriesIn (counted x) ≤ n) × (p ≡ 0)
 past-entries n p x e = go (leb (entriesIn (counted x)) n) refl
@@ -297,7 +322,7 @@ module _ (f : author.Fields) where
 torrent-number : (s : List ℕ) (n p : ℕ) → readOf s ≡ refused n p → n ≤ 13
 torrent-number s n p e = ⊎-elim (λ (h : (1 ≤ n) × (n ≤ 8)). omega (arith, h .1)) (λ (h : (10 ≤ n) × (n ≤ 13)). h .1) (torrent.none-other s n p e)
 
-by-count : (k n : ℕ) {P : Type 0} → (n < k → P) → (k ≤ n → P) → P
+pub by-count : (k n : ℕ) {P : Type 0} → (n < k → P) → (k ≤ n → P) → P
 by-count k n {P} x y = go (ltb n k) refl
   where
     go : (b : Bool) → ltb n k ≡ b → P
@@ -305,7 +330,7 @@ by-count k n {P} x y = go (ltb n k) refl
     go false e = y (ltb-false n k e)
 
 -- the hash of a piece: 31 exactly beyond the last
-in-hash : (t : Torrent) (n k p : ℕ) → hashIn n t ≡ refused k p ↔ ((k ≡ 31) × (t .«piece_count» ≤ n) × (p ≡ 0))
+pub in-hash : (t : Torrent) (n k p : ℕ) → hashIn n t ≡ refused k p ↔ ((k ≡ 31) × (t .«piece_count» ≤ n) × (p ≡ 0))
 in-hash t n k p = (only, λ h. sym (hash-beyond n t (h .1)) ∙ refusal-is (sym (h .0)) (sym (h .2)))
   where
     only : hashIn n t ≡ refused k p → (k ≡ 31) × (t .«piece_count» ≤ n) × (p ≡ 0)
@@ -420,22 +445,22 @@ info-hash-alike s o k p = go (readOf s) refl
         let g : infoHashOf s o .answer ≡ refused r q = ap (λ (x : Outcome Torrent). hashedIn s o x .answer) f in
         (λ e. let z = same-refusal {A = Unit {0}} r q k p (sym g ∙ e) in f ∙ refusal-is (z .0) (z .1), λ e. let z = same-refusal {A = Torrent} r q k p (sym f ∙ e) in g ∙ refusal-is (z .0) (z .1))
 
-pub hash-alike : (s : List ℕ) (n k p : ℕ) → k ≤ 30 → hashOf s n ≡ refused k p ↔ readOf s ≡ refused k p
+pub hash-alike : (s : List ℕ) (n k p : ℕ) → (k ≡ 31 → ⊥) → hashOf s n ≡ refused k p ↔ readOf s ≡ refused k p
 hash-alike s n k p l = both-ways (then-refused (readOf s) (hashIn n) k p) (
-  ⊎-elim (λ (h : readOf s ≡ refused k p). h) (λ (h : (t : Torrent) × (readOf s ≡ taken t) × (hashIn n t ≡ refused k p)). absurd (let c = in-hash (h .0) n k p .0 (h .2) .0 in omega arith)),
+  ⊎-elim (λ (h : readOf s ≡ refused k p). h) (λ (h : (t : Torrent) × (readOf s ≡ taken t) × (hashIn n t ≡ refused k p)). absurd (l (in-hash (h .0) n k p .0 (h .2) .0))),
   λ h. inl h,
 )
 
-pub file-alike : (s : List ℕ) (n k p : ℕ) → k ≤ 30 → file.entryOf s n ≡ refused k p ↔ readOf s ≡ refused k p
+pub file-alike : (s : List ℕ) (n k p : ℕ) → (k ≡ 31 → ⊥) → file.entryOf s n ≡ refused k p ↔ readOf s ≡ refused k p
 file-alike s n k p l = (λ e. go (readOf s) refl e, λ h. sym (numbering.entry-refused s n k p (sym h)))
   where
     go : (o : Outcome Torrent) → readOf s ≡ o → file.entryOf s n ≡ refused k p → readOf s ≡ refused k p
     go (refused r q) f e = let z = same-refusal {A = FileEntry} r q k p (numbering.entry-refused s n r q (sym f) ∙ e) in f ∙ refusal-is (z .0) (z .1)
     go (taken t) f e = by-count (t .content .files) n
         (λ h. let y = entry-there s t f n h in taken-not (sym (y .1) ∙ e))
-        (λ h. absurd (let z = same-refusal {A = FileEntry} 31 0 k p (numbering.number-past s t f n h ∙ e) .0 in omega arith))
+        (λ h. absurd (l (sym (same-refusal {A = FileEntry} 31 0 k p (numbering.number-past s t f n h ∙ e) .0))))
 
-pub peer-alike : (s : List ℕ) (n k p : ℕ) → k ≤ 30 → then (replyOf s) (nthOf n) ≡ refused k p ↔ map counted (replyOf s) ≡ refused k p
+pub peer-alike : (s : List ℕ) (n k p : ℕ) → (k ≡ 31 → ⊥) → then (replyOf s) (nthOf n) ≡ refused k p ↔ map counted (replyOf s) ≡ refused k p
 peer-alike s n k p l = both-ways (then-refused (replyOf s) (nthOf n) k p) (
   ⊎-elim (λ (h : replyOf s ≡ refused k p). map-refused counted (replyOf s) k p .1 h) (λ (h : (x : Answer (List PeerEntry)) × (replyOf s ≡ taken x) × (nthOf n x ≡ refused k p)). not-there (h .0) (h .2)),
   λ h. inl (map-refused counted (replyOf s) k p .0 h),
@@ -444,4 +469,4 @@ peer-alike s n k p l = both-ways (then-refused (replyOf s) (nthOf n) k p) (
     not-there : {P : Type 0} (x : Answer (List PeerEntry)) → nthOf n x ≡ refused k p → P
     not-there x e = by-count (entriesIn (counted x)) n
         (λ h. let y = entry-within n x h in taken-not (sym (y .1) ∙ e))
-        (λ h. absurd (let z = same-refusal {A = PeerEntry} 31 0 k p (sym (entry-beyond n x h) ∙ e) .0 in omega arith))
+        (λ h. absurd (l (sym (same-refusal {A = PeerEntry} 31 0 k p (sym (entry-beyond n x h) ∙ e) .0))))

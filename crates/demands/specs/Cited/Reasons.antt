@@ -2,7 +2,8 @@
 use mathlib.Core.Path.{_≡_, refl, sym, subst}
 use mathlib.Core.Logic.{_⊎_, inl, inr, _↔_}
 use mathlib.Core.Bool.{true, false}
-use mathlib.Core.List.{List}
+use mathlib.Core.List.{List, [], _∷_, List·Memᴰ·head, List·Memᴰ·tail}
+use mathlib.Core.List.{List·Memᴰ as In}
 use Prim.Native.Nat.{ℕ, _*_, _≤_, _<_}
 use native.Mathlib.Omega.{arith}
 use lib.ListN.{length}
@@ -144,6 +145,9 @@ module _ (n : ℕ) (h : History) where
 
   pub cause-38 : (c : Call) (place : ℕ) → (Cause n h c 38 × (place ≡ 0)) ↔ (((q : ℕ) × (l : ℕ) × (k : ℕ) × (c ≡ start q l k) × (StartFits h q l k → ⊥)) × (place ≡ 0))
   cause-38 c place = (λ q. (by-number c 38 (q .0) (λ e x. absurd (omega arith)) (λ e x. absurd (omega arith)) (λ e x. absurd (omega arith)) (λ e x. absurd (omega arith)) (λ e x. absurd (omega arith)) (λ e x. absurd (omega arith)) (λ e x. absurd (omega arith)) (λ e x. absurd (omega arith)) (λ e x. absurd (omega arith)) (λ e x. absurd (omega arith)) (λ e x. x), q .1), λ q. (from-38 (q .0), q .1))
+
+  pub cause-one-of : (c : Call) (k : ℕ) → Cause n h c k → In k (20 ∷ 21 ∷ 30 ∷ 31 ∷ 32 ∷ 33 ∷ 34 ∷ 35 ∷ 36 ∷ 37 ∷ 38 ∷ [])
+  cause-one-of c k q = by-number c k q (λ e x. List·Memᴰ·head e) (λ e x. List·Memᴰ·tail (List·Memᴰ·head e)) (λ e x. List·Memᴰ·tail (List·Memᴰ·tail (List·Memᴰ·head e))) (λ e x. List·Memᴰ·tail (List·Memᴰ·tail (List·Memᴰ·tail (List·Memᴰ·head e)))) (λ e x. List·Memᴰ·tail (List·Memᴰ·tail (List·Memᴰ·tail (List·Memᴰ·tail (List·Memᴰ·head e))))) (λ e x. List·Memᴰ·tail (List·Memᴰ·tail (List·Memᴰ·tail (List·Memᴰ·tail (List·Memᴰ·tail (List·Memᴰ·head e)))))) (λ e x. List·Memᴰ·tail (List·Memᴰ·tail (List·Memᴰ·tail (List·Memᴰ·tail (List·Memᴰ·tail (List·Memᴰ·tail (List·Memᴰ·head e))))))) (λ e x. List·Memᴰ·tail (List·Memᴰ·tail (List·Memᴰ·tail (List·Memᴰ·tail (List·Memᴰ·tail (List·Memᴰ·tail (List·Memᴰ·tail (List·Memᴰ·head e)))))))) (λ e x. List·Memᴰ·tail (List·Memᴰ·tail (List·Memᴰ·tail (List·Memᴰ·tail (List·Memᴰ·tail (List·Memᴰ·tail (List·Memᴰ·tail (List·Memᴰ·tail (List·Memᴰ·head e))))))))) (λ e x. List·Memᴰ·tail (List·Memᴰ·tail (List·Memᴰ·tail (List·Memᴰ·tail (List·Memᴰ·tail (List·Memᴰ·tail (List·Memᴰ·tail (List·Memᴰ·tail (List·Memᴰ·tail (List·Memᴰ·head e)))))))))) (λ e x. List·Memᴰ·tail (List·Memᴰ·tail (List·Memᴰ·tail (List·Memᴰ·tail (List·Memᴰ·tail (List·Memᴰ·tail (List·Memᴰ·tail (List·Memᴰ·tail (List·Memᴰ·tail (List·Memᴰ·tail (List·Memᴰ·head e)))))))))))
 
 -- demand 3's laws, of what a program has made of its tables
 module _ (lent : Yard) (h : History) (y : Yard) (made : Made lent h y) (c : Call) where

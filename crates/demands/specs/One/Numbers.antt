@@ -70,11 +70,11 @@ pub info-hash-alike : (s o : List ℕ) (k p : ℕ) → infoHashOf s o .answer �
 info-hash-alike s o k p = cited.info-hash-alike s o k p
 
 -- `contents::piece_hash` as `metainfo::read`, but for 31
-pub piece-hash-alike : (s : List ℕ) (n k p : ℕ) → k ≤ 30 → piece.hashOf s n ≡ refused k p ↔ readOf s ≡ refused k p
+pub piece-hash-alike : (s : List ℕ) (n k p : ℕ) → (k ≡ 31 → ⊥) → piece.hashOf s n ≡ refused k p ↔ readOf s ≡ refused k p
 piece-hash-alike s n k p l = cited.hash-alike s n k p l
 
 -- `contents::file` as `metainfo::read`, but for 31
-pub file-alike : (s : List ℕ) (n k p : ℕ) → k ≤ 30 → file.entryOf s n ≡ refused k p ↔ readOf s ≡ refused k p
+pub file-alike : (s : List ℕ) (n k p : ℕ) → (k ≡ 31 → ⊥) → file.entryOf s n ≡ refused k p ↔ readOf s ≡ refused k p
 file-alike s n k p l = cited.file-alike s n k p l
 
 -- `contents::check_piece` as `metainfo::read`, but for 8, 31 and 34
@@ -82,7 +82,7 @@ pub piece-check-alike : (s : List ℕ) (n : ℕ) (m : List ℕ) (k p : ℕ) → 
 piece-check-alike s n m k p = cited.check-exactly s n m k p
 
 -- `tracker::peer` as `tracker::read`, but for 31
-pub peer-alike : (s : List ℕ) (n k p : ℕ) → k ≤ 30 → then (replyOf s) (nthOf n) ≡ refused k p ↔ map counted (replyOf s) ≡ refused k p
+pub peer-alike : (s : List ℕ) (n k p : ℕ) → (k ≡ 31 → ⊥) → then (replyOf s) (nthOf n) ≡ refused k p ↔ map counted (replyOf s) ≡ refused k p
 peer-alike s n k p l = cited.peer-alike s n k p l
 
 -- ---- 1: "the text ends where a byte is needed, or a string's length exceeds the bytes left after its colon; place: the text's length"

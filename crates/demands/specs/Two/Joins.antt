@@ -25,7 +25,7 @@ use Rattle.sha1.specs.Sha1.{sha1}
 use Rattle.sha1.specs.Digest.{same}
 use Rattle.blocks.specs.Rules.{sum, Lawful, piecesOf, lawful}
 use Rattle.blocks.specs.Spans.{Span, FilePart, joinedFiles, lengths, heldIn, partsOf, part, nowhere, endOf}
-use Rattle.blocks.specs.Answers.{Spot, spotAt, pieces, keeps, lies, blockOf, byteOf, flat}
+use Rattle.blocks.specs.Answers.{Spot, spotAt, pieces, keeps, lies, sizeOf, blockOf, byteOf, flat}
 use Rattle.blocks.specs.Answers.{partsWritten, left as parting, Left as Parting}
 use Rattle.blocks.specs.Covers.{Block}
 use Rattle.blocks.proofs.Legal.{is-lawful, lawful-is, piece-bounds}
@@ -243,6 +243,29 @@ module _ (ns : List ℕ) (pl : ℕ) where
         let i : p < pieces ss pl = omega (arith, h, count-is) in
         let l : Block (heldIn ss pl p) q n = record { some = a; most = b; ends = omega (arith, e, joined-held ns pl p) } in
         (length (partsOf ss (p * pl + q) n), rw (keeps-is ∙ is-lawful pl ns (piecesOf (sum ns) pl) f, lt-ltb p (pieces ss pl) i, is-lies (heldIn ss pl p) q n l, le-leb (3 * length (partsOf ss (p * pl + q) n)) (length o) g))
+
+  module _ (p k : ℕ) where
+    abbrev Holds : Type 0
+    Holds = Lawful pl ns (piecesOf (sum ns) pl) × (p < piecesOf (sum ns) pl) × (k ≡ min pl (sum ns - p * pl))
+
+    pub size-taken : sizeOf ss pl p ≡ taken k → Holds
+    unfolding sizeOf
+    size-taken e = by (keeps ss pl) (ltb p (pieces ss pl)) refl refl e
+      where
+        by : (a b : Bool) → keeps ss pl ≡ a → ltb p (pieces ss pl) ≡ b → cond a (cond b (taken (heldIn ss pl p)) (refused 31 0)) (refused 11 0) ≡ taken k → Holds
+        by true true f g e =
+            let z : heldIn ss pl p ≡ k = cc in
+            let j = ltb-true p (pieces ss pl) g in
+            (lawful-is pl ns (piecesOf (sum ns) pl) (sym keeps-is ∙ f), omega (arith, j, count-is), sym z ∙ joined-held ns pl p)
+        by true false f g e = no-way (cc)
+        by false b f g e = no-way (cc)
+
+    pub size-takes : Holds → sizeOf ss pl p ≡ taken k
+    unfolding sizeOf
+    size-takes (f, h, e) =
+        let i : p < pieces ss pl = omega (arith, h, count-is) in
+        let z : heldIn ss pl p ≡ k = joined-held ns pl p ∙ sym e in
+        rw (keeps-is ∙ is-lawful pl ns (piecesOf (sum ns) pl) f, lt-ltb p (pieces ss pl) i) (ap taken z)
 
   module _ (f o : ℕ) where
     abbrev There : Type 0

@@ -64,7 +64,7 @@ sizes-length (f ∷ fs) = ap suc (sizes-length fs)
 
 module _ (s : List ℕ) (n : ℕ) (x : Torrent) (e : readOf s ≡ taken x) where
   -- the call goes by the number among the entries
-  by-number : (v : Value) (es : List Entry) → decode s ≡ taken v → allEntries v x ≡ taken es → entryOf s n ≡ nth n es
+  pub by-number : (v : Value) (es : List Entry) → decode s ≡ taken v → allEntries v x ≡ taken es → entryOf s n ≡ nth n es
   by-number v es d g =
       let t : torrentOf v ≡ taken x = sym (ap (λ (o : Outcome Value). then o torrentOf) d) ∙ e in
       ap (λ (o : Outcome Value). then o (entryIn n)) d ∙ ap (λ (o : Outcome Torrent). then o (λ t. then (allEntries v t) (nth n))) t ∙ ap (λ (o : Outcome (List Entry)). then o (nth n)) g
