@@ -25,6 +25,7 @@ pub struct Cursor {
     pub count: usize,
 }
 
+// What reading one value comes to: the cursor past it, or the refusal.
 pub enum Step {
     Past(Cursor),
     Bad(Refusal),

@@ -1,5 +1,5 @@
 // What `bencode::check` answers to each of a table of texts, a line each, held to the file stdout.
-// tests/bencode_cases.py has the same table and a reader of its own, and prints the same lines.
+// tests/bencode_cases.py has the same table, asks the second program, and prints the same lines.
 mod keys;
 mod limits;
 mod order;

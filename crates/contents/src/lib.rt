@@ -24,6 +24,7 @@ pub struct Entry {
     pub single: bool,
 }
 
+// A file by its number, or the refusal.
 pub enum Found {
     Is(Entry),
     Not(Refusal),

@@ -68,14 +68,14 @@ pub fn byte3(x: u32) -> u8
     (x / 16777216 % 256) as u8
 }
 
-// The byte after it.
+// Byte 2, the second most significant.
 pub fn byte2(x: u32) -> u8
     ensures { λ r. ⌜ r ≡ x / 65536 % 256 ⌝ }
 {
     (x / 65536 % 256) as u8
 }
 
-// The byte before the last.
+// Byte 1, the second least significant.
 pub fn byte1(x: u32) -> u8
     ensures { λ r. ⌜ r ≡ x / 256 % 256 ⌝ }
 {

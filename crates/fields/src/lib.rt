@@ -17,6 +17,7 @@ pub enum Bytes {
     Unread(Refusal),
 }
 
+// A number from 0 on, or the refusal.
 pub enum Natural {
     Is(u64),
     Not(Refusal),

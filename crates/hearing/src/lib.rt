@@ -22,7 +22,7 @@ mod have;
 mod news;
 mod row;
 
-// The bytes that came in for seat i of n.
+// What the first frame of the bytes for seat i of n leaves of the head, the seat and the tables, and its answer.
 pub fn feed_step(
     h: Head,
     s: Seat,

@@ -51,11 +51,13 @@ pub struct File {
     pub next: usize,
 }
 
+// A torrent that was read, or the refusal.
 pub enum Reading {
     Read(Torrent),
     Refused(Refusal),
 }
 
+// A file that was read, or the refusal.
 pub enum Filed {
     Is(File),
     Not(Refusal),

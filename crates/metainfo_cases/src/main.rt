@@ -1,5 +1,5 @@
 // What `metainfo` and `contents` answer to each of a table of texts, a line each, held to the file stdout. The table is the file stdin.
-// tests/metainfo_cases.py has a table and a reader of its own, and prints the same lines.
+// tests/metainfo_cases.py has a table of its own, asks the second program, and prints the same lines.
 mod report;
 mod table;
 mod words;

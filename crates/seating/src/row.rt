@@ -43,7 +43,7 @@ pub fn clear_counts(holders: &mut [u16])
     }
 }
 
-// A piece of the row has no holder.
+// Whether a piece of the row has no holder.
 pub fn some_zero(rows: &[u8], holders: &[u16], at: usize, pieces: usize) -> bool
     requires { ⌜ (at + (pieces + 7) / 8 ≤ length (now rows)) × (pieces ≤ length (now holders)) × (pieces ≤ 65536) ⌝ }
     ensures { λ r. ⌜ r ≡ someZero (now (rows .entry)) at (now (holders .entry)) pieces ⌝ }

@@ -6,8 +6,10 @@ ghost use Rattle.tracker.specs.Entries.{packedOf, packedPaper, packedAt}
 use refusal::Refusal;
 use refusal::number;
 
+// The four bytes of an address.
 pub struct Address(pub u8, pub u8, pub u8, pub u8);
 
+// An entry of six bytes.
 pub struct Packed {
     pub address: Address,
     pub port: u64,

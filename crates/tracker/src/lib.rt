@@ -32,6 +32,7 @@ pub struct Peers {
     pub first: usize,
 }
 
+// What a reply is: why it failed, its entries in one form or the other, or the refusal.
 pub enum Reply {
     // The bytes of the failure reason.
     Failure(Part),
@@ -42,6 +43,7 @@ pub enum Reply {
     Refused(Refusal),
 }
 
+// One entry of a reply in its form, or the refusal.
 pub enum Found {
     Packed(Packed),
     Listed(Listed),

@@ -16,6 +16,7 @@ use refusal::number;
 use walk::Past;
 use walk::Sought;
 
+// An entry of a list: where its peer id and its ip stand, and the port.
 pub struct Listed {
     pub id: Part,
     pub ip: Part,
@@ -44,7 +45,7 @@ pub fn listed_at(text: &[u8], at: usize) -> Listing
     }
 }
 
-// The entries of a list whose first item stands at a place, up to its e.
+// How many entries a list has whose first item stands at a place, or the first refusal among them.
 pub fn count(text: &[u8], first: usize) -> Counted
     ensures { λ r. ⌜ countPaper r ≡ countFrom (suc (length (now (text .entry)))) (now (text .entry)) first ⌝ }
 {
