@@ -1,5 +1,5 @@
 -- The number of a refusal is one of a list, call by call. Assumes nothing.
-use mathlib.Core.Path.{_≡_, refl, sym, ap, _∙_}
+use mathlib.Core.Path.{_≡_, refl, sym, _∙_}
 use mathlib.Core.Logic.{_⊎_, inl, inr, ⊎-elim}
 use mathlib.Core.Bool.{Bool, true, false}
 use mathlib.Core.List.{List, [], _∷_, _++_, List·Memᴰ·head, List·Memᴰ·tail, Memᴰ·append-left, Memᴰ·append-right}
@@ -9,7 +9,7 @@ use native.Mathlib.Omega.{arith}
 use borrow.Author.Tests.{eqb-true, eqb-false}
 use lib.Dec.{eqb}
 use lib.ListN.{length}
-use Rattle.refusal.specs.Paper.{Outcome, taken, refused, map, then}
+use Rattle.refusal.specs.Paper.{taken, refused, map, then}
 use Rattle.refusal.specs.Limits.{longestPiece}
 use Rattle.bencode.specs.Value as value
 use Rattle.bencode.specs.Decode.{decode}
@@ -24,11 +24,8 @@ use Rattle.blocks.specs.Spans.{Span}
 use Rattle.blocks.specs.Covers.{run, BlockCause, block-range, block-beyond, block-outside, block-room, ByteCause, byte-range, byte-beyond, byte-outside, SizeCause, size-range, size-beyond}
 use Rattle.wire.specs.Causes.{ShakeCause, WriteCause}
 use Rattle.wire.specs.Causes.{Cause as FrameCause}
-use Rattle.tracker.specs.Reply.{Answer, replyOf, counted, nthOf}
-use Rattle.tracker.specs.Entries.{PeerEntry}
-use Rattle.tracker.specs.Reading.{entriesIn}
+use Rattle.tracker.specs.Reply.{replyOf, counted, nthOf}
 use Rattle.tracker.specs.Faults as faults
-use Rattle.tracker.proofs.Numbering.{entry-within, entry-beyond}
 use Rattle.metainfo.specs.Reading.{readOf}
 use Rattle.metainfo.specs.declared.Torrent.{Torrent}
 use Rattle.authoring.specs.Writing.{Fields}

@@ -1,13 +1,12 @@
 -- After an accepted start and any calls the lent tables have the sizes that the head says. Assumes nothing.
 use mathlib.Core.Path.{_≡_, refl, sym, _∙_}
 use mathlib.Core.Bool.{Bool, true, false, true≢false}
-use Prim.Native.Nat.{ℕ, _*_}
+use Prim.Native.Nat.{ℕ}
 use native.Mathlib.Omega.{arith}
 use lib.ListN.{length}
 use Rattle.refusal.specs.Paper.{refused}
-use Rattle.tables.specs.Rows.{width}
 use Rattle.tables.specs.Tables.{Yard, sizesFit}
-use Rattle.tables.specs.Step.{Call, start, sit, step}
+use Rattle.tables.specs.Step.{start, sit, step}
 use Rattle.tables.proofs.Sizing.{Fitting, fitting}
 use Rattle.history.specs.History.{History}
 use Rattle.history.specs.Damage.{Fit}

@@ -16,7 +16,7 @@ use Rattle.blocks.specs.Rules.{fileCount, totalAnd, piecesOf}
 use Rattle.walk.specs.Lookup.{Under, nothing, under, lookup}
 use Rattle.fields.specs.Values.{partOf, stringAt, naturalAt, listAt, dictionaryAt, must}
 use Rattle.metainfo.specs.Keys.{announceKey, infoKey, filesKey, lengthKey, nameKey, pathKey, pieceLengthKey, piecesKey}
-use Rattle.metainfo.specs.Rules.{goodName, nameAt, elementsOf, pathIn, pathAt, fileIn, fileOf, pieceLengthAt, lengthsOf, oneFile, manyFiles, contentOf, placeUnder, sizedOf, infoOf, infoAt, topOf, torrentOf}
+use Rattle.metainfo.specs.Rules.{goodName, nameAt, elementsOf, pathAt, fileIn, fileOf, pieceLengthAt, lengthsOf, oneFile, manyFiles, contentOf, placeUnder, sizedOf, infoOf, infoAt, topOf, torrentOf}
 use Rattle.metainfo.specs.Reading.{readOf}
 use Rattle.metainfo.specs.declared.File.{File}
 use Rattle.metainfo.specs.declared.Content.{Content}
@@ -29,7 +29,7 @@ use Rattle.contents.specs.declared.Entry.{Entry as FileEntry}
 use Rattle.contents.proofs.Walking.{files-walked}
 use Rattle.tracker.specs.Keys.{failureReason, interval, peers, ip, peerId, port}
 use Rattle.tracker.specs.Entries.{PeerEntry, listed, idLength}
-use Rattle.tracker.specs.Reply.{Answer, failure, compact, listing, sixes, idAt, peerIn, peerAt, peersFrom, peersAt, answeredIn, replyBy, replyIn}
+use Rattle.tracker.specs.Reply.{Answer, failure, compact, listing, sixes, idAt, peerIn, peerAt, peersFrom, peersAt, replyBy, replyIn}
 use Rattle.tracker.specs.declared.listed.Listed.{Listed}
 use Rattle.demands.specs.Two.Numbered.{by-number, one-within}
 
