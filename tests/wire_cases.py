@@ -59,10 +59,10 @@ def count(size):
     return bytes(i % 251 for i in range(size))
 
 
-def frame_case(kind, length, there=None):
+def frame_case(kind, length):
     text = length.to_bytes(4, "big") + bytes([kind]) + count(SPACE)[5:]
-    cuts = waits(text[:4 + length if there is None else there], read)
-    print(f"id {kind} length {length}: waits {cuts} {read(text)}")
+    print(f"id {kind} length {length}: waits {waits(text, read)} {read(text)}")
+    return text
 
 
 def frames():
@@ -71,7 +71,7 @@ def frames():
         lengths = sorted({least - 1, least, most, most + 1})
         for length in lengths[1:] if kind == 255 else lengths:
             frame_case(kind, length)
-    frame_case(7, 4294967295, 16400)
+    return frame_case(7, 4294967295)
 
 
 # ---- writers
@@ -81,62 +81,90 @@ def put(out, written):
     try:
         text = written(len(out))
     except Refused as refusal:
-        return out, f" {refusal}"
-    return text + out[len(text) :], f": wrote {len(text)}"
+        return out, str(refusal)
+    return text + out[len(text) :], f"wrote {len(text)}"
+
+
+def writer(out, name, fields, written, *, payload=None):
+    """A line: the writer, its room, its fields, and its answer with what the output then holds, of a long one what it begins with."""
+    case = [name, len(out), *fields, *(shown(payload) if payload is not None else [])]
+    out, answer = put(out, written)
+    print(*case, end=": ")
+    print(answer, read(out) if len(out) > 100 else out.hex())
+    return out
+
+
+def shown(payload):
+    """A payload's length and its bytes; of a long one, all whose bytes are the same, the first."""
+    return [len(payload), *(payload[:1] if len(payload) > 100 else payload)]
 
 
 def frame(kind, payload=b""):
     return lambda room: wire.write_frame(kind, payload, room)
 
 
-def short(name, out, written):
-    out, answer = put(out, written)
-    print(f"{name}{answer} {out.hex()}")
-    return out
-
-
-def numbers(*values):
-    return b"".join(v.to_bytes(4, "big") for v in values)
-
-
 def room(size):
     return b"\xff" * size
 
 
-def writers():
-    for size in (6, 3):
-        short("keepalive", room(size), frame(wire.KEEPALIVE))
-    for kind in (0, 1, 2, 3, 4, 9):
-        short("plain", room(7), frame(kind))
-    short("plain", room(4), frame(2))
-    short("have", room(11), frame(4, numbers(4294967295)))
-    out = short("request", room(19), frame(6, numbers(16909060, 5, 16384)))
-    short("cancel", out, frame(8, numbers(1, 16909060, 4294967294)))
-    short("have", room(8), frame(4, numbers(7)))
-    out = short("request", room(16), frame(6, numbers(1, 2, 3)))
-    short("cancel", out, frame(8, numbers(1, 2, 3)))
-    out = short("bitfield", room(18), frame(5, b"\x80\x01"))
-    out = short("piece", out, frame(7, numbers(258, 772) + b"abc"))
-    out = short("bitfield", out, frame(5))
-    short("piece", out, frame(7, numbers(258, 772)))
-    short("bitfield", room(6), frame(5, b"\x80\x01"))
-    short("piece", room(15), frame(7, numbers(258, 772) + b"abc"))
-    out = room(10)
-    for kind, payload in ((4, numbers(256)), (4, b"\x00\x01\x00"), (20, b"xyz"), (20, b"longer")):
-        out = short("raw", out, frame(kind, payload))
+def keepalive(out):
+    return writer(out, "keepalive", [], frame(wire.KEEPALIVE))
 
 
-def long(name, out, written):
-    out, answer = put(out, written)
-    print(f"{name}{answer} {read(out)}")
-    return out
+def plain(out, kind):
+    return writer(out, "plain", [kind], frame(kind))
+
+
+def numbers(out, name, kind, *values):
+    return writer(out, name, values, frame(kind, bytes_of(*values)))
+
+
+def bytes_of(*values):
+    return b"".join(v.to_bytes(4, "big") for v in values)
+
+
+def bitfield(out, payload):
+    return writer(out, "bitfield", [], frame(5, payload), payload=payload)
+
+
+def piece(out, index, begin, payload):
+    return writer(out, "piece", [index, begin], frame(7, bytes_of(index, begin) + payload), payload=payload)
+
+
+def raw(out, kind, payload):
+    return writer(out, "raw", [kind], frame(kind, payload), payload=payload)
 
 
 def long_writers(out):
     for size in (2048, 2049, 16392, 16393):
-        out = long("bitfield", out, frame(5, b"\xaa" * size))
-    for size in (16384, 16385):
-        long("piece", count(SPACE), frame(7, numbers(3, 16384) + b"\xaa" * size))
+        out = bitfield(out, b"\xaa" * size)
+    piece(out, 3, 16384, b"\xaa" * 16384)
+    # Every byte of this one is its place's own number.
+    out = frame_case(4, 0x00010203)
+    piece(out, 3, 16384, b"\xaa" * 16385)
+
+
+def short_writers():
+    for size in (6, 3):
+        keepalive(room(size))
+    for kind in (0, 1, 2, 3, 4, 9):
+        plain(room(7), kind)
+    plain(room(4), 2)
+    numbers(room(11), "have", 4, 4294967295)
+    out = numbers(room(19), "request", 6, 16909060, 5, 16384)
+    numbers(out, "cancel", 8, 1, 16909060, 4294967294)
+    numbers(room(8), "have", 4, 7)
+    out = numbers(room(16), "request", 6, 1, 2, 3)
+    numbers(out, "cancel", 8, 1, 2, 3)
+    out = bitfield(room(18), b"\x80\x01")
+    out = piece(out, 258, 772, b"abc")
+    out = bitfield(out, b"")
+    piece(out, 258, 772, b"")
+    bitfield(room(6), b"\x80\x01")
+    piece(room(15), 258, 772, b"abc")
+    out = room(10)
+    for kind, payload in ((4, bytes_of(256)), (4, b"\x00\x01\x00"), (20, b"xyz"), (20, b"longer")):
+        out = raw(out, kind, payload)
 
 
 # ---- handshakes
@@ -144,23 +172,21 @@ def long_writers(out):
 def handshakes():
     info, peer = b"\x07" * 20, b"\x09" * 20
 
-    def written(room):
-        return wire.write_handshake(info, peer, room)
+    def handshake(size):
+        return writer(room(size), "handshake", [], lambda there: wire.write_handshake(info, peer, there))
 
     def reader(text):
         return shake(text, info)
 
-    text = short("handshake", room(70), written)
-    print(f" waits {waits(text, reader)} {reader(text)}")
-    for i in range(len(text)):
-        # 36 makes byte 8, an e, an A: the spelling of source document 003.
-        wrong = text[:i] + bytes([text[i] ^ 36]) + text[i + 1:]
-        print(f"byte {i} waits {waits(wrong, reader)} {reader(wrong)}")
-    short("handshake", room(67), written)
+    text = handshake(70)
+    # 36 makes byte 8, an e, an A: the spelling of source document 003.
+    for i, bits in ((0, 0), *((i, 36) for i in range(len(text)))):
+        wrong = text[:i] + bytes([text[i] ^ bits]) + text[i + 1:]
+        print(f"wrong {i} {bits}: waits {waits(wrong, reader)} {reader(wrong)}")
+    handshake(67)
 
 
-frames()
-# The last frame case's bytes are still in the output.
-long_writers(b"\xff\xff\xff\xff\x07" + count(SPACE)[5:])
-writers()
+# The last frame's bytes are still in the output.
+long_writers(frames())
+short_writers()
 handshakes()

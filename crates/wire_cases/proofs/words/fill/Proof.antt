@@ -1,17 +1,17 @@
--- `wire_cases::build::count` is safe and ends. The measure is what is left of the bytes. Assumes nothing.
+-- `wire_cases::words::fill` is safe and ends. The measure is what is left of the bytes. Assumes nothing.
 use borrow.Author.Needs.{needs}
 use native.Mathlib.Omega.{arith}
 use lib.ListN.{length}
 use mathlib.Core.Path.{_≡_}
 use Prim.Native.Nat.{_≤_, _-_}
-use Rattle.wire_cases.proofs.build.count.Statement.{statement}
-use Rattle.wire_cases.proofs.build.count.Tie as tie
+use Rattle.wire_cases.proofs.words.fill.Statement.{statement}
+use Rattle.wire_cases.proofs.words.fill.Tie as tie
 
 abbrev Inv-loop : tie.InvT-loop
-Inv-loop space₀ i₀ space i = length space ≡ length space₀
+Inv-loop space₀ mask i₀ space i = length space ≡ length space₀
 
 abbrev μ-loop : tie.MeasureT-loop
-μ-loop space₀ i₀ space i = length space₀ - i
+μ-loop space₀ mask i₀ space i = length space₀ - i
 
 loop-holds : tie.Need-loop-holds Inv-loop μ-loop
 loop-holds c = search needs
@@ -37,8 +37,8 @@ same-length c = search needs
 returns : tie.Need-returns Inv-loop μ-loop
 returns c = search needs
 
-pub count-spec : {M : Type 1} → statement M
-count-spec =
+pub fill-spec : {M : Type 1} → statement M
+fill-spec =
     tie.close
     (tie.spec
     Inv-loop

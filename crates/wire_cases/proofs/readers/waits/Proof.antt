@@ -1,17 +1,17 @@
--- `wire_cases::handshakes::waits` is safe and ends. The measure is what is left of the bytes. Assumes nothing.
+-- `wire_cases::readers::waits` is safe and ends. The measure is what is left of the bytes. Assumes nothing.
 use borrow.Author.Needs.{needs}
 use native.Mathlib.Omega.{arith}
 use lib.ListN.{length}
 use mathlib.Core.Path.{_≡_}
 use Prim.Native.Nat.{_≤_, _-_}
-use Rattle.wire_cases.proofs.handshakes.waits.Statement.{statement}
-use Rattle.wire_cases.proofs.handshakes.waits.Tie as tie
+use Rattle.wire_cases.proofs.readers.waits.Statement.{statement}
+use Rattle.wire_cases.proofs.readers.waits.Tie as tie
 
 abbrev Inv-loop : tie.InvT-loop
-Inv-loop bytes count₀ cut₀ count cut = (cut ≤ length bytes) × (count ≤ cut)
+Inv-loop bytes shake count₀ cut₀ count cut = (cut ≤ length bytes) × (count ≤ cut)
 
 abbrev μ-loop : tie.MeasureT-loop
-μ-loop bytes count₀ cut₀ count cut = length bytes - cut
+μ-loop bytes shake count₀ cut₀ count cut = length bytes - cut
 
 loop-holds : tie.Need-loop-holds Inv-loop μ-loop
 loop-holds c = search needs
