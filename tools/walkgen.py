@@ -30,7 +30,6 @@ class Walk:
     # ---- lines
     def line(self, s): self.out.append(s)
     def note(self, s): self.out.append("-- " + s)
-    def ctx_note(self): self.out.append("-- [" + "; ".join(x for x in self.c if not x.startswith("d_")) + "]")
     def bind(self, s): self.out.append(s); self.open += 1
     def move(self, *ns):
         ps = [self.p(n) for n in ns]
