@@ -37,9 +37,9 @@ def ensures(tables, words, written):
     return said
 
 fns = {
-    'telling::code': dict(params=[val('a', 'Answer')], result='u64', ensures=lambda r, v, z: f"{r} ≡ codeOf (paper {v['a']})"),
-    'telling::tell': dict(params=[val('a', 'Answer'), val('was', 'Told')], result='Told', ensures=lambda r, v, z: f"{r} ≡ toldOf (paper {v['a']}) {v['was']}"),
-    'telling::shown': dict(params=[val('a', 'Answer'), val('seen', 'Seat')], result='Seat', ensures=lambda r, v, z: f"{r} ≡ shownOf (paper {v['a']}) {v['seen']}"),
+    'yard_telling::code': dict(params=[val('a', 'Answer')], result='u64', ensures=lambda r, v, z: f"{r} ≡ codeOf (paper {v['a']})"),
+    'yard_telling::tell': dict(params=[val('a', 'Answer'), val('was', 'Told')], result='Told', ensures=lambda r, v, z: f"{r} ≡ toldOf (paper {v['a']}) {v['was']}"),
+    'yard_telling::shown': dict(params=[val('a', 'Answer'), val('seen', 'Seat')], result='Seat', ensures=lambda r, v, z: f"{r} ≡ shownOf (paper {v['a']}) {v['seen']}"),
 }
 TOLD_BY = {'told': 'toldOf', 'seen': 'shownOf'}
 says = {}
@@ -57,12 +57,12 @@ for name, (tables, more, words, told, written) in CALLS.items():
     beside = (['e1 .1'] if written else []) + ([] if changes else ['refl'])
     says[name] = ', '.join([f"({', '.join(parts)})", *beside] if beside else parts)
 SPECS = '''use Rattle.refusal.specs.Paper.{Outcome}
-use Rattle.tables.specs.Tables.{Said, Out, paper, out, yardOf}
-use Rattle.tables.specs.Step as Step
-use Rattle.telling.specs.Telling.{codeOf, toldOf, shownOf}
+use Rattle.yard_tables.specs.Tables.{Said, Out, paper, out, yardOf}
+use Rattle.yard_tables.specs.Step as Step
+use Rattle.yard_telling.specs.Telling.{codeOf, toldOf, shownOf}
 use lib.Seq.{sets}
 '''
-owner = dict.fromkeys(['Head', 'Seat', 'Answer'], 'tables') | {'Told': 'telling'}
+owner = dict.fromkeys(['Head', 'Seat', 'Answer'], 'yard_tables') | {'Told': 'yard_telling'}
 structs = dict.fromkeys(['Head', 'Seat', 'Told'])
 for name in sys.argv[1:] or says:
-    Thin('wardrail_yard', structs, {'Answer'}, fns, SPECS, owner, 'scans').gen(f'wardrail_yard_{name}', says[name])
+    Thin('wardrail_yard', structs, {'Answer'}, fns, SPECS, owner, 'yard_scans').gen(f'wardrail_yard_{name}', says[name])

@@ -8,7 +8,7 @@ HERE = os.path.dirname(os.path.abspath(__file__)); sys.path.insert(0, HERE)
 from walkgen import Walk
 from walker import Thin, tup, par, dash, W_
 
-CRATE, OWNER = 'scans', 'tables'
+CRATE, OWNER = 'yard_scans', 'yard_tables'
 LOOP_USES = '''use mathlib.Core.WellFounded.{WellFounded, InvImage·wf}
 use native.Mathlib.Omega.{arith}
 use Prim.Native.Nat.{zero-le, _≤_, _-_}
@@ -30,9 +30,9 @@ use denote.Memory.{pointee, shares}
 use denote.Slice.{sliceTy, heres, codedHoleys, at-slice}
 use denote.Lend.{Held}
 use denote.Index.{place-is, elem-out, elem-back, elem-put, looks-slice, shuts-slice, opens-slice, closes-slice}
-use Rattle.tables.specs.Seats.{cleared}
-use Rattle.scans.proofs.Seats.{seat-size, within-fits}
-use Rattle.scans.proofs.Steps.{by-test}'''
+use Rattle.yard_tables.specs.Seats.{cleared}
+use Rattle.yard_scans.proofs.Seats.{seat-size, within-fits}
+use Rattle.yard_scans.proofs.Steps.{by-test}'''
 ARITH = '''nearer-less : (i n : ℕ) → i < n → n - (i + 1) < n - i
 nearer-less i n l = omega (arith, l)
 
@@ -62,8 +62,8 @@ class Pass(Thin):
         A(f"-- `{CRATE}::{fn}` meets its contract: a walk of its MIR, by hand, with a loop, written by tools/passes.py. Of `{step}` it knows the contract alone, and no field of a seat is named.\n-- Assumes nothing.")
         A(s.header()); A(LOOP_USES); A(s.uses)
         for t in used: A(s.type_uses(t))
-        for k, c in enumerate(calls): g = 'gk'[k]; A(f"use {s.P(CRATE, c)} as {g}\nuse {s.P(CRATE, c)}.Symbol as {g}-def\nuse {s.P(CRATE, c)}.Symbol.{{name as #{CRATE}·{dash(c)}}}\nuse {s.P(CRATE, c)}.Met as {g}-thm")
-        A(f'use {s.P(CRATE, fn)}.Key.{{name as #{CRATE}·{dash(fn)}}}\nuse {s.P(CRATE, fn)} as f\nuse {s.P(CRATE, fn)}.Statement as stated\nuse {s.P(CRATE, fn)}.Code as code\nuse {s.P(CRATE, fn)}.Code.Mir as Mir\n')
+        for k, c in enumerate(calls): g = 'gk'[k]; A(f"use {s.P(CRATE, c)} as {g}\nuse {s.P(CRATE, c)}.Symbol as {g}-def\nuse {s.P(CRATE, c)}.Symbol.{{name as #{dash(CRATE)}·{dash(c)}}}\nuse {s.P(CRATE, c)}.Met as {g}-thm")
+        A(f'use {s.P(CRATE, fn)}.Key.{{name as #{dash(CRATE)}·{dash(fn)}}}\nuse {s.P(CRATE, fn)} as f\nuse {s.P(CRATE, fn)}.Statement as stated\nuse {s.P(CRATE, fn)}.Code as code\nuse {s.P(CRATE, fn)}.Code.Mir as Mir\n')
         for t in used: A(f'abbrev R-{t} : RattleType\nR-{t} = T-{t}.the-row\n')
         A(f"abbrev SeatsTy : Ty\nSeatsTy = sliceTy (tyRef (named 0) {'mut' if writes else 'imm'} (pointee (R-Seat .written)))\n")
         if page: A(f"abbrev PageTy : Ty\nPageTy = sliceTy (tyRef (named 1) mut (tyInt {W_[page[2]]}))\n\nabbrev LentTy : Ty\nLentTy = tyRef erased mut (tyInt {W_[page[2]]})\n")
@@ -126,7 +126,7 @@ class Pass(Thin):
         A(f"    goes-stp : {''.join(t + ' → ' for _, t in facts)}{isc}Is R-Seat s (L-Seat.lowered s ∷ []) → i < 2 ^ 64 → {req + ' → ' if req else ''}ent 𝓤 (⋆ 𝓤 H A ({items})) ({K} .pre to-stp)\n    goes-stp {FV} {'isc ' if acc else ''}iss gi{' ok' if req else ''} =\n        qed W ({items}) ∵ {'says ! ok $' if req else ''}\n" + e.text(('frame ! $ ' if True else '') + 'done !', '        ') + '\n')
         # ---- the loop
         A(f"  -- ---- the loop\n  abbrev Nearer : {TURN} → {TURN} → Type 0\n  Nearer y x = length ys - y .i < length ys - x .i\n\n  Nearer-wf : WellFounded Nearer\n  Nearer-wf = InvImage·wf (λ (x : {TURN}). length ys - x .i) (Nat·lt-wfRel .wf)\n")
-        kn = f"(known : Triple 𝓤 (𝓣 .C #{CRATE}·{dash(step)}) ({K}))" + (f" (known₁ : Triple 𝓤 (𝓣 .C #{CRATE}·{dash(P['first'])}) (Fst {X}))" if 'first' in P else '')
+        kn = f"(known : Triple 𝓤 (𝓣 .C #{dash(CRATE)}·{dash(step)}) ({K}))" + (f" (known₁ : Triple 𝓤 (𝓣 .C #{dash(CRATE)}·{dash(P['first'])}) (Fst {X}))" if 'first' in P else '')
         A(f"  module _ (𝓣 : Tables 𝓤 H) {kn} (gs : Room R-Seat (length ys)){f' (gp : Room {page[2]} (length cs))' if page else ''} {FT} where\n    abbrev C : Calls 𝓤 H\n    C = 𝓣 .C\n\n    abbrev Λ : Loops 𝓤 H\n    Λ = 𝓣 .Λ\n")
         TY = P['locals']; ls = ' '.join(f'l{k}' for k in range(N))
         hold = {L['i']: 'vint w64 (x .i)', **{k + 1: mach(p) for k, p in enumerate(ps)}}
@@ -237,7 +237,7 @@ class Pass(Thin):
         mvs = ' ∷ '.join(mach(p) for p in ps) + ' ∷ []'
         A(f"    walk : ent 𝓤 (onEntry 𝓤 H A f.signature {ks} {qs} xs at) (WpFn 𝓤 H C Λ code.function ({mvs}) Post)\n    walk =\n        qed W (({' ⊛ '.join([f'‵ (flft κ{j} q{j})' for j in range(n)] + ['‵ ftrue'])}) ∷ ‵ (owns ({' ∷ '.join(s.rowp(p[1], p[2], J.get(p[0]), 'κ%s' % J.get(p[0])) for p in ps)} ∷ []) xs at) ∷ []) ∵ enter ! C Λ code.function ({mvs}) _ $\n{WALK}\n")
         # ---- the contract
-        hyps = [f'Triple 𝓤 (𝓣 .C #{CRATE}·{dash(c)}) ({"Stp" if k == 0 else "Fst"} {X})' for k, c in enumerate(calls)]; kv = ' '.join(['known', 'known₁'][:len(calls)])
+        hyps = [f'Triple 𝓤 (𝓣 .C #{dash(CRATE)}·{dash(c)}) ({"Stp" if k == 0 else "Fst"} {X})' for k, c in enumerate(calls)]; kv = ' '.join(['known', 'known₁'][:len(calls)])
         a_ = lambda k: 'a' + ' .1' * k + ' .0'; kk = lambda v, k: f"({v}{' .1' * k} .0)"
         av = sum([[f'({a_(k)})'] if p[1] == 'val' else [f'({a_(k)} .ptr .0)', f'({a_(k)} .ptr .1)', f'({a_(k)} .name)', f'({a_(k)} .now)'] for k, p in enumerate(ps)], [])
         ar = [f"(are{' .1' * k} .0)" if p[1] == 'val' else f"(are{' .1' * k} .0 .0 .1)" for k, p in enumerate(ps)]
@@ -257,9 +257,9 @@ pub {dash(fn)}-spec : {{M : Type 1}} → stated.statement M
 unfolding code.routine tablesOf
 {dash(fn)}-spec 𝓤 H 𝓜 𝓖 𝓡 =
     entered 𝓤 H (tripleOf 𝓤 H (𝓖 .A) f.signature (f.spec 𝓤 H (𝓖 .A) (𝓜 .mem) (𝓡 .run)))
-    (tables 𝓤 H 𝓜 𝓡 code.env .C) (tables 𝓤 H 𝓜 𝓡 code.env .Λ) #{CRATE}·{dash(fn)} code.function (code.unfolded 𝓤 H 𝓜 𝓡)
+    (tables 𝓤 H 𝓜 𝓡 code.env .C) (tables 𝓤 H 𝓜 𝓡 code.env .Λ) #{dash(CRATE)}·{dash(fn)} code.function (code.unfolded 𝓤 H 𝓜 𝓡)
     (f-meets 𝓤 H (𝓖 .A) (givenOf 𝓤 H 𝓜 𝓖) (𝓜 .mem) (𝓡 .run) (tablesOf 𝓤 H 𝓜 (tables 𝓤 H 𝓜 𝓡 code.env))''')
-        for k, c in enumerate(calls): g = 'gk'[k]; A(f"    (cited 𝓤 H ({'Stp' if k == 0 else 'Fst'} 𝓤 H (𝓖 .A) (𝓜 .mem) (𝓡 .run)) 𝓜 𝓡 code.env #{CRATE}·{dash(c)} {g}-def.routine code.calls-{CRATE}·{dash(c)} ({g}-thm.met 𝓤 H 𝓜 𝓖 𝓡))" + (')' if k == len(calls) - 1 else ''))
+        for k, c in enumerate(calls): g = 'gk'[k]; A(f"    (cited 𝓤 H ({'Stp' if k == 0 else 'Fst'} 𝓤 H (𝓖 .A) (𝓜 .mem) (𝓡 .run)) 𝓜 𝓡 code.env #{dash(CRATE)}·{dash(c)} {g}-def.routine code.calls-{CRATE}·{dash(c)} ({g}-thm.met 𝓤 H 𝓜 𝓖 𝓡))" + (')' if k == len(calls) - 1 else ''))
         d = f'crates/{CRATE}/proofs/{fn}'; os.makedirs(d, exist_ok=True); open(d + '/Proof.antt', 'w').write('\n'.join(o) + '\n')
 
 SEATS, SEATS_MUT = ('seats', 'slice', 'Seat'), ('seats', 'mslice', 'Seat')
@@ -275,7 +275,7 @@ fns = {
 }
 make = lambda uses: Pass(CRATE, {'Seat': None, 'Page': None, 'Asked': None}, set(), fns, uses, owner={'Seat': OWNER, 'Page': OWNER}, kit=CRATE)
 
-make('use mathlib.Core.Bool.{_||_}\nuse mathlib.Core.Bool.{cond}\nuse Rattle.tables.specs.Seating.{lowestFree}\nuse Rattle.scans.proofs.Passes.{freeStep, freeFrom, free-all, free-next, free-end}').gen(dict(
+make('use mathlib.Core.Bool.{_||_}\nuse mathlib.Core.Bool.{cond}\nuse Rattle.yard_tables.specs.Seating.{lowestFree}\nuse Rattle.yard_scans.proofs.Passes.{freeStep, freeFrom, free-all, free-next, free-end}').gen(dict(
     fn='lowest_free', step='free_step', roles=['acc', 'seat', 'i'], acc=(2, 'usize'),
     locals=['tyInt w64', 'SeatsTy', 'tyInt w64', 'tyInt w64', 'tyInt w64', 'tyBool', 'tyPtr', 'L-Seat.mir'], at=dict(i=3, len=4, test=5, place=6, seat=7), tails=('t-3', 't-4'),
     turn=['acc : ℕ', 'is : Is usize acc (vint w64 acc ∷ [])', 'so : freeFrom (dropped i ys) i acc ≡ lowestFree ys'],
@@ -285,7 +285,7 @@ make('use mathlib.Core.Bool.{_||_}\nuse mathlib.Core.Bool.{cond}\nuse Rattle.ta
     before=lambda s, w: w.assign(f"(of-opd ! {w.fld('_1', 1)})", '_2', '(tt, record { fits = gs .0 })'),
     start='acc = length ys; is = (refl, gs .0); so = free-all ys'))
 
-make('use mathlib.Core.Bool.{cond}\nuse mathlib.Core.List.{_++_, map}\nuse lib.ListN.{replicate}\nuse Rattle.scans.proofs.Passes.{clearBy, clear-next, clear-end}').gen(dict(
+make('use mathlib.Core.Bool.{cond}\nuse mathlib.Core.List.{_++_, map}\nuse lib.ListN.{replicate}\nuse Rattle.yard_scans.proofs.Passes.{clearBy, clear-next, clear-end}').gen(dict(
     fn='clear_seats', step='clear_step', roles=['on', 'seat'],
     locals=['tyUnit', 'SeatsTy', 'tyBool', 'tyInt w64', 'tyInt w64', 'tyBool', 'L-Seat.mir', 'tyPtr', 'L-Seat.mir', 'tyInt w64', 'tyPtr'],
     at=dict(i=3, len=4, test=5, new=6, place=7, seat=8, len2=9, place2=10), tails=('t-2', 't-3'),
@@ -317,10 +317,10 @@ def from_empty(s, w):
 WHOLE = 'pageOf (asked .pieces) (asked .first) (asked .lines) ys'; LINES = 'sets cs 0 (asLines (linesOf (asked .pieces) (asked .first) (asked .lines) ys))'
 STEPPED = 'asked (x .acc) elem (x .i)'
 make('''use lib.Seq.{sets}
-use Rattle.tables.specs.Looks.{pageOf, linesOf}
-use Rattle.scans.specs.Pages.{emptyPage, pageStep, lineStep, asLines}
-use Rattle.scans.proofs.Steps.{step-bounds}
-use Rattle.scans.proofs.Passes.{Listing, listing, listFrom, list-all, list-next, list-end}''').gen(dict(
+use Rattle.yard_tables.specs.Looks.{pageOf, linesOf}
+use Rattle.yard_scans.specs.Pages.{emptyPage, pageStep, lineStep, asLines}
+use Rattle.yard_scans.proofs.Steps.{step-bounds}
+use Rattle.yard_scans.proofs.Passes.{Listing, listing, listFrom, list-all, list-next, list-end}''').gen(dict(
     fn='list_missing', step='list_step', first='empty_page', roles=['asked', 'acc', 'seat', 'i', 'page'], acc=(4, 'Page'), page=PAGE,
     locals=['L-Page.mir', 'SeatsTy', 'PageTy', 'L-Asked.mir', 'L-Page.mir', 'tyInt w64', 'tyInt w64', 'tyInt w64', 'tyBool', 'tyPtr', 'L-Seat.mir', 'LentTy', 'sliceTy LentTy'],
     at=dict(i=5, len=7, test=8, place=9, seat=10, lent=11, sent=12), tails=('t-4', 't-5'),

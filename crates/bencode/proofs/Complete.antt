@@ -1,19 +1,19 @@
 -- A value that is written so and keeps the rules is taken. Assumes nothing.
-use mathlib.Core.Path.{_≡_, refl, sym, ap, _∙_}
-use mathlib.Core.Bool.{Bool, true, false, cond}
+use mathlib.Core.Path.{_≡_, refl, ap, _∙_}
+use mathlib.Core.Bool.{true, false}
 use mathlib.Core.List.{List, [], _∷_, _++_, append-assoc}
 use Prim.Native.Nat.{ℕ, zero, suc, _+_, _<_, _≤_}
 use native.Mathlib.Omega.{arith}
 use lib.Dec.{ltb, eqb}
 use lib.IntN.{ℤ}
-use lib.ListN.{length, drop, length-append}
+use lib.ListN.{length, length-append}
 use borrow.Author.Tests.{lt-ltb, ne-eqb}
-use Rattle.scalar.specs.Written.{writtenString, signed, writtenInt, inRange}
-use Rattle.scalar.specs.Reading.{Got, got, bad, mapGot, onHead, isDigit, stringOf, integerOf}
-use Rattle.scalar.proofs.Decimal.{digit-range}
-use Rattle.scalar.proofs.Complete.{numeral, Key, string-complete, int-complete}
+use Rattle.bencode_scalar.specs.Written.{writtenString, signed}
+use Rattle.bencode_scalar.specs.Reading.{Got, got, mapGot, isDigit, stringOf, integerOf}
+use Rattle.bencode_scalar.proofs.Decimal.{digit-range}
+use Rattle.bencode_scalar.proofs.Complete.{numeral, Key, string-complete, int-complete}
 use Rattle.bencode.specs.Value.{Value, Items, Entries, str, int, list, dict, none, item, empty, entry, encode, encodeItems, encodeEntries, count, countItems, countEntries, Keeps, KeepsItems, KeepsEntries, Prev, start, last, follows}
-use Rattle.bencode.specs.Decode.{Kind, digit, letterI, letterL, letterD, other, kindOf, begin, ranged, valueBy, closes, itemsOf, keyOf, entriesOf, valueFrom}
+use Rattle.bencode.specs.Decode.{digit, kindOf, ranged, closes, itemsOf, keyOf, entriesOf, valueFrom}
 
 -- the value at a byte
 module _ (e : ℕ) (t : List ℕ) (p n : ℕ) (few : n < 16384) where

@@ -11,8 +11,8 @@ use borrow.Author.Tests.{lt-ltb, le-ltb, ltb-false}
 use Rattle.refusal.specs.Paper.{Outcome, taken, refused, map}
 use Rattle.refusal.specs.Numbers.{after, long}
 use Rattle.refusal.specs.declared.Refusal.{Refusal}
-use Rattle.scalar.specs.Reading.{Got, got, bad}
-use Rattle.scalar.proofs.Sound.{Holds}
+use Rattle.bencode_scalar.specs.Reading.{Got, got, bad}
+use Rattle.bencode_scalar.proofs.Sound.{Holds}
 use Rattle.bencode.specs.Value.{Value, encode, count, Keeps}
 use Rattle.bencode.specs.Decode.{valueFrom, wholeOf, decode}
 use Rattle.bencode.specs.Answers.{paper, checkOf, stepOf}

@@ -1,7 +1,7 @@
 -- A value that is taken was written so, is counted, and keeps the rules. Assumes nothing.
-use mathlib.Core.Path.{_≡_, refl, sym, ap, _∙_, subst}
+use mathlib.Core.Path.{_≡_, refl, sym, ap, subst}
 use mathlib.Core.Bool.{Bool, true, false, false≢true, cond}
-use mathlib.Core.List.{List, [], _∷_, _++_}
+use mathlib.Core.List.{List, [], _∷_}
 use Prim.Native.Nat.{ℕ, zero, suc, _+_, _<_, _≤_}
 use native.Mathlib.Omega.{arith}
 use lib.Dec.{ltb, eqb}
@@ -10,10 +10,10 @@ use lib.ListN.{length, drop}
 use borrow.Author.Tests.{ltb-true, eqb-true}
 use Rattle.refusal.specs.Numbers.{byte, order, integer, many}
 use Rattle.refusal.proofs.Cases.{by-test}
-use Rattle.scalar.specs.Written.{writtenString, writtenInt, inRange}
-use Rattle.scalar.specs.Reading.{Got, got, bad, andThen, mapGot, onHead, isDigit, stringOf, integerOf}
-use Rattle.scalar.proofs.Sound.{Holds, holds-map, holds-then, holds-cond, At, at-then, at-byte, at-left, TextP, string-sound, IntP, int-sound}
-use Rattle.bencode.specs.Value.{Value, Items, Entries, str, int, list, dict, none, item, empty, entry, encode, encodeItems, encodeEntries, count, countItems, countEntries, Keeps, KeepsItems, KeepsEntries, Prev, start, last, follows}
+use Rattle.bencode_scalar.specs.Written.{inRange}
+use Rattle.bencode_scalar.specs.Reading.{Got, got, bad, isDigit, stringOf, integerOf}
+use Rattle.bencode_scalar.proofs.Sound.{Holds, holds-map, holds-then, holds-cond, At, at-then, at-byte, at-left, TextP, string-sound, IntP, int-sound}
+use Rattle.bencode.specs.Value.{Value, Items, Entries, str, int, list, dict, item, entry, encode, encodeItems, encodeEntries, count, countItems, countEntries, Keeps, KeepsItems, KeepsEntries, Prev, start, last, follows}
 use Rattle.bencode.specs.Decode.{Kind, digit, letterI, letterL, letterD, other, kindOf, begin, ranged, valueBy, closes, itemsBy, itemsOf, ordered, keyOf, entriesBy, entriesOf, valueFrom}
 
 holds-begin : {A : Type 0} (P : A → List ℕ → ℕ → ℕ → Type 0) (n p : ℕ) (g : Got A) → (n < 16384 → Holds P g) → Holds P (begin n p g)

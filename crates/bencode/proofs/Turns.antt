@@ -1,30 +1,28 @@
 -- What the value at a place p of a text s, and the turns of a list and of a dictionary, come to as the code goes through them. Assumes nothing.
 use mathlib.Core.Path.{_≡_, refl, sym, ap, _∙_, subst}
 use mathlib.Core.Bool.{Bool, true, false, cond}
-use mathlib.Core.List.{List, [], _∷_, _++_}
+use mathlib.Core.List.{List, _∷_}
 use Prim.Native.Nat.{ℕ, zero, suc, _+_, _-_, _<_, _≤_}
 use native.Mathlib.Omega.{arith}
 use lib.Dec.{ltb, eqb}
 use lib.IntN.{ℤ}
 use lib.ListN.{length, getD, take, drop, length-append, length-drop, drop-of-length-le}
 use lib.Seq.{drop-drop, drop-append-seam}
-use borrow.Author.Tests.{lt-ltb, le-ltb, ne-eqb, eq-eqb, eqb-true, eqb-false}
+use borrow.Author.Tests.{lt-ltb, le-ltb, ne-eqb, eqb-true, eqb-false}
 use Rattle.refusal.specs.Numbers.{cut, byte, order, integer, deep, many}
 use Rattle.refusal.specs.declared.Refusal.{Refusal}
 use Rattle.refusal.proofs.Cases.{no-way}
-use Rattle.scalar.specs.Written.{decimal, writtenString, inRange}
-use Rattle.scalar.specs.Reading.{Got, got, bad, andThen, mapGot, onHead, isDigit, stringOf, stringAt, integerOf, integerAt}
-use Rattle.scalar.specs.Answers.{textOf, integerIs}
-use Rattle.scalar.specs.declared.Text.{Text}
-use Rattle.scalar.specs.declared.Text.the-variants.{Whole, Broken}
-use Rattle.scalar.specs.declared.Int.{Int}
-use Rattle.scalar.specs.declared.Int.the-variants.{Is, Large, Unread}
-use Rattle.scalar.proofs.Decimal.{digit-range}
-use Rattle.scalar.proofs.Forms.{at-head, at-byte}
-use Rattle.scalar.proofs.Sound.{Holds, At as Stood, at-left, IntP, integer-at-sound}
+use Rattle.bencode_scalar.specs.Written.{decimal, writtenString, inRange}
+use Rattle.bencode_scalar.specs.Reading.{Got, got, bad, andThen, mapGot, isDigit, stringOf, stringAt, integerOf, integerAt}
+use Rattle.bencode_scalar.specs.Answers.{textOf, integerIs}
+use Rattle.bencode_scalar.specs.declared.Text.the-variants.{Whole, Broken}
+use Rattle.bencode_scalar.specs.declared.Int.{Int}
+use Rattle.bencode_scalar.specs.declared.Int.the-variants.{Is, Large, Unread}
+use Rattle.bencode_scalar.proofs.Forms.{at-head, at-byte}
+use Rattle.bencode_scalar.proofs.Sound.{Holds, At as Stood, at-left, IntP, integer-at-sound}
 use Rattle.bencode.specs.Value.{Value, Items, Entries, str, int, list, dict, item, entry, count, Prev, start, last, follows}
-use Rattle.bencode.specs.Decode.{Kind, digit, letterI, letterL, letterD, other, kindOf, begun, begin, ranged, valueBy, closes, itemsBy, itemsOf, ordered, keyOf, entriesBy, entriesOf, valueFrom}
-use Rattle.bencode.specs.Answers.{stepOf, prevIs, prevOf, keyIs}
+use Rattle.bencode.specs.Decode.{Kind, digit, letterI, letterL, letterD, other, kindOf, begun, ranged, valueBy, closes, itemsOf, ordered, keyOf, entriesOf, valueFrom}
+use Rattle.bencode.specs.Answers.{stepOf, prevOf, keyIs}
 use Rattle.bencode.specs.declared.Cursor.{Cursor}
 use Rattle.bencode.specs.declared.Key.{Key}
 use Rattle.bencode.specs.declared.Found.{Found}

@@ -4,8 +4,8 @@ use mathlib.Core.Bool.{Bool, true, false}
 use mathlib.Core.List.{List}
 use Prim.Native.Nat.{ℕ, _+_}
 use lib.ListN.{take, drop}
-use Rattle.refusal.specs.Paper.{Outcome, taken, refused, refusal, map}
-use Rattle.scalar.specs.Reading.{Got, got, bad}
+use Rattle.refusal.specs.Paper.{Outcome, taken, refusal, map}
+use Rattle.bencode_scalar.specs.Reading.{Got, got, bad}
 use Rattle.bencode.specs.Value.{Prev, start, last, count}
 use Rattle.bencode.specs.Decode.{decode}
 use Rattle.bencode.specs.declared.Step.{Step}

@@ -9,8 +9,8 @@ use lib.ListN.{length, drop}
 use Rattle.refusal.specs.Paper.{Outcome, taken, refused}
 use Rattle.refusal.specs.Numbers.{cut, byte, order, integer, deep, many, after, long}
 use Rattle.refusal.specs.Limits.{mostText, mostValues, mostLevels}
-use Rattle.scalar.specs.Written.{inRange}
-use Rattle.scalar.specs.Reading.{Got, got, bad, andThen, mapGot, onHead, isDigit, stringOf, integerOf}
+use Rattle.bencode_scalar.specs.Written.{inRange}
+use Rattle.bencode_scalar.specs.Reading.{Got, got, bad, andThen, mapGot, onHead, isDigit, stringOf, integerOf}
 use Rattle.bencode.specs.Value.{Value, Items, Entries, str, int, list, dict, none, item, empty, entry, Prev, start, last, follows}
 
 -- what a value's first byte says it is, and whether one can begin so

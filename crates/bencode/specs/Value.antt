@@ -4,7 +4,7 @@ use mathlib.Core.Bool.{Bool, true}
 use mathlib.Core.List.{List, [], _∷_, _++_}
 use Prim.Native.Nat.{ℕ, suc, _+_}
 use lib.IntN.{ℤ}
-use Rattle.scalar.specs.Written.{writtenString, writtenInt, inRange, keyLt}
+use Rattle.bencode_scalar.specs.Written.{writtenString, writtenInt, inRange, keyLt}
 
 mutual
   pub data Value : Type 0 where

@@ -1,17 +1,17 @@
 // Bencode read by BEP 3 and document 01: whether a text is the encoding of a value that keeps the limits.
 ghost use mathlib.Core.Path.{_≡_};
-ghost use Prim.Native.Nat.{ℕ, suc, _+_, _≤_};
+ghost use Prim.Native.Nat.{suc, _+_, _≤_};
 ghost use lib.ListN.{length, take, drop};
 ghost use Rattle.bencode.specs.Value.{start, follows};
 ghost use Rattle.bencode.specs.Decode.{kindOf, begun, ranged, keyOf, itemsOf, entriesOf, valueFrom};
-ghost use Rattle.scalar.specs.Reading.{stringAt, integerAt};
+ghost use Rattle.bencode_scalar.specs.Reading.{stringAt, integerAt};
 ghost use Rattle.bencode.specs.Answers.{paper, checkOf, stepOf, prevOf, keyIs};
 ghost use Rattle.bencode.specs.Exact.{Exactly};
+use bencode_scalar::Int;
+use bencode_scalar::Text;
 use refusal::Refusal;
 use refusal::limit;
 use refusal::number;
-use scalar::Int;
-use scalar::Text;
 
 // What `check` answers: how many values the text has, each key counted, or why and where it is refused.
 pub enum Checked {
@@ -68,7 +68,7 @@ pub fn value(text: &[u8], c: Cursor, levels: usize) -> Step
         if b == b'i' {
             return integer(text, at, count + 1);
         }
-        if scalar::digit(b) {
+        if bencode_scalar::digit(b) {
             return string(text, at, count + 1);
         }
         if levels == 0 {
@@ -168,11 +168,11 @@ fn next_key(text: &[u8], at: usize, count: usize, before: Key) -> Found
     if text.len() <= at {
         return not(number::CUT, text.len());
     }
-    if scalar::digit(text[at]) {
+    if bencode_scalar::digit(text[at]) {
         if limit::VALUES <= count {
             return not(number::MANY, at);
         }
-        match scalar::string(text, at) {
+        match bencode_scalar::string(text, at) {
             Text::Whole(from, size) => {
                 if may_follow(text, before, from, size) {
                     return Found::At(from, size);
@@ -194,7 +194,7 @@ fn may_follow(text: &[u8], before: Key, from: usize, size: usize) -> bool
         let a = before.from;
         let b = a + before.size;
         let end = from + size;
-        return scalar::precedes(&text[a..b], &text[from..end]);
+        return bencode_scalar::precedes(&text[a..b], &text[from..end]);
     }
     true
 }
@@ -203,7 +203,7 @@ fn may_follow(text: &[u8], before: Key, from: usize, size: usize) -> bool
 fn integer(text: &[u8], at: usize, count: usize) -> Step
     ensures { λ r. ⌜ r ≡ stepOf (ranged at (integerAt (length (now (text .entry))) (drop at (now (text .entry))) at count)) ⌝ }
 {
-    match scalar::integer(text, at) {
+    match bencode_scalar::integer(text, at) {
         Int::Is(_, next) => passed(next, count),
         Int::Large(_) => bad(number::INTEGER, at),
         Int::Unread(r) => Step::Bad(r),
@@ -215,7 +215,7 @@ fn string(text: &[u8], at: usize, count: usize) -> Step
     requires { ⌜ at ≤ length (now text) ⌝ }
     ensures { λ r. ⌜ r ≡ stepOf (stringAt (length (now (text .entry))) (drop at (now (text .entry))) at count) ⌝ }
 {
-    match scalar::string(text, at) {
+    match bencode_scalar::string(text, at) {
         Text::Whole(from, size) => passed(from + size, count),
         Text::Broken(r) => Step::Bad(r),
     }
@@ -244,7 +244,7 @@ fn begins(b: u8) -> bool
     if b == b'd' {
         return true;
     }
-    scalar::digit(b)
+    bencode_scalar::digit(b)
 }
 
 fn refused(number: u8, place: usize) -> Checked

@@ -1,4 +1,4 @@
-// What `blocks` answers to each line of a table, the file stdin, held to the file stdout. A line is one of
+// What `torrent_blocks` answers to each line of a table, the file stdin, held to the file stdout. A line is one of
 //   block PIECE-LENGTH LENGTHS PIECE OFFSET COUNT ROOM
 //   byte PIECE-LENGTH LENGTHS FILE OFFSET
 //   size PIECE-LENGTH LENGTHS PIECE

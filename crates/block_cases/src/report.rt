@@ -1,10 +1,10 @@
-// What `blocks` answers.
-use blocks::Parts;
-use blocks::PieceNumber;
-use blocks::PieceOffset;
-use blocks::Place;
-use blocks::Size;
+// What `torrent_blocks` answers.
 use libc::STDOUT_FILENO;
+use torrent_blocks::Parts;
+use torrent_blocks::PieceNumber;
+use torrent_blocks::PieceOffset;
+use torrent_blocks::Place;
+use torrent_blocks::Size;
 
 // What the lent output holds before each call.
 const MARK: u64 = 77;
@@ -25,7 +25,7 @@ pub fn block(lengths: &[u64], piece_length: u64, piece: u32, offset: u32, count:
 
 // A byte of a file.
 pub fn byte(lengths: &[u64], piece_length: u64, file: usize, offset: u64) {
-    match blocks::byte(lengths, piece_length, file, offset) {
+    match torrent_blocks::byte(lengths, piece_length, file, offset) {
         Place::At(piece, place) => spot(piece, place),
         Place::Nowhere(r) => refused(r.number, r.place),
     }
@@ -33,7 +33,7 @@ pub fn byte(lengths: &[u64], piece_length: u64, file: usize, offset: u64) {
 
 // The length of a piece.
 pub fn size(lengths: &[u64], piece_length: u64, piece: u32) {
-    match blocks::piece_size(lengths, piece_length, PieceNumber(piece)) {
+    match torrent_blocks::piece_size(lengths, piece_length, PieceNumber(piece)) {
         Size::Bytes(n) => word(n),
         Size::Unknown(r) => refused(r.number, r.place),
     }
@@ -51,7 +51,7 @@ fn answer(
     if space.len() < room {
         return;
     }
-    let found = blocks::block(
+    let found = torrent_blocks::block(
         lengths,
         piece_length,
         piece,

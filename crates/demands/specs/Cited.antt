@@ -11,29 +11,29 @@ use lib.Seq.{sets}
 use Rattle.refusal.specs.Paper.{Outcome, taken, refused}
 use Rattle.refusal.specs.Parts.{bytesAt}
 use Rattle.refusal.proofs.Cases.{by-test}
-use Rattle.sha1.specs.Digest.{Left, left}
-use Rattle.sha1.specs.Digest.{paper as hashPaper}
-use Rattle.sha1.specs.declared.Hashed.{Hashed}
-use Rattle.sha1.specs.declared.Hashed.the-variants as hashed
-use Rattle.sha1.proofs.Determined.{digest-refusal-keeps}
-use Rattle.metainfo.specs.Hashes.{hashedIn}
-use Rattle.metainfo.specs.declared.Torrent.{Torrent}
-use Rattle.tables.specs.Seats.{cleared, weChoke, weWant}
-use Rattle.tables.specs.Tables.{Yard, Said, wait, done, used, serve, dropped, seated, wrote, listed, shows, holds, heldBy, scarce, paper, Around, Turn, turn, around, sizesFit, Out, yardOf}
-use Rattle.tables.specs.Seating.{startOf, markOf}
-use Rattle.tables.specs.Looks.{missingOf}
-use Rattle.tables.specs.Step.{Call, step, ifTaken, writes, written}
-use Rattle.tables.specs.declared.Head.{Head}
-use Rattle.tables.specs.declared.Seat.{Seat}
-use Rattle.tables.specs.declared.Stepped.{Stepped}
-use Rattle.tables.proofs.Keeping.{Keeps, step-keeps}
-use Rattle.tables.proofs.Keeping.{Unused as Unspoken}
-use Rattle.seating.specs.Steps.{begun}
-use Rattle.seating.specs.declared.Begun.{Begun}
-use Rattle.rows.specs.Said.{numberOf}
-use Rattle.telling.specs.Telling.{codeOf, toldOf, shownOf}
-use Rattle.telling.specs.declared.Told.{Told}
-use Rattle.telling.proofs.Laws.{unused, told-kept as untold, shown-kept as unshown}
+use Rattle.hash_sha1.specs.Digest.{Left, left}
+use Rattle.hash_sha1.specs.Digest.{paper as hashPaper}
+use Rattle.hash_sha1.specs.declared.Hashed.{Hashed}
+use Rattle.hash_sha1.specs.declared.Hashed.the-variants as hashed
+use Rattle.hash_sha1.proofs.Determined.{digest-refusal-keeps}
+use Rattle.torrent_metainfo.specs.Hashes.{hashedIn}
+use Rattle.torrent_metainfo.specs.declared.Torrent.{Torrent}
+use Rattle.yard_tables.specs.Seats.{cleared, weChoke, weWant}
+use Rattle.yard_tables.specs.Tables.{Yard, Said, wait, done, used, serve, dropped, seated, wrote, listed, shows, holds, heldBy, scarce, paper, Around, Turn, turn, around, sizesFit, Out, yardOf}
+use Rattle.yard_tables.specs.Seating.{startOf, markOf}
+use Rattle.yard_tables.specs.Looks.{missingOf}
+use Rattle.yard_tables.specs.Step.{Call, step, ifTaken, writes, written}
+use Rattle.yard_tables.specs.declared.Head.{Head}
+use Rattle.yard_tables.specs.declared.Seat.{Seat}
+use Rattle.yard_tables.specs.declared.Stepped.{Stepped}
+use Rattle.yard_tables.proofs.Keeping.{Keeps, step-keeps}
+use Rattle.yard_tables.proofs.Keeping.{Unused as Unspoken}
+use Rattle.yard_seating.specs.Steps.{begun}
+use Rattle.yard_seating.specs.declared.Begun.{Begun}
+use Rattle.wardrail_rows.specs.Said.{numberOf}
+use Rattle.yard_telling.specs.Telling.{codeOf, toldOf, shownOf}
+use Rattle.yard_telling.specs.declared.Told.{Told}
+use Rattle.yard_telling.proofs.Laws.{unused, told-kept as untold, shown-kept as unshown}
 use Rattle.demands.specs.One.{Ref, now, Refused, Unused}
 pub mod Numbers
 pub mod Only

@@ -7,7 +7,7 @@ use mathlib.Core.Path.{_≡_}
 use mathlib.Core.Logic.{_⊎_}
 use Prim.Native.Nat.{ℕ}
 use Rattle.refusal.specs.Paper.{Outcome, taken, refused}
-use Rattle.tables.specs.Tables.{Said, wait}
+use Rattle.yard_tables.specs.Tables.{Said, wait}
 pub mod Refusal
 pub mod Scalar
 pub mod Writer

@@ -10,35 +10,35 @@ use lib.ListN.{getD, replicate}
 use Rattle.refusal.specs.BigEndian.{bigEndian}
 use Rattle.refusal.specs.BigEndian.{bytesOf as numberBytes}
 use Rattle.refusal.specs.Paper.{Outcome, taken, refused}
-use Rattle.scalar.specs.Written.{keyLt, decimalIn}
-use Rattle.scalar.specs.Reading.{digitsVal, digitsLen, stringOf, closedOf, integerOf}
+use Rattle.bencode_scalar.specs.Written.{keyLt, decimalIn}
+use Rattle.bencode_scalar.specs.Reading.{digitsVal, digitsLen, stringOf, closedOf, integerOf}
 use Rattle.bencode.specs.Value.{encode}
 use Rattle.bencode.specs.Value.{count as countIn}
 use Rattle.bencode.specs.Decode.{decode, kindOf, keyOf, itemsOf, entriesOf, valueFrom}
 use Rattle.bencode.specs.Answers.{checkOf}
-use Rattle.walk.specs.Lookup.{lookup, sameKey}
-use Rattle.blocks.specs.Rules.{powerFrom, sum, fileLengths, lawful}
-use Rattle.blocks.specs.Spans.{Span, FilePart, part, joinedFiles, joinedFrom, lengths, endFrom, partsFrom}
-use Rattle.blocks.specs.Spans.{sizes as sizesIn}
-use Rattle.blocks.specs.Answers.{Spot, spot, blockOf, byteOf}
-use Rattle.wire.specs.Message.{Message, have, bitfield}
-use Rattle.wire.specs.Message.{encode as frameOf}
-use Rattle.wire.specs.Frames.{least, most, sizedOf, readOf}
-use Rattle.wire.specs.Frames.{messageOf as messageBy}
-use Rattle.metainfo.specs.Rules.{clean, goodName, elementsOf, fileOf, lengthsOf, infoOf, topOf, torrentOf}
-use Rattle.metainfo.specs.Rules.{sizedOf as torrentSized}
-use Rattle.lines.specs.Lines.{elementsIn, filesIn, escaped, fileLines, listingOf}
-use Rattle.lines.specs.Lines.{slashed}
-use Rattle.tables.specs.Counting.{eachFrom}
-use Rattle.tables.specs.Rows.{orBytes}
-use Rattle.tables.specs.Seats.{cleared}
-use Rattle.tables.specs.Tables.{Yard, Said, done, used, seated, Out, sizesFit}
-use Rattle.tables.specs.Frames.{overTop, announced, haveOf, bitfieldOf, messageOf, feedOf}
-use Rattle.tables.specs.Seating.{startOf, lowestFree, seatedAt, sitOf, atZero, left, leaveOf}
-use Rattle.tables.specs.Step.{Call, start, sit, leave, feed, step}
-use Rattle.history.specs.History.{History, entry, event, sizesWith}
-use Rattle.history.specs.Says.{holders, completeSeats, lowestWithout}
-use Rattle.history.specs.Expected.{answer}
+use Rattle.bencode_walk.specs.Lookup.{lookup, sameKey}
+use Rattle.torrent_blocks.specs.Rules.{powerFrom, sum, fileLengths, lawful}
+use Rattle.torrent_blocks.specs.Spans.{Span, FilePart, part, joinedFiles, joinedFrom, lengths, endFrom, partsFrom}
+use Rattle.torrent_blocks.specs.Spans.{sizes as sizesIn}
+use Rattle.torrent_blocks.specs.Answers.{Spot, spot, blockOf, byteOf}
+use Rattle.peer_wire.specs.Message.{Message, have, bitfield}
+use Rattle.peer_wire.specs.Message.{encode as frameOf}
+use Rattle.peer_wire.specs.Frames.{least, most, sizedOf, readOf}
+use Rattle.peer_wire.specs.Frames.{messageOf as messageBy}
+use Rattle.torrent_metainfo.specs.Rules.{clean, goodName, elementsOf, fileOf, lengthsOf, infoOf, topOf, torrentOf}
+use Rattle.torrent_metainfo.specs.Rules.{sizedOf as torrentSized}
+use Rattle.torrent_lines.specs.Lines.{elementsIn, filesIn, escaped, fileLines, listingOf}
+use Rattle.torrent_lines.specs.Lines.{slashed}
+use Rattle.yard_tables.specs.Counting.{eachFrom}
+use Rattle.yard_tables.specs.Rows.{orBytes}
+use Rattle.yard_tables.specs.Seats.{cleared}
+use Rattle.yard_tables.specs.Tables.{Yard, Said, done, used, seated, Out, sizesFit}
+use Rattle.yard_tables.specs.Frames.{overTop, announced, haveOf, bitfieldOf, messageOf, feedOf}
+use Rattle.yard_tables.specs.Seating.{startOf, lowestFree, seatedAt, sitOf, atZero, left, leaveOf}
+use Rattle.yard_tables.specs.Step.{Call, start, sit, leave, feed, step}
+use Rattle.yard_laws.specs.History.{History, entry, event, sizesWith}
+use Rattle.yard_laws.specs.Says.{holders, completeSeats, lowestWithout}
+use Rattle.yard_laws.specs.Expected.{answer}
 
 -- ---- what a row is
 

@@ -1,34 +1,33 @@
 -- DEMAND 3: after any sequence of calls, the yard's counts are what the history of calls says. Assumes nothing.
 -- Nothing is asked of what stands in the tables that are lent first: the first call of a run is a start that is accepted, and from there on the tables are handed
 -- from call to call as each leaves them. A history holds the calls with their answers, the newest first; `seated`, `announced`, `fresh` and the four marks are
--- recursions on it that look at no table (history/specs/History.antt).
-use mathlib.Core.Path.{_≡_, refl, sym, ap, ap₂, _∙_, subst}
+-- recursions on it that look at no table (yard_laws/specs/History.antt).
+use mathlib.Core.Path.{_≡_, sym, ap, ap₂, _∙_, subst}
 use mathlib.Core.Logic.{_↔_}
 use mathlib.Core.Bool.{true, false, not, _&&_}
-use mathlib.Core.List.{List, [], _∷_, _++_}
+use mathlib.Core.List.{List, _++_}
 use mathlib.Core.List.{List·Memᴰ as In}
 use Prim.Native.Nat.{ℕ, _*_, _≤_, _<_, min}
 use lib.Dec.{eqb}
 use lib.ListN.{length, getD, take, drop}
 use lib.Seq.{sets}
-use Rattle.refusal.specs.Paper.{Outcome, taken, refused}
-use Rattle.tables.specs.Counting.{count, Least}
-use Rattle.tables.specs.Rows.{width, hasIn}
-use Rattle.tables.specs.Seats.{cleared}
-use Rattle.tables.specs.Looks.{firstOr}
-use Rattle.tables.specs.Tables.{Yard, Said, wait, done, serve, dropped, listed, scarce, Out, paper}
-use Rattle.tables.specs.Tables.{seated as givesSeat}
-use Rattle.tables.specs.Step.{Call, start, sit, missing, scarcest, look, has, step, written}
-use Rattle.tables.specs.Step.{count as countCall}
-use Rattle.tables.specs.declared.Answer.{Answer}
-use Rattle.tables.specs.declared.Page.{Page}
-use Rattle.history.specs.History.{History, entry, seated, announced, fresh, weAreChoking, weAreInterested, theyAreChoking, theyAreInterested, pieces, sizesSet}
-use Rattle.history.specs.Says.{Ascending, recordOf, holders, Lowest}
-use Rattle.history.specs.Expected.{answer, output}
-use Rattle.history.specs.Causes.{Cause, WaitCause, Serves, Drops}
-use Rattle.history.specs.Run.{State, SizesFit, after}
-use Rattle.history.proofs.Theorem as theorem
-use Rattle.history.proofs.Demand as demand
+use Rattle.refusal.specs.Paper.{taken, refused}
+use Rattle.yard_tables.specs.Counting.{count, Least}
+use Rattle.yard_tables.specs.Rows.{width, hasIn}
+use Rattle.yard_tables.specs.Seats.{cleared}
+use Rattle.yard_tables.specs.Looks.{firstOr}
+use Rattle.yard_tables.specs.Tables.{Yard, Said, wait, done, serve, dropped, listed, scarce, paper}
+use Rattle.yard_tables.specs.Tables.{seated as givesSeat}
+use Rattle.yard_tables.specs.Step.{Call, start, sit, missing, scarcest, step, written}
+use Rattle.yard_tables.specs.declared.Answer.{Answer}
+use Rattle.yard_tables.specs.declared.Page.{Page}
+use Rattle.yard_laws.specs.History.{History, seated, announced, fresh, weAreChoking, weAreInterested, theyAreChoking, theyAreInterested, pieces, sizesSet}
+use Rattle.yard_laws.specs.Says.{Ascending, recordOf, holders, Lowest}
+use Rattle.yard_laws.specs.Expected.{answer, output}
+use Rattle.yard_laws.specs.Causes.{Cause, WaitCause, Serves, Drops}
+use Rattle.yard_laws.specs.Run.{State, SizesFit, after}
+use Rattle.yard_laws.proofs.Theorem as theorem
+use Rattle.yard_laws.proofs.Demand as demand
 use Rattle.demands.specs.Three.Program.{Made, made-run}
 use Rattle.demands.specs.Three.Paging.{page-total, page-listed}
 use Rattle.demands.specs.Three.Loaded.{nobody-lacks}

@@ -5,7 +5,7 @@ use mathlib.Core.Path.{_≡_, refl, sym, ap, _∙_, subst}
 use mathlib.Core.Logic.{_⊎_, _↔_, inl, inr}
 use mathlib.Core.Bool.{true, false, cond}
 use mathlib.Core.List.{List, [], _∷_, _++_}
-use Prim.Native.Nat.{ℕ, _+_, _-_, _*_, _%_, _≤_, _<_, min}
+use Prim.Native.Nat.{ℕ, _+_, _-_, _*_, _≤_, _<_, min}
 use native.Mathlib.Omega.{arith}
 use lib.IntN.{pos}
 use lib.ListN.{length, getD, take, drop, take-append-drop}
@@ -20,59 +20,59 @@ use Rattle.bencode.specs.Exact.{Fine}
 use Rattle.bencode.specs.Answers.{paper as countPaper, checkOf}
 use Rattle.bencode.specs.declared.Checked.{Checked}
 use Rattle.bencode.proofs.Exact.{exactly, fine-taken}
-use Rattle.walk.specs.Has.{Has}
-use Rattle.walk.specs.Lookup.{under, lookup}
-use Rattle.fields.specs.Values.{dictionaryAt}
-use Rattle.writer.specs.Put.{Left, left, putOf}
-use Rattle.writer.specs.Put.{paper as putPaper}
-use Rattle.writer.specs.declared.Put.{Put}
-use Rattle.sha1.specs.Sha1.{sha1}
-use Rattle.sha1.specs.Digest.{paper as hashPaper, left as hashing, Left as Hashing}
-use Rattle.sha1.specs.declared.Hashed.{Hashed}
-use Rattle.blocks.specs.Rules.{sum, Lawful, piecesOf}
-use Rattle.blocks.specs.Spans.{FilePart, part, joinedFiles, partsOf}
-use Rattle.blocks.specs.Answers.{Spot, partsPaper, placePaper, sizePaper, sizeOf, blockOf, byteOf, flat}
-use Rattle.blocks.specs.Answers.{partsWritten, left as parting, Left as Parting}
-use Rattle.blocks.specs.Covers.{run, placesOf, Neat}
-use Rattle.blocks.specs.declared.Parts.{Parts}
-use Rattle.blocks.specs.declared.Place.{Place}
-use Rattle.blocks.specs.declared.Size.{Size}
-use Rattle.blocks.proofs.Whole as whole
-use Rattle.blocks.proofs.Joined.{joined-laid}
-use Rattle.wire.specs.Message.{Message, FieldsFit, body, keepalive}
-use Rattle.wire.specs.Message.{encode as frameOf}
-use Rattle.wire.specs.Frames.{Found, found, messageIn, readOf, meant, Lengths, Stream, streamOf, encodeAll, KeepAll, writeOf}
-use Rattle.wire.specs.Handshake.{Shaken, hello, name, handshake, zeros, shakeOf}
-use Rattle.wire.specs.Causes.{Cause, Zero, All, Right, named}
-use Rattle.wire.proofs.Decided as decided
-use Rattle.wire.proofs.Exact as frames
-use Rattle.wire.proofs.Written as framing
-use Rattle.wire.proofs.Shaking as shaking
-use Rattle.metainfo.specs.Keys.{announceKey, infoKey, filesKey, lengthKey, nameKey, pieceLengthKey, piecesKey}
-use Rattle.metainfo.specs.Reading.{announceIn, nameIn}
-use Rattle.metainfo.specs.Reading.{paper as torrentPaper, readOf as torrentRead}
-use Rattle.metainfo.specs.Rules.{torrentOf}
-use Rattle.metainfo.specs.Hashes.{infoHashOf}
-use Rattle.metainfo.specs.declared.Torrent.{Torrent}
-use Rattle.metainfo.specs.declared.Reading.{Reading}
-use Rattle.torrents.specs.Torrent.{OneFile, TorrentFiles, single, many, TorrentSays, IsTorrent, lengthsIn, sizesOf}
-use Rattle.torrents.specs.Exact.{isSingle, filesUnder, StandsAt, PathAt, EachAt, ShowsTorrent}
-use Rattle.torrents.proofs.Laws as torrents
-use Rattle.torrents.proofs.Determined as said
-use Rattle.fields.specs.Nth.{nth}
-use Rattle.contents.specs.Files.{foundPaper, entryOf}
-use Rattle.contents.specs.Files.{single as oneEntry}
-use Rattle.contents.specs.declared.Entry as file-entry
-use Rattle.contents.specs.declared.Found as file
-use Rattle.contents.specs.Pieces.{checkPaper}
-use Rattle.contents.specs.Pieces.{checkOf as pieceOf, hashPaper as pieceHashPaper, hashOf as pieceHashOf}
-use Rattle.contents.specs.declared.Hash as hash
-use Rattle.contents.specs.declared.Checked as piece
-use Rattle.authoring.specs.Writing.{fields}
-use Rattle.authoring.specs.Writing.{Fields as Torrents, writeOf as authorOf, topWith, infoWith}
-use Rattle.authoring.specs.Reading.{only}
-use Rattle.authoring.proofs.Written as authored
-use Rattle.authoring.proofs.Rewriting as again
+use Rattle.bencode_walk.specs.Has.{Has}
+use Rattle.bencode_walk.specs.Lookup.{under, lookup}
+use Rattle.bencode_fields.specs.Values.{dictionaryAt}
+use Rattle.bencode_writer.specs.Put.{left, putOf}
+use Rattle.bencode_writer.specs.Put.{paper as putPaper}
+use Rattle.bencode_writer.specs.declared.Put.{Put}
+use Rattle.hash_sha1.specs.Sha1.{sha1}
+use Rattle.hash_sha1.specs.Digest.{paper as hashPaper, left as hashing, Left as Hashing}
+use Rattle.hash_sha1.specs.declared.Hashed.{Hashed}
+use Rattle.torrent_blocks.specs.Rules.{sum, Lawful, piecesOf}
+use Rattle.torrent_blocks.specs.Spans.{FilePart, part, joinedFiles, partsOf}
+use Rattle.torrent_blocks.specs.Answers.{Spot, partsPaper, placePaper, sizePaper, sizeOf, blockOf, byteOf, flat}
+use Rattle.torrent_blocks.specs.Answers.{partsWritten, left as parting, Left as Parting}
+use Rattle.torrent_blocks.specs.Covers.{run, placesOf, Neat}
+use Rattle.torrent_blocks.specs.declared.Parts.{Parts}
+use Rattle.torrent_blocks.specs.declared.Place.{Place}
+use Rattle.torrent_blocks.specs.declared.Size.{Size}
+use Rattle.torrent_blocks.proofs.Whole as whole
+use Rattle.torrent_blocks.proofs.Joined.{joined-laid}
+use Rattle.peer_wire.specs.Message.{Message, FieldsFit, body, keepalive}
+use Rattle.peer_wire.specs.Message.{encode as frameOf}
+use Rattle.peer_wire.specs.Frames.{Found, found, messageIn, readOf, meant, Lengths, streamOf, encodeAll, KeepAll, writeOf}
+use Rattle.peer_wire.specs.Handshake.{hello, name, handshake, zeros, shakeOf}
+use Rattle.peer_wire.specs.Causes.{Cause, Zero, All, Right, named}
+use Rattle.peer_wire.proofs.Decided as decided
+use Rattle.peer_wire.proofs.Exact as frames
+use Rattle.peer_wire.proofs.Written as framing
+use Rattle.peer_wire.proofs.Shaking as shaking
+use Rattle.torrent_metainfo.specs.Keys.{announceKey, infoKey, filesKey, lengthKey, nameKey, pieceLengthKey, piecesKey}
+use Rattle.torrent_metainfo.specs.Reading.{announceIn, nameIn}
+use Rattle.torrent_metainfo.specs.Reading.{paper as torrentPaper, readOf as torrentRead}
+use Rattle.torrent_metainfo.specs.Rules.{torrentOf}
+use Rattle.torrent_metainfo.specs.Hashes.{infoHashOf}
+use Rattle.torrent_metainfo.specs.declared.Torrent.{Torrent}
+use Rattle.torrent_metainfo.specs.declared.Reading.{Reading}
+use Rattle.torrent_laws.specs.Torrent.{OneFile, TorrentFiles, single, many, TorrentSays, IsTorrent, lengthsIn, sizesOf}
+use Rattle.torrent_laws.specs.Exact.{isSingle, filesUnder, StandsAt, PathAt, EachAt, ShowsTorrent}
+use Rattle.torrent_laws.proofs.Laws as torrents
+use Rattle.torrent_laws.proofs.Determined as said
+use Rattle.bencode_fields.specs.Nth.{nth}
+use Rattle.torrent_contents.specs.Files.{foundPaper, entryOf}
+use Rattle.torrent_contents.specs.Files.{single as oneEntry}
+use Rattle.torrent_contents.specs.declared.Entry as file-entry
+use Rattle.torrent_contents.specs.declared.Found as file
+use Rattle.torrent_contents.specs.Pieces.{checkPaper}
+use Rattle.torrent_contents.specs.Pieces.{checkOf as pieceOf, hashPaper as pieceHashPaper, hashOf as pieceHashOf}
+use Rattle.torrent_contents.specs.declared.Hash as hash
+use Rattle.torrent_contents.specs.declared.Checked as piece
+use Rattle.torrent_authoring.specs.Writing.{fields}
+use Rattle.torrent_authoring.specs.Writing.{Fields as Torrents, writeOf as authorOf, topWith, infoWith}
+use Rattle.torrent_authoring.specs.Reading.{only}
+use Rattle.torrent_authoring.proofs.Written as authored
+use Rattle.torrent_authoring.proofs.Rewriting as again
 use Rattle.tracker.specs.Keys.{interval, peers}
 use Rattle.tracker.specs.Entries.{PeerEntry}
 use Rattle.tracker.specs.Reply.{Answer, compact, sixes, counted, replyIn, replyOf, nthOf}
@@ -126,7 +126,7 @@ one-value s v w e f =
 
 -- ---- 6. "A torrent or reply is taken exactly when its bytes are the BEP 3 encoding of a value that keeps the rules."
 
--- of metainfo::read
+-- of torrent_metainfo::read
 module _ (s : List ℕ) (r : Reading) (c : torrentPaper r ≡ torrentRead s) where
   pub torrent-exact : ((x : Torrent) × (torrentPaper r ≡ taken x)) ↔ ((v : Value) × (t : TorrentSays) × Encodes s v × IsTorrent v t)
   torrent-exact = (
@@ -169,14 +169,14 @@ module _ (s : List ℕ) (r : Reading) (c : torrentPaper r ≡ torrentRead s) whe
       let i = t .1 in
       (t .0, (i .0, i .1, i .2, i .3 .0, i .3 .1, i .3 .2, i .3 .3))
 
--- of metainfo::announce and metainfo::name: what they hand back
+-- of torrent_metainfo::announce and torrent_metainfo::name: what they hand back
 pub announce-said : (s r : List ℕ) → r ≡ bytesAt s (announceIn (torrentRead s)) → (v : Value) (t : TorrentSays) → Encodes s v → IsTorrent v t → r ≡ t .announce
 announce-said s r c v t e i = c ∙ torrents.announce-said s v t (fine e) i
 
 pub name-said : (s r : List ℕ) → r ≡ bytesAt s (nameIn (torrentRead s)) → (v : Value) (t : TorrentSays) → Encodes s v → IsTorrent v t → r ≡ t .name
 name-said s r c v t e i = c ∙ torrents.name-said s v t (fine e) i
 
--- of contents::file: file number n of a torrent of many files has its length and path, starts where those before it end, and is not said to
+-- of torrent_contents::file: file number n of a torrent of many files has its length and path, starts where those before it end, and is not said to
 -- be the only one; beyond the last it is 31
 pub file-exact : (s : List ℕ) (n : ℕ) (r : file.Found) → foundPaper r ≡ entryOf s n → (v : Value) (t : TorrentSays) → Encodes s v → IsTorrent v t → (fs : List OneFile) → t .files ≡ many fs
     → (n < length fs → (e : file-entry.Entry) × (foundPaper r ≡ taken e) × (e .offset .0 ≡ sum (take n (sizesOf fs))) × (e .length ≡ getD fs n noFile .size) × PathAt s (e .path) (getD fs n noFile .path) × (e .single ≡ false))
@@ -258,17 +258,17 @@ module _ (s : List ℕ) (r : Reply) (c : replyPaper r ≡ map counted (replyOf s
 
 -- ---- 7. "What is written reads back": "Reading gives the fields back; rewriting a read text that has only those keys [..] gives its bytes."
 
--- every frame writer of wire::write; m is the message, o the output as it was lent. Past the frame it stays
+-- every frame writer of peer_wire::write; m is the message, o the output as it was lent. Past the frame it stays
 pub frame-reads-back : (m : Message (List ℕ)) → FieldsFit m → (o out : List ℕ) (r : Put) → left (putPaper r) out ≡ writeOf (body m) o → (q : ℕ) → putPaper r ≡ taken q
     → (out ≡ frameOf m ++ drop q o) × ((at : Message Part) × (readOf out ≡ taken (found at q)) × (meant out at ≡ m))
 frame-reads-back m f o out r c q t = let b = framing.frame-reads-back m f o r c t in (b .0, (b .1 .at, b .1 .answer, b .1 .means))
 
--- of wire::write::keepalive
+-- of peer_wire::write::keepalive
 pub keepalive-reads-back : (o out : List ℕ) (r : Put) → left (putPaper r) out ≡ putOf (frameOf keepalive) 0 o → (q : ℕ) → putPaper r ≡ taken q
     → (out ≡ frameOf keepalive ++ drop q o) × ((at : Message Part) × (readOf out ≡ taken (found at q)) × (meant out at ≡ keepalive))
 keepalive-reads-back o out r c q t = let b = framing.keepalive-reads-back o r c t in (b .0, (b .1 .at, b .1 .answer, b .1 .means))
 
--- of wire::read_frame, on numbers that are bytes: s begins with a frame of q bytes that says m exactly when it begins with m as it is written, m being one that may be sent
+-- of peer_wire::read_frame, on numbers that are bytes: s begins with a frame of q bytes that says m exactly when it begins with m as it is written, m being one that may be sent
 module _ (s : List ℕ) (bytes : Bytes s) (m : Message (List ℕ)) (q : ℕ) where
   within : (at : Message Part) → Cause s (taken (found at q)) → q ≤ length s
   within at (inl (z, k, u)) = omega (arith, z .0, u)
@@ -297,7 +297,7 @@ frame-parts s at q = decided.exactly s (taken (found at q))
 pub stream-reads-back : (ms : List (Message (List ℕ))) → KeepAll ms → (rest : List ℕ) → streamOf (length ms) (encodeAll ms ++ rest) ≡ record { messages = ms; after = rest }
 stream-reads-back = frames.stream-reads-back
 
--- of wire::write::handshake, and wire::read_handshake on what it wrote: zeros in the free bytes, the hash that was asked for, the peer id
+-- of peer_wire::write::handshake, and peer_wire::read_handshake on what it wrote: zeros in the free bytes, the hash that was asked for, the peer id
 pub handshake-reads-back : (info peerId : List ℕ) → length info ≡ 20 → length peerId ≡ 20 → (o out : List ℕ) (r : Put)
     → left (putPaper r) out ≡ putOf (handshake zeros info peerId) 0 o → (q : ℕ) → putPaper r ≡ taken q
     → (out ≡ handshake zeros info peerId ++ drop q o)
@@ -307,7 +307,7 @@ handshake-reads-back info peerId i p o out r c q t =
     let b = framing.written-handshake-reads-back info peerId i p o r c t in
     (framing.put-at-start (handshake zeros info peerId) o r c t .1, b .0, b .1, b .2)
 
--- of wire::read_handshake: greeted exactly when the first 20 bytes are 19 and the name, 68 bytes are there and the hash is the one asked for
+-- of peer_wire::read_handshake: greeted exactly when the first 20 bytes are 19 and the name, 68 bytes are there and the hash is the one asked for
 pub handshake-exact : (info s : List ℕ) → length info ≡ 20 → (free peerId : Part) (used : ℕ)
     → shakeOf info s ≡ taken (hello free peerId used)
     ↔ (((i : ℕ) → i < 20 → i < length s → getD name i 0 ≡ getD s i 0) × (68 ≤ length s) × (take 20 (drop 28 s) ≡ info)
@@ -336,7 +336,7 @@ pub reply-rewrite : (s : List ℕ) (v w : Value) → Encodes s (dict (entry inte
     → (bs : List ℕ) × (take (length bs) (drop p s) ≡ bs) × (l ≡ sixes bs) × ((o : List ℕ) → replyWrite n bs o ≡ putOf s 0 o)
 reply-rewrite s v w e n p l d = reply-again s v w (fine e) n p l d
 
--- of authoring::write; f are the fields
+-- of torrent_authoring::write; f are the fields
 pub torrent-reads-back : (f : Torrents) (o out : List ℕ) (r : Put) → left (putPaper r) out ≡ authorOf f o → (q : ℕ) → putPaper r ≡ taken q
     → (take q out ≡ encode (dict (entry announceKey (str (f .announce)) (entry infoKey (dict (entry lengthKey (int (pos (f .length))) (entry nameKey (str (f .name))
     (entry pieceLengthKey (int (pos (f .pieceLength))) (entry piecesKey (str (f .pieces)) empty))))) empty))))
@@ -357,14 +357,14 @@ torrent-rewrite s a l n pl ps e x d = let b = again.rewrite s (topWith a (infoWi
 
 -- ---- 8. "The info hash is SHA-1 (FIPS 180-4) of info's bytes as they stand. A piece check answers yes exactly when the digests agree."
 
--- of metainfo::info_hash
+-- of torrent_metainfo::info_hash
 pub info-hash : (s o out : List ℕ) (r : Hashed) → hashing (hashPaper r) out ≡ infoHashOf s o → (v : Value) (t : TorrentSays) → Encodes s v → IsTorrent v t
     → (hashPaper r ≡ taken tt) × (out ≡ sha1 (encode (dict (t .info))))
 info-hash s o out r c v t e i =
     let h = c ∙ torrents.info-hash s o v t (fine e) i in
     (ap (λ (x : Hashing). x .answer) h, ap (λ (x : Hashing). x .out) h)
 
--- of contents::piece_hash: the hash of piece n is the n-th 20 bytes of pieces; beyond the last it is 31
+-- of torrent_contents::piece_hash: the hash of piece n is the n-th 20 bytes of pieces; beyond the last it is 31
 pub piece-hash : (s : List ℕ) (n : ℕ) (r : hash.Hash) → pieceHashPaper r ≡ pieceHashOf s n → (v : Value) (t : TorrentSays) → Encodes s v → IsTorrent v t
     → (n < t .count → (x : Part) × (pieceHashPaper r ≡ taken x) × (bytesAt s x ≡ take 20 (drop (20 * n) (t .pieces)))) × (t .count ≤ n → pieceHashPaper r ≡ refused 31 0)
 piece-hash s n r c v t e i = let h = piece-hashed s n v t (fine e) i in (λ l. let x = h .0 l in (x .0, c ∙ x .1, x .2), λ l. c ∙ h .1 l)
@@ -374,7 +374,7 @@ pub piece-hash-place : (s : List ℕ) (n : ℕ) (r : hash.Hash) → pieceHashPap
     → (x : Part) → pieceHashPaper r ≡ taken x → (x .from ≡ y .pieces .from + 20 * n) × (x .len ≡ 20)
 piece-hash-place s n r c y t x e = hash-placed s n y t x (sym c ∙ e)
 
--- of contents::check_piece: yes exactly when the text is a torrent that has piece n, m is as long as that piece, and its digest is the n-th 20 bytes of pieces;
+-- of torrent_contents::check_piece: yes exactly when the text is a torrent that has piece n, m is as long as that piece, and its digest is the n-th 20 bytes of pieces;
 -- no exactly when all of this holds but the last
 module _ (s : List ℕ) (n : ℕ) (m : List ℕ) (r : piece.Checked) (c : checkPaper r ≡ pieceOf s n m) where
   abbrev pub IsPiece : TorrentSays → Type 0
@@ -397,7 +397,7 @@ module _ (s : List ℕ) (n : ℕ) (m : List ℕ) (r : piece.Checked) (c : checkP
 
 -- ---- 9. "Blocks map to file parts exactly."
 
--- of blocks::block: n bytes from offset q of piece p, of files of the lengths ns one after the other. The parts of a taken block are its bytes, once each and in
+-- of torrent_blocks::block: n bytes from offset q of piece p, of files of the lengths ns one after the other. The parts of a taken block are its bytes, once each and in
 -- order; none is empty, each lies within its file, and files ascend. They stand at the output's start as file, offset and length each, and past them it stays
 pub block-covers : (ns : List ℕ) (pl p q n : ℕ) (o out : List ℕ) (r : Parts) → parting (partsPaper r) out ≡ partsWritten (blockOf (joinedFiles ns) pl p q n) o → (k : ℕ) → partsPaper r ≡ taken k
     → (ps : List FilePart) × (k ≡ length ps) × (out ≡ flat ps ++ drop (3 * k) o) × (placesOf (joinedFiles ns) ps ≡ run (p * pl + q) n) × Neat (joinedFiles ns) 0 ps
@@ -417,12 +417,12 @@ block-exact ns pl p q n o out r c = (
   λ h. let e = block-takes ns pl p q n o h in (e .0, ap (λ (x : Parting). x .answer) c ∙ e .1),
 )
 
--- of blocks::piece_size: taken exactly when the numbers keep the rules and there is such a piece, and it is then the piece length, of the last piece what is left
+-- of torrent_blocks::piece_size: taken exactly when the numbers keep the rules and there is such a piece, and it is then the piece length, of the last piece what is left
 pub piece-size-exact : (ns : List ℕ) (pl p : ℕ) (r : Size) → sizePaper r ≡ sizeOf (joinedFiles ns) pl p → (k : ℕ)
     → sizePaper r ≡ taken k ↔ (Lawful pl ns (piecesOf (sum ns) pl) × (p < piecesOf (sum ns) pl) × (k ≡ min pl (sum ns - p * pl)))
 piece-size-exact ns pl p r c k = (λ e. size-taken ns pl p k (sym c ∙ e), λ h. c ∙ size-takes ns pl p k h)
 
--- of blocks::byte: byte o of file f. Its piece and offset are its place in the joined content, and the block of that one byte is that byte of that file
+-- of torrent_blocks::byte: byte o of file f. Its piece and offset are its place in the joined content, and the block of that one byte is that byte of that file
 module _ (ns : List ℕ) (pl f o : ℕ) (r : Place) (c : placePaper r ≡ byteOf (joinedFiles ns) pl f o) where
   pub byte-finds-piece : (x : Spot) → placePaper r ≡ taken x
       → (x .piece * pl + x .offset ≡ sum (take f ns) + o) × (x .offset < pl) × (blockOf (joinedFiles ns) pl (x .piece) (x .offset) 1 ≡ taken (part f o 1 ∷ []))

@@ -1,9 +1,9 @@
-// The listing program of document 01: reads standard input, and prints what `lines::listing` decides.
+// The listing program of document 01: reads standard input, and prints what `torrent_lines::listing` decides.
 ghost use Prim.Native.Nat.{_≤_};
 ghost use lib.ListN.{length};
+use bencode_writer::Put;
 use libc::STDIN_FILENO;
 use libc::STDOUT_FILENO;
-use writer::Put;
 
 fn main() {
     // One byte more than is listed tells that there is too much.
@@ -24,7 +24,7 @@ fn work(space: &mut [u8], printed: &mut [u8]) {
 
 // `printed` has room for every listing, so no refusal is met here.
 fn show(text: &[u8], printed: &mut [u8]) {
-    match lines::listing(text, printed) {
+    match torrent_lines::listing(text, printed) {
         Put::To(n) => print(printed, n),
         Put::Refused(_) => {}
     }

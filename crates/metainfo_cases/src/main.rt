@@ -1,4 +1,4 @@
-// What `metainfo` and `contents` answer to each of a table of texts, a line each, held to the file stdout. The table is the file stdin.
+// What `torrent_metainfo` and `torrent_contents` answer to each of a table of texts, a line each, held to the file stdout. The table is the file stdin.
 // tests/metainfo_cases.py has a table of its own, asks the second program, and prints the same lines.
 mod report;
 mod table;

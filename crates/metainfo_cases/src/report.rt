@@ -1,18 +1,18 @@
-// A line for each text: the word that it is written as, and what `metainfo` and `contents` answer to it.
+// A line for each text: the word that it is written as, and what `torrent_metainfo` and `torrent_contents` answer to it.
 use crate::words::write_out;
-use blocks::PieceNumber;
-use contents::Checked;
-use contents::Element;
-use contents::Entry;
-use contents::Found;
-use contents::Hash;
+use hash_sha1::Hashed;
 use libc::STDOUT_FILENO;
-use metainfo::Content;
-use metainfo::Filed;
-use metainfo::Reading;
-use metainfo::Torrent;
 use refusal::Part;
-use sha1::Hashed;
+use torrent_blocks::PieceNumber;
+use torrent_contents::Checked;
+use torrent_contents::Element;
+use torrent_contents::Entry;
+use torrent_contents::Found;
+use torrent_contents::Hash;
+use torrent_metainfo::Content;
+use torrent_metainfo::Filed;
+use torrent_metainfo::Reading;
+use torrent_metainfo::Torrent;
 
 // What is answered to a text that is written as a word.
 pub fn show(word: &[u8], space: &mut [u8]) {
@@ -23,15 +23,15 @@ pub fn show(word: &[u8], space: &mut [u8]) {
 }
 
 fn answer(text: &[u8]) {
-    match metainfo::read(text) {
+    match torrent_metainfo::read(text) {
         Reading::Read(t) => torrent(text, t),
         Reading::Refused(r) => refused(r.number, r.place),
     }
 }
 
 fn torrent(text: &[u8], t: Torrent) {
-    said(b" announce", t.announce, metainfo::announce(text));
-    said(b" name", t.name, metainfo::name(text));
+    said(b" announce", t.announce, torrent_metainfo::announce(text));
+    said(b" name", t.name, torrent_metainfo::name(text));
     said(b" info", t.info, b"");
     info_hash(text);
     pieces(text, t);
@@ -48,7 +48,7 @@ fn said(label: &[u8], p: Part, bytes: &[u8]) {
 
 fn info_hash(text: &[u8]) {
     let mut out = [0u8; 20];
-    match metainfo::info_hash(text, &mut out) {
+    match torrent_metainfo::info_hash(text, &mut out) {
         Hashed::Written => hex(&out),
         Hashed::Refused(r) => refused(r.number, r.place),
     }
@@ -72,7 +72,7 @@ fn hash(text: &[u8], n: u64) {
     if 4294967295 < n {
         return;
     }
-    match contents::piece_hash(text, PieceNumber(n as u32)) {
+    match torrent_contents::piece_hash(text, PieceNumber(n as u32)) {
         Hash::Stands(x) => part(x),
         Hash::None(r) => refused(r.number, r.place),
     }
@@ -101,7 +101,7 @@ fn walk_files(text: &[u8], place: usize, count: usize) {
     let mut at = place + 1;
     let mut n: usize = 0;
     while n < count {
-        match metainfo::file_at(text, at) {
+        match torrent_metainfo::file_at(text, at) {
             Filed::Is(f) => {
                 at = f.next;
                 n += 1;
@@ -116,7 +116,7 @@ fn walk_files(text: &[u8], place: usize, count: usize) {
 fn walked(text: &[u8], place: usize, at: usize) {
     labelled(b" in", place as u64);
     labelled(b" to", at as u64);
-    match metainfo::file_at(text, at) {
+    match torrent_metainfo::file_at(text, at) {
         Filed::Is(f) => number(f.length),
         Filed::Not(r) => refused(r.number, r.place),
     }
@@ -124,7 +124,7 @@ fn walked(text: &[u8], place: usize, at: usize) {
 
 fn file(text: &[u8], n: usize) {
     labelled(b";", n as u64);
-    match contents::file(text, n) {
+    match torrent_contents::file(text, n) {
         Found::Is(e) => entry(text, e),
         Found::Not(r) => refused(r.number, r.place),
     }
@@ -146,7 +146,7 @@ fn path(text: &[u8], first: usize) {
     let mut at = first;
     let mut n: usize = 0;
     while n < 9 {
-        match contents::element_at(text, at) {
+        match torrent_contents::element_at(text, at) {
             Element::Is(x, next) => {
                 element(text, x);
                 at = next;
@@ -160,7 +160,7 @@ fn path(text: &[u8], first: usize) {
 
 fn element(text: &[u8], x: Part) {
     say(b" /");
-    say(walk::bytes(text, x));
+    say(bencode_walk::bytes(text, x));
 }
 
 // Whether the bytes of a word are piece n of a torrent of two pieces, the second of one byte.
@@ -185,7 +185,7 @@ fn checked(text: &[u8], n: usize, piece: &[u8]) {
     if 4294967295 < n {
         return;
     }
-    match contents::check_piece(text, PieceNumber(n as u32), piece) {
+    match torrent_contents::check_piece(text, PieceNumber(n as u32), piece) {
         Checked::Yes => say(b" yes"),
         Checked::No => say(b" no"),
         Checked::Refused(r) => refused(r.number, r.place),

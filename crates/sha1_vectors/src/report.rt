@@ -1,18 +1,18 @@
 // A line for each message: its name, and its digest or why there is none.
 ghost use Prim.Native.Nat.{_<_, _≤_, _+_};
+use hash_sha1::Agreement;
+use hash_sha1::Hashed;
+use hash_sha1::stream;
+use hash_sha1::stream::Stream;
 use libc::STDOUT_FILENO;
 use refusal::Refusal;
-use sha1::Agreement;
-use sha1::Hashed;
-use sha1::stream;
-use sha1::stream::Stream;
 
 // A message as a whole, and in parts of seven bytes.
 pub fn both(name: &[u8], message: &[u8]) {
     io::write_all(STDOUT_FILENO, name);
     io::write_all(STDOUT_FILENO, b": ");
     let mut out = [0u8; 20];
-    let whole = sha1::digest(message, &mut out);
+    let whole = hash_sha1::digest(message, &mut out);
     show(whole, &out);
     io::write_all(STDOUT_FILENO, name);
     parts(b" in parts: ", message, 7);
@@ -44,7 +44,7 @@ pub fn limits() {
 // The digest of abc against itself, against itself but the last byte, and against 19 of its bytes.
 pub fn agreements() {
     let mut out = [0u8; 20];
-    let whole = sha1::digest(b"abc", &mut out);
+    let whole = hash_sha1::digest(b"abc", &mut out);
     show(whole, &out);
     compare(&out, 20);
     compare(&out, 19);
@@ -57,7 +57,7 @@ fn compare(out: &[u8; 20], count: usize) {
     if expected.len() < count {
         return;
     }
-    match sha1::agrees(b"abc", &expected[..count]) {
+    match hash_sha1::agrees(b"abc", &expected[..count]) {
         Agreement::Same => say(b"same\n"),
         Agreement::Other => say(b"other\n"),
         Agreement::Unhashed(r) => refused(r),

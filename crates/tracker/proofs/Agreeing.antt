@@ -1,35 +1,33 @@
 -- Where a value stands, what the code goes through is what document 01's rules say of that value. Assumes nothing.
-use mathlib.Core.Path.{_≡_, refl, sym, ap, _∙_, subst}
+use mathlib.Core.Path.{_≡_, refl, sym, ap, _∙_}
 use mathlib.Core.Bool.{Bool, true, false, cond}
-use mathlib.Core.List.{List, [], _∷_, _++_}
-use Prim.Native.Nat.{ℕ, zero, suc, _+_, _*_, _/_, _%_, _<_, _≤_}
+use mathlib.Core.List.{List, [], _∷_}
+use Prim.Native.Nat.{ℕ, zero, suc, _+_, _/_, _%_, _<_, _≤_}
 use native.Mathlib.Omega.{arith}
 use lib.Dec.{eqb}
-use lib.ListN.{length, getD, drop}
+use lib.ListN.{length}
 use Rattle.refusal.specs.Paper.{Outcome, taken, refused, refusal, map, then}
-use Rattle.scalar.specs.Written.{keyLt}
-use Rattle.bencode.specs.Value.{Value, Items, Entries, str, int, list, dict, none, item, count, encode, encodeItems, Prev, start, last}
+use Rattle.bencode_scalar.specs.Written.{keyLt}
+use Rattle.bencode.specs.Value.{Value, Items, Entries, str, int, list, dict, none, item, count, encode, start, last}
 use Rattle.bencode.specs.Decode.{decode, closes}
-use Rattle.bencode.specs.Exact.{Fine}
 use Rattle.bencode.specs.Answers.{checkOf}
 use Rattle.refusal.specs.declared.Refusal.{Refusal}
 use Rattle.refusal.specs.declared.Part.{Part}
 use Rattle.bencode.proofs.Complete.{encode-pos}
 use Rattle.bencode.proofs.Exact.{taken-fine}
-use Rattle.walk.specs.Walk.{Head, Hit, found, missing, lookOf, skipOf}
-use Rattle.walk.specs.Walk as walk
-use Rattle.walk.specs.Stands.{Stands, StandItems, StandEntries}
-use Rattle.walk.specs.Lookup.{Under, nothing, under, lookup}
-use Rattle.walk.proofs.Standing.{room, fine-stands, skip-past, string-stands, integer-stands, list-stands, items-next, dictionary-stands, closes-none, closes-item}
-use Rattle.walk.proofs.Finding.{Says, it-is, it-is-not, found-stands, placeOf}
-use Rattle.fields.specs.Looks.{stringOf, naturalOf, dictionaryOf, needed, soughtFrom, soughtAfter}
-use Rattle.fields.specs.Values.{partOf, stringAt, naturalAt, dictionaryAt, must}
-use Rattle.fields.proofs.Standing.{begins, string-is, natural-is, dictionary-is}
-use Rattle.fields.proofs.Seeking.{Left, Seeks, all-left, seeks, asked, sought-next}
+use Rattle.bencode_walk.specs.Walk.{Head, Hit, found, lookOf, skipOf}
+use Rattle.bencode_walk.specs.Stands.{Stands, StandItems, StandEntries}
+use Rattle.bencode_walk.specs.Lookup.{Under, nothing, under, lookup}
+use Rattle.bencode_walk.proofs.Standing.{room, fine-stands, skip-past, string-stands, integer-stands, list-stands, items-next, dictionary-stands, closes-none, closes-item}
+use Rattle.bencode_walk.proofs.Finding.{Says, it-is, it-is-not, found-stands, placeOf}
+use Rattle.bencode_fields.specs.Looks.{stringOf, naturalOf, needed, soughtFrom, soughtAfter}
+use Rattle.bencode_fields.specs.Values.{partOf, stringAt, naturalAt, dictionaryAt, must}
+use Rattle.bencode_fields.proofs.Standing.{begins, string-is, natural-is, dictionary-is}
+use Rattle.bencode_fields.proofs.Seeking.{Left, all-left, seeks, asked, sought-next}
 use Rattle.tracker.specs.Keys.{failureReason, interval, peers, ip, peerId, port}
-use Rattle.tracker.specs.Entries.{PeerEntry, packed, listed, PeerStep, packedOf, idLength, idOf, pastPeer, peerFrom, peerBy, listedAt, countFrom}
-use Rattle.tracker.specs.Reply.{Answer, failure, compact, listing, sixes, idAt, peerIn, peerAt, peersFrom, peersAt, answeredIn, replyBy, replyIn, replyOf, counted}
-use Rattle.tracker.specs.Reading.{compactOf, listingOf, peersIn, peersOf, answeredOf, failureOf, topBy, topOf, wholeOf}
+use Rattle.tracker.specs.Entries.{PeerEntry, listed, PeerStep, idLength, idOf, pastPeer, peerBy, listedAt, countFrom}
+use Rattle.tracker.specs.Reply.{failure, compact, listing, sixes, idAt, peerIn, peerAt, peersFrom, peersAt, answeredIn, replyBy, replyIn, replyOf, counted}
+use Rattle.tracker.specs.Reading.{compactOf, peersIn, peersOf, answeredOf, topBy, topOf, wholeOf}
 use Rattle.tracker.specs.declared.listed.Listed.{Listed}
 
 -- three checks, and what is made of them

@@ -1,7 +1,7 @@
 -- A refusal of the reader is given exactly where its cause holds. Assumes nothing.
-use mathlib.Core.Path.{_≡_, refl, sym, ap, _∙_, subst}
+use mathlib.Core.Path.{_≡_, refl, ap, _∙_, subst}
 use mathlib.Core.Bool.{Bool, true, false, cond}
-use mathlib.Core.List.{List, [], _∷_}
+use mathlib.Core.List.{List, _∷_}
 use Prim.Native.Nat.{ℕ, zero, suc, _+_, _%_, _<_, _≤_}
 use native.Mathlib.Omega.{arith}
 use lib.Dec.{eqb, leb}
@@ -13,9 +13,9 @@ use Rattle.refusal.specs.declared.Part.{Part}
 use Rattle.refusal.proofs.Cases.{no-way}
 use Rattle.bencode.specs.Value.{Value, Items, Entries, str, int, list, dict, none, item, encode}
 use Rattle.bencode.specs.Decode.{decode}
-use Rattle.walk.specs.Lookup.{Under, nothing, under, lookup}
-use Rattle.fields.specs.Values.{partOf, stringAt, naturalAt, dictionaryAt, must}
-use Rattle.fields.specs.Causes.{Lacks, missing, wrong, NoString, no-string, NoNumber, no-integer, out-of-range, UpTo}
+use Rattle.bencode_walk.specs.Lookup.{Under, nothing, under, lookup}
+use Rattle.bencode_fields.specs.Values.{partOf, stringAt, naturalAt, dictionaryAt, must}
+use Rattle.bencode_fields.specs.Causes.{Lacks, missing, wrong, NoString, no-string, NoNumber, no-integer, out-of-range, UpTo}
 use Rattle.tracker.specs.Keys.{failureReason, interval, peers, ip, peerId, port}
 use Rattle.tracker.specs.Entries.{PeerEntry, listed, idLength}
 use Rattle.tracker.specs.declared.listed.Listed.{Listed}

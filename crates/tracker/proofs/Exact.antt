@@ -1,11 +1,11 @@
 -- A text is taken as a reply exactly when it is the encoding of a value that is one and keeps the limits. Assumes nothing.
 use mathlib.Core.Path.{_≡_, refl, sym, ap, _∙_, subst}
 use mathlib.Core.Bool.{Bool, true, false, cond}
-use mathlib.Core.List.{List, [], _∷_}
-use Prim.Native.Nat.{ℕ, suc, _+_, _%_, _≤_}
+use mathlib.Core.List.{[], List, _∷_}
+use Prim.Native.Nat.{ℕ, _+_, _%_, _≤_}
 use lib.Dec.{eqb, leb}
-use lib.IntN.{ℤ, pos, negsuc}
-use lib.ListN.{length, take, drop}
+use lib.IntN.{pos, negsuc}
+use lib.ListN.{length}
 use borrow.Author.Tests.{eq-eqb, eqb-true, leb-true, le-leb}
 use Rattle.refusal.specs.Paper.{Outcome, taken, refused, map, then}
 use Rattle.refusal.specs.declared.Part.{Part}
@@ -14,20 +14,19 @@ use Rattle.bencode.specs.Value.{Value, Items, Entries, str, int, list, dict, no
 use Rattle.bencode.specs.Decode.{decode}
 use Rattle.bencode.specs.Exact.{Fine}
 use Rattle.bencode.proofs.Exact.{taken-fine, fine-taken}
-use Rattle.walk.specs.Has.{Has}
-use Rattle.walk.specs.Stands.{Stands, StandItems, StandEntries}
-use Rattle.walk.specs.Lookup.{Under, nothing, under, lookup}
-use Rattle.walk.proofs.Standing.{fine-stands, list-stands, items-next, dictionary-stands}
-use Rattle.walk.proofs.Finding.{found-stands}
-use Rattle.fields.specs.Looks.{ranged}
-use Rattle.fields.specs.Values.{partOf, stringAt, naturalAt, dictionaryAt, must}
-use Rattle.fields.proofs.Standing.{part-bytes}
+use Rattle.bencode_walk.specs.Has.{Has}
+use Rattle.bencode_walk.specs.Stands.{Stands, StandItems, StandEntries}
+use Rattle.bencode_walk.specs.Lookup.{Under, nothing, under, lookup}
+use Rattle.bencode_walk.proofs.Standing.{fine-stands, list-stands, items-next, dictionary-stands}
+use Rattle.bencode_walk.proofs.Finding.{found-stands}
+use Rattle.bencode_fields.specs.Values.{partOf, stringAt, naturalAt, dictionaryAt, must}
+use Rattle.bencode_fields.proofs.Standing.{part-bytes}
 use Rattle.tracker.specs.Keys.{failureReason, interval, peers, ip, peerId, port}
-use Rattle.tracker.specs.Entries.{PeerEntry, packed, listed, idLength}
-use Rattle.tracker.specs.Reply.{Answer, failure, compact, listing, sixes, idAt, peerIn, peerAt, peersFrom, peersAt, answeredIn, replyBy, replyIn, replyOf}
+use Rattle.tracker.specs.Entries.{PeerEntry, listed, idLength}
+use Rattle.tracker.specs.Reply.{Answer, failure, compact, listing, sixes, idAt, peerIn, peerAt, peersFrom, peersAt, replyBy, replyIn, replyOf}
 use Rattle.tracker.specs.Exact.{Peer, IsPeer, ArePeers, no-more, one-more, ReplySays, failed, packs, lists, Waits, IsReply, fails, has-string, has-list, Is, ShowsPeers, shows-none, shows-one, ShowsReply, shows-failure, shows-packs, shows-lists, ReplyExact}
 use Rattle.tracker.specs.declared.listed.Listed.{Listed}
-use Rattle.walk.proofs.Having.{found-has, has-found, none-has, has-none}
+use Rattle.bencode_walk.proofs.Having.{found-has, has-found, none-has, has-none}
 
 -- what a check took: P of it
 abbrev Took : {A : Type 0} → (A → Type 0) → Outcome A → Type 0

@@ -1,13 +1,13 @@
 -- How many entries a reply has, and which numbers they have. Assumes nothing.
-use mathlib.Core.Path.{_≡_, refl, sym, ap, _∙_}
-use mathlib.Core.List.{List, [], _∷_}
-use Prim.Native.Nat.{ℕ, zero, suc, _<_, _≤_}
+use mathlib.Core.Path.{_≡_, refl, ap}
+use mathlib.Core.List.{List}
+use Prim.Native.Nat.{ℕ, suc, _<_, _≤_}
 use native.Mathlib.Omega.{arith}
 use lib.ListN.{length}
-use Rattle.refusal.specs.Paper.{Outcome, taken, refused, map, then}
+use Rattle.refusal.specs.Paper.{taken, refused}
 use Rattle.tracker.specs.Entries.{PeerEntry}
-use Rattle.tracker.specs.Reply.{Answer, failure, compact, listing, sixes, replyOf, counted, nthOf}
-use Rattle.fields.proofs.Nth.{nth-within, nth-beyond}
+use Rattle.tracker.specs.Reply.{Answer, failure, compact, listing, sixes, counted, nthOf}
+use Rattle.bencode_fields.proofs.Nth.{nth-within, nth-beyond}
 use Rattle.tracker.specs.Reading.{entriesIn}
 use Rattle.tracker.specs.Exact.{Peer, ReplySays, saidEntries, ShowsPeers, shows-none, shows-one, ShowsReply, shows-failure, shows-packs, shows-lists}
 use Rattle.tracker.proofs.Agreeing.{sixes-length}

@@ -1,35 +1,34 @@
 -- What is written is read back, and what is read with only those keys is written again as it was. Assumes nothing.
 use mathlib.Core.Path.{_≡_, refl, sym, ap, _∙_, subst}
 use mathlib.Core.Bool.{Bool, true, false, cond}
-use mathlib.Core.List.{List, [], _∷_, _++_}
-use Prim.Native.Nat.{ℕ, suc, _+_, _*_, _/_, _%_, _^_, _<_, _≤_}
+use mathlib.Core.List.{List}
+use Prim.Native.Nat.{ℕ, _+_, _%_, _^_, _<_, _≤_}
 use native.Mathlib.Omega.{arith}
 use lib.Dec.{ltb, leb}
 use lib.IntN.{pos}
 use lib.ListN.{length, take, drop}
 use lib.Seq.{sets}
-use borrow.Author.Tests.{ltb-true, ltb-false, leb-true, leb-false, lt-ltb, le-ltb}
-use Rattle.refusal.specs.Paper.{Outcome, taken, refused}
+use borrow.Author.Tests.{ltb-true, ltb-false, leb-true, leb-false, lt-ltb}
+use Rattle.refusal.specs.Paper.{taken, refused}
 use Rattle.refusal.proofs.Cases.{no-way}
-use Rattle.scalar.specs.Written.{inRange, keyLt}
-use Rattle.bencode.specs.Value.{Value, Entries, str, int, dict, empty, entry, encode, count, Keeps, start, last}
+use Rattle.bencode_scalar.specs.Written.{keyLt}
+use Rattle.bencode.specs.Value.{Value, Entries, str, int, dict, empty, entry, encode, count, Keeps, start}
 use Rattle.bencode.specs.Decode.{decode}
 use Rattle.bencode.specs.Exact.{Fine}
 use Rattle.bencode.proofs.Exact.{fine-taken}
-use Rattle.walk.specs.Has.{Has, here, there}
-use Rattle.walk.specs.Lookup.{sameKey, Under, nothing, under, lookup}
-use Rattle.writer.specs.Put.{Left, paper, left, putOf}
-use Rattle.writer.specs.declared.Put.{Put}
-use Rattle.writer.proofs.Laws.{paper-apart, Standing, put-whole, put-none, standing}
+use Rattle.bencode_walk.specs.Has.{Has, here, there}
+use Rattle.bencode_walk.specs.Lookup.{sameKey, nothing, lookup}
+use Rattle.bencode_writer.specs.Put.{Left, paper, left, putOf}
+use Rattle.bencode_writer.specs.declared.Put.{Put}
+use Rattle.bencode_writer.proofs.Laws.{paper-apart, Standing, put-whole, put-none, standing}
 use Rattle.tracker.specs.Keys.{failureReason, interval, peers}
 use Rattle.tracker.specs.Entries.{PeerEntry}
-use Rattle.tracker.specs.Reply.{Answer, failure, compact, listing, sixes, replyOf}
+use Rattle.tracker.specs.Reply.{Answer, failure, compact, sixes, replyOf}
 use Rattle.tracker.specs.Writing.{compactReply, textOf, writeOf}
 use Rattle.tracker.specs.Faults.{NotWritten, too-late, not-sixes, too-long, no-room}
-use Rattle.tracker.specs.Exact.{ReplySays, failed, packs, lists, Waits, IsReply, fails, has-string, has-list, ShowsReply, shows-failure, shows-packs, shows-lists}
-use Rattle.walk.proofs.Having.{found-has, has-found, has-none}
+use Rattle.tracker.specs.Exact.{ReplySays, packs, lists, Waits, IsReply, fails, has-string, has-list, ShowsReply, shows-failure, shows-packs, shows-lists}
+use Rattle.bencode_walk.proofs.Having.{has-found}
 use Rattle.tracker.proofs.Exact.{reply-only, reply-every}
-use Rattle.tracker.proofs.Agreeing.{sixes-length}
 
 interval-peers : keyLt interval peers ≡ true
 unfolding keyLt

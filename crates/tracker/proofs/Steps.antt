@@ -1,8 +1,8 @@
 -- What the code goes through, step by step: an answer that was taken apart, an entry of a list, the loops. Assumes nothing.
-use mathlib.Core.Path.{_≡_, refl, sym, ap, _∙_, subst}
-use mathlib.Core.Bool.{Bool, true, false, cond}
-use mathlib.Core.List.{List, [], _∷_}
-use Prim.Native.Nat.{ℕ, zero, suc, _+_, _-_, _*_, _/_, _%_, _<_, _≤_}
+use mathlib.Core.Path.{_≡_, refl, sym, ap, _∙_}
+use mathlib.Core.Bool.{true, false, cond}
+use mathlib.Core.List.{List}
+use Prim.Native.Nat.{ℕ, zero, suc, _+_, _-_, _/_, _%_, _<_, _≤_}
 use native.Mathlib.Omega.{arith}
 use lib.Dec.{ltb, leb, eqb}
 use lib.ListN.{length, getD, drop, drop-of-length-le}
@@ -11,25 +11,21 @@ use borrow.Author.Tests.{le-leb, lt-leb, eq-eqb, ne-eqb, lt-ltb, le-ltb}
 use Rattle.refusal.specs.Paper.{Outcome, taken, refused, refusal, map, then}
 use Rattle.refusal.specs.declared.Refusal.{Refusal}
 use Rattle.refusal.specs.declared.Part.{Part}
-use Rattle.walk.proofs.Seeking.{skip-further}
-use Rattle.bencode.specs.Value.{Value}
+use Rattle.bencode_walk.proofs.Seeking.{skip-further}
 use Rattle.bencode.specs.Decode.{closes}
-use Rattle.walk.specs.Walk.{Hit, Head, seekPaper, skipOf, pastPaper, lookOf, lookAt}
-use Rattle.scalar.specs.Reading.{onHead}
-use Rattle.walk.specs.Stands.{Stands}
-use Rattle.walk.specs.declared.Sought.{Sought}
-use Rattle.walk.specs.declared.Past.{Past}
-use Rattle.walk.specs.declared.Past.the-variants.{To, Bad}
-use Rattle.fields.specs.Looks.{stringPaper, naturalPaper, stringOf, naturalOf, dictionaryOf, dictionaryIn, needed, soughtFrom, soughtAfter}
-use Rattle.fields.specs.declared.Bytes.{Bytes}
-use Rattle.fields.specs.declared.Bytes.the-variants.{Are, Unread}
-use Rattle.fields.specs.declared.Natural.{Natural}
-use Rattle.fields.specs.declared.Natural.the-variants.{Is as Number, Not as NoNumber}
+use Rattle.bencode_walk.specs.Walk.{Hit, seekPaper, skipOf, pastPaper, lookOf, lookAt}
+use Rattle.bencode_scalar.specs.Reading.{onHead}
+use Rattle.bencode_walk.specs.declared.Sought.{Sought}
+use Rattle.bencode_walk.specs.declared.Past.the-variants.{To, Bad}
+use Rattle.bencode_fields.specs.Looks.{stringPaper, naturalPaper, stringOf, naturalOf, dictionaryOf, dictionaryIn, needed, soughtFrom, soughtAfter}
+use Rattle.bencode_fields.specs.declared.Bytes.{Bytes}
+use Rattle.bencode_fields.specs.declared.Bytes.the-variants.{Are, Unread}
+use Rattle.bencode_fields.specs.declared.Natural.{Natural}
+use Rattle.bencode_fields.specs.declared.Natural.the-variants.{Is as Number, Not as NoNumber}
 use Rattle.tracker.specs.Keys.{interval, peers, ip, peerId, port}
 use Rattle.tracker.specs.Entries.{PeerEntry, packed, listed, PeerStep, idLength, idOf, sixAt, packedAt, pastPeer, peerFrom, peerBy, listedPaper, listedAt, countFrom, nthAt}
-use Rattle.tracker.specs.Reply.{Answer, compact}
+use Rattle.tracker.specs.Reply.{compact}
 use Rattle.tracker.specs.Reading.{compactOf, peersOf, answeredOf}
-use Rattle.tracker.specs.declared.listed.Listing.{Listing}
 use Rattle.tracker.specs.declared.listed.Listing.the-variants.{Is, Not}
 use Rattle.tracker.specs.declared.listed.Listed.{Listed}
 

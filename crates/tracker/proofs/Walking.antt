@@ -2,28 +2,27 @@
 use mathlib.Core.Path.{_≡_, refl, sym, ap, _∙_, subst}
 use mathlib.Core.Bool.{Bool, true, false, cond}
 use mathlib.Core.List.{List, [], _∷_, _++_, append-assoc}
-use Prim.Native.Nat.{ℕ, zero, suc, _+_, _*_, _%_, _<_, _≤_}
+use Prim.Native.Nat.{ℕ, zero, suc, _+_, _*_, _%_, _≤_}
 use native.Mathlib.Omega.{arith}
 use lib.Dec.{ltb, leb, eqb}
 use lib.ListN.{length, getD, drop, length-append}
 use lib.Seq.{getD-drop}
-use borrow.Author.Tests.{lt-ltb, le-ltb, ltb-true, ltb-false, le-leb}
+use borrow.Author.Tests.{lt-ltb, le-ltb, ltb-true, ltb-false}
 use Rattle.refusal.specs.Paper.{Outcome, taken, refused, map, then}
 use Rattle.refusal.specs.declared.Part.{Part}
-use Rattle.scalar.specs.Written.{decimal}
+use Rattle.bencode_scalar.specs.Written.{decimal}
 use Rattle.bencode.specs.Value.{Value, Items, Entries, str, int, list, dict, none, item, encode, start}
 use Rattle.bencode.specs.Decode.{decode}
 use Rattle.bencode.proofs.Exact.{taken-fine}
-use Rattle.walk.specs.Walk.{skipOf}
-use Rattle.walk.specs.Stands.{Stands, StandItems, StandEntries}
-use Rattle.walk.specs.Lookup.{Under, nothing, under, lookup}
-use Rattle.walk.proofs.Standing.{past, room, fine-stands, list-stands, items-next, dictionary-stands}
-use Rattle.walk.proofs.Finding.{found-stands}
-use Rattle.fields.specs.Values.{partOf, stringAt, naturalAt, dictionaryAt, must}
+use Rattle.bencode_walk.specs.Stands.{Stands, StandItems, StandEntries}
+use Rattle.bencode_walk.specs.Lookup.{Under, nothing, under, lookup}
+use Rattle.bencode_walk.proofs.Standing.{past, room, fine-stands, list-stands, items-next, dictionary-stands}
+use Rattle.bencode_walk.proofs.Finding.{found-stands}
+use Rattle.bencode_fields.specs.Values.{partOf, stringAt, naturalAt, dictionaryAt, must}
 use Rattle.tracker.specs.Keys.{failureReason, interval, peers}
 use Rattle.tracker.specs.Entries.{PeerEntry, packed, listed, PeerStep, packedOf, sixAt, packedAt, listedAt, nthAt}
-use Rattle.tracker.specs.Reply.{Answer, failure, compact, listing, sixes, peerAt, peersFrom, peersAt, answeredIn, replyBy, replyIn, replyOf, counted, nthOf}
-use Rattle.fields.specs.Nth.{nth}
+use Rattle.tracker.specs.Reply.{Answer, failure, compact, listing, sixes, peerAt, peersFrom, peersAt, replyBy, replyIn, replyOf, counted, nthOf}
+use Rattle.bencode_fields.specs.Nth.{nth}
 use Rattle.tracker.specs.Reading.{paper, entryAt}
 use Rattle.tracker.specs.Walks.{Walks, ends, goes, Walked}
 use Rattle.tracker.specs.declared.Reply.{Reply}

@@ -1,24 +1,21 @@
 -- A compact reply, put part by part. Assumes nothing.
-use mathlib.Core.Path.{_≡_, sym, ap, _∙_, subst}
-use mathlib.Core.Bool.{Bool, true, false, cond}
+use mathlib.Core.Path.{_≡_, sym, ap, _∙_}
 use mathlib.Core.List.{List, [], _∷_, _++_, append-assoc}
 use Prim.Native.Nat.{ℕ, _+_, _%_, _<_, _≤_}
 use native.Mathlib.Omega.{arith}
 use lib.Dec.{ltb}
-use lib.IntN.{pos}
 use lib.ListN.{length, length-append}
 use lib.Seq.{sets}
 use borrow.Author.Tests.{lt-ltb, le-ltb}
-use Rattle.refusal.specs.Paper.{Outcome, taken, refused}
-use Rattle.scalar.specs.Written.{decimal, decimalIn, writtenString, writtenInt}
+use Rattle.refusal.specs.Paper.{Outcome, taken}
+use Rattle.bencode_scalar.specs.Written.{decimal, decimalIn, writtenString}
 use Rattle.bencode.specs.Value.{encode}
-use Rattle.writer.specs.Put.{paper, left, putOf, placePast}
-use Rattle.writer.specs.declared.Put.{Put}
-use Rattle.writer.specs.declared.Put.the-variants.{To, Refused}
-use Rattle.writer.proofs.Laws.{put-whole, put-none}
-use Rattle.writer.proofs.Runs.{ran-as, ran-put, put-ran}
-use Rattle.tracker.specs.Keys.{interval, peers}
-use Rattle.tracker.specs.Writing.{compactReply, textOf, writeOf}
+use Rattle.bencode_writer.specs.Put.{paper, left, putOf, placePast}
+use Rattle.bencode_writer.specs.declared.Put.{Put}
+use Rattle.bencode_writer.specs.declared.Put.the-variants.{Refused}
+use Rattle.bencode_writer.proofs.Laws.{put-whole, put-none}
+use Rattle.bencode_writer.proofs.Runs.{ran-as, ran-put, put-ran}
+use Rattle.tracker.specs.Writing.{textOf, writeOf}
 
 -- what stands before the number of seconds, and between that and the entries
 abbrev pub opening : List ℕ

@@ -4,13 +4,13 @@ use mathlib.Core.List.{List}
 use Prim.Native.Nat.{ℕ, _+_, _%_, _<_, _≤_}
 use lib.IntN.{pos}
 use lib.ListN.{length}
-use Rattle.refusal.specs.Paper.{Outcome, taken, refused}
+use Rattle.refusal.specs.Paper.{taken, refused}
 use Rattle.refusal.specs.Numbers.{kind, peer}
 use Rattle.refusal.specs.Limits.{longestInterval, largestPort}
-use Rattle.bencode.specs.Value.{Value, Items, Entries, str, int, list, dict, none, item, encode}
+use Rattle.bencode.specs.Value.{Value, Items, Entries, str, int, list, dict, item, encode}
 use Rattle.bencode.specs.Decode.{decode}
-use Rattle.walk.specs.Lookup.{Under, nothing, under, lookup}
-use Rattle.fields.specs.Causes.{Lacks, NoString, NoNumber, UpTo}
+use Rattle.bencode_walk.specs.Lookup.{Under, nothing, under, lookup}
+use Rattle.bencode_fields.specs.Causes.{Lacks, NoString, NoNumber, UpTo}
 use Rattle.tracker.specs.Keys.{failureReason, interval, peers, ip, peerId, port}
 
 -- what is under a key is a string, a string of 20 bytes, a number from 0 to most

@@ -1,7 +1,7 @@
 -- An entry at a place of any text, and the place past it. Assumes nothing: these are definitions.
 -- From `sixAt` on they serve contracts on any text and need not be believed: `peer-is` and `count-is` of tracker/proofs/Agreeing.antt tie them to Reply.antt, and `walked` of Walking.antt to Walks.antt.
 use mathlib.Core.Bool.{cond}
-use mathlib.Core.List.{List, [], _∷_}
+use mathlib.Core.List.{List}
 use Prim.Native.Nat.{ℕ, zero, suc, _+_, _*_}
 use lib.Dec.{eqb, leb}
 use lib.ListN.{length, getD, drop}
@@ -10,8 +10,8 @@ use Rattle.refusal.specs.Numbers.{cut, peer}
 use Rattle.refusal.specs.Limits.{largestPort}
 use Rattle.refusal.specs.declared.Part.{Part}
 use Rattle.bencode.specs.Decode.{closes}
-use Rattle.walk.specs.Walk.{Hit, skipOf}
-use Rattle.fields.specs.Looks.{stringOf, naturalOf, dictionaryOf, needed, soughtFrom, soughtAfter}
+use Rattle.bencode_walk.specs.Walk.{Hit, skipOf}
+use Rattle.bencode_fields.specs.Looks.{stringOf, naturalOf, dictionaryOf, needed, soughtFrom, soughtAfter}
 use Rattle.tracker.specs.Keys.{ip, peerId, port}
 use Rattle.tracker.specs.declared.compact.Packed.{Packed}
 use Rattle.tracker.specs.declared.compact.Packing.{Packing}

@@ -5,14 +5,14 @@ use Prim.Native.Nat.{ℕ, _/_, _%_, _≤_}
 use lib.IntN.{pos}
 use lib.ListN.{length, take, drop}
 use Rattle.refusal.specs.Limits.{longestInterval, largestPort}
-use Rattle.refusal.specs.Paper.{Outcome, taken}
+use Rattle.refusal.specs.Paper.{taken}
 use Rattle.refusal.specs.Parts.{bytesAt}
 use Rattle.refusal.specs.declared.Part.{Part}
-use Rattle.bencode.specs.Value.{Value, Items, Entries, str, int, list, dict, none, item, empty}
+use Rattle.bencode.specs.Value.{Value, Items, Entries, str, int, list, dict, none, item}
 use Rattle.bencode.specs.Exact.{Fine}
-use Rattle.walk.specs.Has.{Has}
+use Rattle.bencode_walk.specs.Has.{Has}
 use Rattle.tracker.specs.Keys.{failureReason, interval, peers, ip, peerId, port}
-use Rattle.tracker.specs.Entries.{PeerEntry, packed, listed}
+use Rattle.tracker.specs.Entries.{PeerEntry, listed}
 use Rattle.tracker.specs.Reply.{Answer, failure, compact, listing, sixes, replyOf}
 
 -- a peer of a list

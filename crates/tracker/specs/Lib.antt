@@ -1,3 +1,4 @@
+-- The definitions, a file for each subject.
 pub mod Keys
 pub mod Entries
 pub mod Reply

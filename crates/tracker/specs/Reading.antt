@@ -8,10 +8,10 @@ use lib.ListN.{length}
 use Rattle.refusal.specs.Paper.{Outcome, taken, refused, refusal, map, then}
 use Rattle.refusal.specs.Numbers.{kind, peer, beyond}
 use Rattle.refusal.specs.Limits.{longestInterval}
-use Rattle.walk.specs.Walk.{Head, string, integer, long, list, dictionary, end, lookOf, Hit, found, missing}
-use Rattle.fields.specs.Looks.{stringOf, naturalOf, dictionaryOf, needed, soughtFrom, soughtAfter}
+use Rattle.bencode_walk.specs.Walk.{Head, string, integer, long, list, dictionary, end, lookOf, Hit, found, missing}
+use Rattle.bencode_fields.specs.Looks.{stringOf, naturalOf, dictionaryOf, needed, soughtFrom, soughtAfter}
 use Rattle.tracker.specs.Keys.{failureReason, interval, peers}
-use Rattle.tracker.specs.Entries.{PeerEntry, packed, listed, PeerStep, packedAt, countFrom, nthAt}
+use Rattle.tracker.specs.Entries.{PeerEntry, packed, listed, packedAt, countFrom, nthAt}
 use Rattle.tracker.specs.Reply.{Answer, failure, compact, listing}
 use Rattle.tracker.specs.declared.Reply.{Reply}
 use Rattle.tracker.specs.declared.Reply.the-variants.{Failure, Compact, List as Listing, Refused}

@@ -11,9 +11,9 @@ use Rattle.refusal.specs.Limits.{longestInterval, largestPort}
 use Rattle.refusal.specs.declared.Part.{Part}
 use Rattle.bencode.specs.Value.{Value, Items, Entries, str, int, list, dict, none, item, encode}
 use Rattle.bencode.specs.Decode.{decode}
-use Rattle.walk.specs.Lookup.{Under, nothing, under, lookup}
-use Rattle.fields.specs.Values.{partOf, stringAt, naturalAt, dictionaryAt, must}
-use Rattle.fields.specs.Nth.{nth}
+use Rattle.bencode_walk.specs.Lookup.{Under, nothing, under, lookup}
+use Rattle.bencode_fields.specs.Values.{partOf, stringAt, naturalAt, dictionaryAt, must}
+use Rattle.bencode_fields.specs.Nth.{nth}
 use Rattle.tracker.specs.Keys.{failureReason, interval, peers, ip, peerId, port}
 use Rattle.tracker.specs.Entries.{PeerEntry, packed, listed, packedOf, idLength}
 use Rattle.tracker.specs.declared.listed.Listed.{Listed}

@@ -1,6 +1,6 @@
 -- Compact replies as they are written. Assumes nothing: these are definitions.
 use mathlib.Core.Bool.{cond}
-use mathlib.Core.List.{List, [], _∷_, _++_}
+use mathlib.Core.List.{List}
 use Prim.Native.Nat.{ℕ, _%_}
 use lib.Dec.{ltb}
 use lib.IntN.{pos}
@@ -8,8 +8,8 @@ use lib.ListN.{length}
 use Rattle.refusal.specs.Paper.{refused}
 use Rattle.refusal.specs.Numbers.{long, range, peer}
 use Rattle.refusal.specs.Limits.{mostText, longestInterval}
-use Rattle.bencode.specs.Value.{Value, Entries, str, int, dict, empty, entry, encode}
-use Rattle.writer.specs.Put.{Left, left, putOf}
+use Rattle.bencode.specs.Value.{Value, str, int, dict, empty, entry, encode}
+use Rattle.bencode_writer.specs.Put.{Left, left, putOf}
 use Rattle.tracker.specs.Keys.{interval, peers}
 
 -- the reply with n seconds to wait and the entries bs: interval and peers, and no other key

@@ -2,15 +2,16 @@
 ghost use mathlib.Core.Path.{_≡_};
 ghost use Rattle.refusal.specs.Numbers.{beyond};
 ghost use Rattle.refusal.specs.Paper.{then, map};
-ghost use Rattle.fields.specs.Looks.{dictionaryOf};
 ghost use Rattle.tracker.specs.Reply.{counted, replyOf, nthOf, compact, listing};
 ghost use Rattle.tracker.specs.Reading.{paper, entryCount, peerPaper, wholeOf, topOf, failureOf, answeredOf, peersOf, compactOf, listingOf, entryAt};
 use bencode::Checked;
+use bencode_fields::Bytes;
+use bencode_fields::Inside;
+use bencode_fields::Natural;
+use bencode_walk::Seen;
+use bencode_walk::Sought;
 use compact::Packed;
 use compact::Packing;
-use fields::Bytes;
-use fields::Inside;
-use fields::Natural;
 use listed::Counted;
 use listed::Listed;
 use listed::Listing;
@@ -18,8 +19,6 @@ use refusal::Part;
 use refusal::Refusal;
 use refusal::limit;
 use refusal::number;
-use walk::Seen;
-use walk::Sought;
 
 pub mod compact;
 pub mod listed;
@@ -87,7 +86,7 @@ pub fn entries(reply: Reply) -> usize
 fn whole(text: &[u8]) -> Reply
     ensures { λ r. ⌜ paper r ≡ wholeOf (now (text .entry)) ⌝ }
 {
-    match fields::dictionary_at(text, 0) {
+    match bencode_fields::dictionary_at(text, 0) {
         Inside::At(first) => top(text, first),
         Inside::None(r) => Reply::Refused(r),
     }
@@ -97,7 +96,7 @@ fn whole(text: &[u8]) -> Reply
 fn top(text: &[u8], first: usize) -> Reply
     ensures { λ r. ⌜ paper r ≡ topOf (now (text .entry)) first ⌝ }
 {
-    match walk::seek(text, first, b"failure reason") {
+    match bencode_walk::seek(text, first, b"failure reason") {
         Sought::Found(_, value) => failure(text, value),
         Sought::Missing(at) => answered(text, at),
         Sought::Unread(r) => Reply::Refused(r),
@@ -107,7 +106,7 @@ fn top(text: &[u8], first: usize) -> Reply
 fn failure(text: &[u8], at: usize) -> Reply
     ensures { λ r. ⌜ paper r ≡ failureOf (now (text .entry)) at ⌝ }
 {
-    match fields::string_at(text, at) {
+    match bencode_fields::string_at(text, at) {
         Bytes::Are(reason) => Reply::Failure(reason),
         Bytes::Unread(r) => Reply::Refused(r),
     }
@@ -116,9 +115,9 @@ fn failure(text: &[u8], at: usize) -> Reply
 fn answered(text: &[u8], at: usize) -> Reply
     ensures { λ r. ⌜ paper r ≡ answeredOf (now (text .entry)) at ⌝ }
 {
-    let intervals = walk::seek(text, at, b"interval");
-    let peers = fields::seek_after(text, intervals, b"peers");
-    match fields::natural_under(text, 0, intervals, limit::INTERVAL as u64) {
+    let intervals = bencode_walk::seek(text, at, b"interval");
+    let peers = bencode_fields::seek_after(text, intervals, b"peers");
+    match bencode_fields::natural_under(text, 0, intervals, limit::INTERVAL as u64) {
         Natural::Is(interval) => match peers {
             Sought::Found(_, value) => peers_at(text, value, interval),
             Sought::Missing(_) => refused(number::KIND, 0),
@@ -131,7 +130,7 @@ fn answered(text: &[u8], at: usize) -> Reply
 fn peers_at(text: &[u8], at: usize, interval: u64) -> Reply
     ensures { λ r. ⌜ paper r ≡ peersOf (now (text .entry)) interval at ⌝ }
 {
-    match walk::look(text, at) {
+    match bencode_walk::look(text, at) {
         Seen::String(p, _) => packed_peers(p, at, interval),
         Seen::List(first) => listed_peers(text, first, interval),
         Seen::Refused(r) => Reply::Refused(r),

@@ -1,20 +1,20 @@
 // Entries that are dictionaries of a list: peer id, ip and port.
 ghost use mathlib.Core.Path.{_≡_};
-ghost use Prim.Native.Nat.{ℕ, suc};
+ghost use Prim.Native.Nat.{suc};
 ghost use lib.ListN.{length};
 ghost use Rattle.refusal.specs.Numbers.{peer};
-ghost use Rattle.walk.specs.Walk.{seekPaper};
-ghost use Rattle.fields.specs.Looks.{needed, stringPaper};
+ghost use Rattle.bencode_walk.specs.Walk.{seekPaper};
+ghost use Rattle.bencode_fields.specs.Looks.{needed, stringPaper};
 ghost use Rattle.tracker.specs.Entries.{idOf, listedPaper, peerBy, pastPeer, listedAt, countPaper, countFrom, nthAt};
-use fields::Bytes;
-use fields::Inside;
-use fields::Natural;
+use bencode_fields::Bytes;
+use bencode_fields::Inside;
+use bencode_fields::Natural;
+use bencode_walk::Past;
+use bencode_walk::Sought;
 use refusal::Part;
 use refusal::Refusal;
 use refusal::limit;
 use refusal::number;
-use walk::Past;
-use walk::Sought;
 
 // An entry of a list: where its peer id and its ip stand, and the port.
 pub struct Listed {
@@ -39,7 +39,7 @@ pub enum Counted {
 pub fn listed_at(text: &[u8], at: usize) -> Listing
     ensures { λ r. ⌜ listedPaper r ≡ listedAt (now (text .entry)) at ⌝ }
 {
-    match fields::dictionary_at(text, at) {
+    match bencode_fields::dictionary_at(text, at) {
         Inside::At(first) => peer_in(text, at, first),
         Inside::None(r) => Listing::Not(r),
     }
@@ -73,7 +73,7 @@ pub fn nth(text: &[u8], first: usize, n: usize) -> Listing
     let mut at = first;
     let mut left = n;
     while 0 < left {
-        match walk::skip(text, at) {
+        match bencode_walk::skip(text, at) {
             Past::To(next) => {
                 at = next;
                 left -= 1;
@@ -88,12 +88,17 @@ pub fn nth(text: &[u8], first: usize, n: usize) -> Listing
 fn peer_in(text: &[u8], at: usize, first: usize) -> Listing
     ensures { λ r. ⌜ listedPaper r ≡ peerBy (now (text .entry)) at first ⌝ }
 {
-    let ips = walk::seek(text, first, b"ip");
-    let ids = fields::seek_after(text, ips, b"peer id");
-    let ports = fields::seek_after(text, ids, b"port");
+    let ips = bencode_walk::seek(text, first, b"ip");
+    let ids = bencode_fields::seek_after(text, ips, b"peer id");
+    let ports = bencode_fields::seek_after(text, ids, b"port");
     match id_under(text, at, ids) {
-        Bytes::Are(id) => match fields::string_under(text, at, ips) {
-            Bytes::Are(ip) => match fields::natural_under(text, at, ports, limit::PORT as u64) {
+        Bytes::Are(id) => match bencode_fields::string_under(text, at, ips) {
+            Bytes::Are(ip) => match bencode_fields::natural_under(
+                text,
+                at,
+                ports,
+                limit::PORT as u64,
+            ) {
                 Natural::Is(port) => past(text, at, Listed { id, ip, port }),
                 Natural::Not(r) => Listing::Not(r),
             },
@@ -106,7 +111,7 @@ fn peer_in(text: &[u8], at: usize, first: usize) -> Listing
 fn past(text: &[u8], at: usize, peer: Listed) -> Listing
     ensures { λ r. ⌜ listedPaper r ≡ pastPeer (now (text .entry)) at peer ⌝ }
 {
-    match walk::skip(text, at) {
+    match bencode_walk::skip(text, at) {
         Past::To(next) => Listing::Is(peer, next),
         Past::Bad(r) => Listing::Not(r),
     }
@@ -125,7 +130,7 @@ fn id_under(text: &[u8], dictionary: usize, sought: Sought) -> Bytes
 fn id_at(text: &[u8], at: usize) -> Bytes
     ensures { λ r. ⌜ stringPaper r ≡ idOf (now (text .entry)) at ⌝ }
 {
-    match fields::string_at(text, at) {
+    match bencode_fields::string_at(text, at) {
         Bytes::Are(id) => {
             if id.len == 20 {
                 return Bytes::Are(id);

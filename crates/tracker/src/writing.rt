@@ -3,12 +3,12 @@ ghost use mathlib.Core.Path.{_≡_};
 ghost use Prim.Native.Nat.{_+_, _≤_};
 ghost use lib.ListN.{length};
 ghost use lib.Seq.{sets};
-ghost use Rattle.writer.specs.Put.{paper, left};
+ghost use Rattle.bencode_writer.specs.Put.{paper, left};
 ghost use Rattle.tracker.specs.Writing.{textOf, writeOf};
+use bencode_writer::Put;
 use refusal::Refusal;
 use refusal::limit;
 use refusal::number;
-use writer::Put;
 
 // The reply with these seconds to wait and these entries, and the place past it.
 pub fn write(out: &mut [u8], interval: u64, peers: &[u8]) -> Put
@@ -24,7 +24,10 @@ pub fn write(out: &mut [u8], interval: u64, peers: &[u8]) -> Put
     if limit::TEXT < peers.len() {
         return refused(number::LONG);
     }
-    let size = writer::digits(interval) + writer::digits(peers.len() as u64) + peers.len() + 22;
+    let size = bencode_writer::digits(interval)
+        + bencode_writer::digits(peers.len() as u64)
+        + peers.len()
+        + 22;
     if limit::TEXT < size {
         return refused(number::LONG);
     }
@@ -38,11 +41,11 @@ fn put_all(out: &mut [u8], interval: u64, peers: &[u8]) -> usize
     requires { ⌜ length (textOf interval (now peers)) ≤ length (now out) ⌝ }
     ensures { λ r. ⌜ (r ≡ length (textOf interval (now (peers .entry)))) × (now (out .exit) ≡ sets (now (out .entry)) 0 (textOf interval (now (peers .entry)))) ⌝ }
 {
-    let a = writer::end(writer::literal(out, 0, b"d8:intervali"));
-    let b = writer::end(writer::decimal(out, a, interval));
-    let c = writer::end(writer::literal(out, b, b"e5:peers"));
-    let d = writer::end(writer::string(out, c, peers));
-    writer::end(writer::literal(out, d, b"e"))
+    let a = bencode_writer::end(bencode_writer::literal(out, 0, b"d8:intervali"));
+    let b = bencode_writer::end(bencode_writer::decimal(out, a, interval));
+    let c = bencode_writer::end(bencode_writer::literal(out, b, b"e5:peers"));
+    let d = bencode_writer::end(bencode_writer::string(out, c, peers));
+    bencode_writer::end(bencode_writer::literal(out, d, b"e"))
 }
 
 fn refused(number: u8) -> Put

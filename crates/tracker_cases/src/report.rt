@@ -1,5 +1,6 @@
 // A line for each text: the word that it is written as, and what `tracker` answers to it.
 use crate::words::write_out;
+use bencode_writer::Put;
 use libc::STDOUT_FILENO;
 use refusal::Part;
 use tracker::Found;
@@ -9,7 +10,6 @@ use tracker::compact::Packed;
 use tracker::compact::Packing;
 use tracker::listed::Listed;
 use tracker::listed::Listing;
-use writer::Put;
 
 // What is answered to a text that is written as a word.
 pub fn show(word: &[u8], space: &mut [u8]) {

@@ -1,12 +1,12 @@
 // Files, paths and pieces of a torrent for C.
-ghost use Rattle.metainfo.specs.Reading.{fileAt};
-ghost use Rattle.contents.specs.Files.{entryOf};
-ghost use Rattle.contents.specs.Paths.{elementOf};
-ghost use Rattle.contents.specs.Pieces.{hashOf, checkOf};
-ghost use Rattle.rows.specs.Said.{Tells};
-ghost use Rattle.rows.specs.Files.{fileDetail, walkedDetail, elementDetail, partDetail, yesDetail};
-use blocks::PieceNumber;
-use rows::files;
+ghost use Rattle.torrent_metainfo.specs.Reading.{fileAt};
+ghost use Rattle.torrent_contents.specs.Files.{entryOf};
+ghost use Rattle.torrent_contents.specs.Paths.{elementOf};
+ghost use Rattle.torrent_contents.specs.Pieces.{hashOf, checkOf};
+ghost use Rattle.wardrail_rows.specs.Said.{Tells};
+ghost use Rattle.wardrail_rows.specs.Files.{fileDetail, walkedDetail, elementDetail, partDetail, yesDetail};
+use torrent_blocks::PieceNumber;
+use wardrail_rows::files;
 
 // File number `number` of a torrent. `detail` becomes where it starts in the joined content, its length, the place of its
 // path's first element, and 1 for a single file, whose name begins at that place, or else 0; or the refusal's place.
@@ -14,7 +14,7 @@ use rows::files;
 pub extern "C" fn wardrail_file(text: &[u8], number: usize, detail: &mut [u64; 4]) -> u64
     ensures { λ r. ⌜ Tells fileDetail (entryOf (now (text .entry)) number) r (now (detail .exit)) ⌝ }
 {
-    let found = contents::file(text, number);
+    let found = torrent_contents::file(text, number);
     let d = files::file_detail(found);
     *detail = d;
     files::file_number(found)
@@ -26,7 +26,7 @@ pub extern "C" fn wardrail_file(text: &[u8], number: usize, detail: &mut [u64; 4
 pub extern "C" fn wardrail_file_at(text: &[u8], at: usize, detail: &mut [u64; 3]) -> u64
     ensures { λ r. ⌜ Tells walkedDetail (fileAt (now (text .entry)) at) r (now (detail .exit)) ⌝ }
 {
-    let filed = metainfo::file_at(text, at);
+    let filed = torrent_metainfo::file_at(text, at);
     let d = files::filed_detail(filed);
     *detail = d;
     files::filed_number(filed)
@@ -38,7 +38,7 @@ pub extern "C" fn wardrail_file_at(text: &[u8], at: usize, detail: &mut [u64; 3]
 pub extern "C" fn wardrail_element_at(text: &[u8], at: usize, detail: &mut [u64; 4]) -> u64
     ensures { λ r. ⌜ Tells elementDetail (elementOf (now (text .entry)) at) r (now (detail .exit)) ⌝ }
 {
-    let element = contents::element_at(text, at);
+    let element = torrent_contents::element_at(text, at);
     let d = files::element_detail(element);
     *detail = d;
     files::element_number(element)
@@ -49,7 +49,7 @@ pub extern "C" fn wardrail_element_at(text: &[u8], at: usize, detail: &mut [u64;
 pub extern "C" fn wardrail_piece_hash(text: &[u8], piece: u32, detail: &mut [u64; 2]) -> u64
     ensures { λ r. ⌜ Tells partDetail (hashOf (now (text .entry)) piece) r (now (detail .exit)) ⌝ }
 {
-    let hash = contents::piece_hash(text, PieceNumber(piece));
+    let hash = torrent_contents::piece_hash(text, PieceNumber(piece));
     let d = files::hash_detail(hash);
     *detail = d;
     files::hash_number(hash)
@@ -65,7 +65,7 @@ pub extern "C" fn wardrail_piece_check(
 ) -> u64
     ensures { λ r. ⌜ Tells yesDetail (checkOf (now (text .entry)) piece (now (bytes .entry))) r (now (detail .exit)) ⌝ }
 {
-    let checked = contents::check_piece(text, PieceNumber(piece), bytes);
+    let checked = torrent_contents::check_piece(text, PieceNumber(piece), bytes);
     *detail = files::checked_detail(checked);
     files::checked_number(checked)
 }

@@ -1,9 +1,9 @@
 // Frames and handshakes for C, read from the start of lent bytes.
-ghost use Rattle.wire.specs.Frames.{readOf};
-ghost use Rattle.wire.specs.Handshake.{shakeOf};
-ghost use Rattle.rows.specs.Said.{Tells};
-ghost use Rattle.rows.specs.Frames.{frameDetail, shakeDetail};
-use rows::frames;
+ghost use Rattle.peer_wire.specs.Frames.{readOf};
+ghost use Rattle.peer_wire.specs.Handshake.{shakeOf};
+ghost use Rattle.wardrail_rows.specs.Said.{Tells};
+ghost use Rattle.wardrail_rows.specs.Frames.{frameDetail, shakeDetail};
+use wardrail_rows::frames;
 
 // The frame at the start of the bytes. `detail` becomes 0 for a wait, 1 for a keepalive or 2 for another frame; how many
 // bytes it used; its id; its piece, begin and length; first byte and length of its bitfield, block or unknown payload.
@@ -12,7 +12,7 @@ use rows::frames;
 pub extern "C" fn wardrail_frame(bytes: &[u8], detail: &mut [u64; 8]) -> u64
     ensures { λ r. ⌜ Tells frameDetail (readOf (now (bytes .entry))) r (now (detail .exit)) ⌝ }
 {
-    let read = wire::read_frame(bytes);
+    let read = peer_wire::read_frame(bytes);
     let d = frames::frame_detail(read);
     *detail = d;
     frames::frame_number(read)
@@ -24,7 +24,7 @@ pub extern "C" fn wardrail_frame(bytes: &[u8], detail: &mut [u64; 8]) -> u64
 pub extern "C" fn wardrail_handshake(bytes: &[u8], info: &[u8; 20], detail: &mut [u64; 6]) -> u64
     ensures { λ r. ⌜ Tells shakeDetail (shakeOf (now (info .entry)) (now (bytes .entry))) r (now (detail .exit)) ⌝ }
 {
-    let greeting = wire::read_handshake(bytes, info);
+    let greeting = peer_wire::read_handshake(bytes, info);
     let d = frames::shake_detail(greeting);
     *detail = d;
     frames::shake_number(greeting)

@@ -1,11 +1,11 @@
 // SHA-1 of a message that comes in parts, for C. The message so far is held in six words, the hash value after its whole
 // blocks and how many bytes it has, and in 64 bytes, those after its whole blocks.
-ghost use Rattle.sha1.specs.Parts.{begun, addOf, finishOf};
-ghost use Rattle.rows.specs.Hashing.{stateOf, Holds, Digested};
-use rows::hashed_number;
-use rows::hashing::state;
-use rows::hashing::words_of;
-use sha1::stream;
+ghost use Rattle.hash_sha1.specs.Parts.{begun, addOf, finishOf};
+ghost use Rattle.wardrail_rows.specs.Hashing.{stateOf, Holds, Digested};
+use hash_sha1::stream;
+use wardrail_rows::hashed_number;
+use wardrail_rows::hashing::state;
+use wardrail_rows::hashing::words_of;
 
 // The empty message.
 #[no_mangle]
@@ -31,7 +31,7 @@ pub extern "C" fn wardrail_sha1_add(words: &mut [u32; 6], tail: &mut [u8; 64], p
     *tail = t;
 }
 
-// Writes the digest of the message; a refusal leaves `digest` as it was.
+// Writes the digest of the message; a refusal leaves `hash_digest` as it was.
 #[no_mangle]
 pub extern "C" fn wardrail_sha1_finish(
     words: &[u32; 6],

@@ -1,11 +1,11 @@
 // Texts, frames and hashes for C: each call answers a number, 0 for what is taken or else the refusal's, and leaves what else it says in what is lent.
 ghost use Rattle.bencode.specs.Answers.{checkOf};
-ghost use Rattle.sha1.specs.Digest.{digestOf};
-ghost use Rattle.rows.specs.Said.{detailOf, Tells};
-ghost use Rattle.rows.specs.Hashing.{Digested};
-use rows::check_detail;
-use rows::check_number;
-use rows::hashed_number;
+ghost use Rattle.hash_sha1.specs.Digest.{digestOf};
+ghost use Rattle.wardrail_rows.specs.Said.{detailOf, Tells};
+ghost use Rattle.wardrail_rows.specs.Hashing.{Digested};
+use wardrail_rows::check_detail;
+use wardrail_rows::check_number;
+use wardrail_rows::hashed_number;
 
 mod files;
 mod frames;
@@ -26,10 +26,10 @@ pub extern "C" fn wardrail_check(text: &[u8], detail: &mut u64) -> u64
     check_number(c)
 }
 
-// Writes the SHA-1 digest of at most 16,777,216 bytes; a refusal leaves `digest` as it was.
+// Writes the SHA-1 digest of at most 16,777,216 bytes; a refusal leaves `hash_digest` as it was.
 #[no_mangle]
 pub extern "C" fn wardrail_sha1(message: &[u8], digest: &mut [u8; 20]) -> u64
     ensures { λ r. ⌜ Digested (digestOf (now (message .entry)) (now (digest .entry))) r (now (digest .exit)) ⌝ }
 {
-    hashed_number(sha1::digest(message, digest))
+    hashed_number(hash_sha1::digest(message, digest))
 }

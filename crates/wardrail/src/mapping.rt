@@ -1,11 +1,11 @@
 // Where blocks fall, for C.
-ghost use Rattle.blocks.specs.Spans.{joinedFiles};
-ghost use Rattle.blocks.specs.Answers.{blockOf, byteOf, sizeOf, partsWritten};
-ghost use Rattle.rows.specs.Said.{detailOf, Tells};
-ghost use Rattle.rows.specs.Mapping.{spotDetail, Parted};
-use blocks::PieceNumber;
-use blocks::PieceOffset;
-use rows::mapping;
+ghost use Rattle.torrent_blocks.specs.Spans.{joinedFiles};
+ghost use Rattle.torrent_blocks.specs.Answers.{blockOf, byteOf, sizeOf, partsWritten};
+ghost use Rattle.wardrail_rows.specs.Said.{detailOf, Tells};
+ghost use Rattle.wardrail_rows.specs.Mapping.{spotDetail, Parted};
+use torrent_blocks::PieceNumber;
+use torrent_blocks::PieceOffset;
+use wardrail_rows::mapping;
 
 // Writes the parts of a block from the start of `out` on, three numbers each: file, offset in it, length. `detail` becomes
 // how many parts, or the refusal's place. A refusal leaves `out` as it was.
@@ -21,7 +21,7 @@ pub extern "C" fn wardrail_block(
 ) -> u64
     ensures { λ r. ⌜ Parted (partsWritten (blockOf (joinedFiles (now (lengths .entry))) «piece_length» piece offset count) (now (out .entry))) r (now (detail .exit)) (now (out .exit)) ⌝ }
 {
-    let parts = blocks::block(
+    let parts = torrent_blocks::block(
         lengths,
         piece_length,
         PieceNumber(piece),
@@ -44,7 +44,7 @@ pub extern "C" fn wardrail_byte(
 ) -> u64
     ensures { λ r. ⌜ Tells spotDetail (byteOf (joinedFiles (now (lengths .entry))) «piece_length» file offset) r (now (detail .exit)) ⌝ }
 {
-    let place = blocks::byte(lengths, piece_length, file, offset);
+    let place = torrent_blocks::byte(lengths, piece_length, file, offset);
     let d = mapping::place_detail(place);
     *detail = d;
     mapping::place_number(place)
@@ -60,7 +60,7 @@ pub extern "C" fn wardrail_piece_size(
 ) -> u64
     ensures { λ r. ⌜ Tells detailOf (sizeOf (joinedFiles (now (lengths .entry))) «piece_length» piece) r (now (detail .exit)) ⌝ }
 {
-    let size = blocks::piece_size(lengths, piece_length, PieceNumber(piece));
+    let size = torrent_blocks::piece_size(lengths, piece_length, PieceNumber(piece));
     *detail = mapping::size_detail(size);
     mapping::size_number(size)
 }

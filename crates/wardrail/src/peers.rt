@@ -1,9 +1,9 @@
 // An entry of a tracker's reply by its number, for C.
 ghost use Rattle.refusal.specs.Paper.{then};
 ghost use Rattle.tracker.specs.Reply.{replyOf, nthOf};
-ghost use Rattle.rows.specs.Said.{Tells};
-ghost use Rattle.rows.specs.Peers.{peerDetail};
-use rows::peers;
+ghost use Rattle.wardrail_rows.specs.Said.{Tells};
+ghost use Rattle.wardrail_rows.specs.Peers.{peerDetail};
+use wardrail_rows::peers;
 
 // Entry number `number` of a reply. `detail` becomes 2, its four bytes of address and its port; or 3, first byte and
 // length of its peer id and of its ip, and its port; or the refusal's place.

@@ -2,9 +2,9 @@
 ghost use Rattle.refusal.specs.Paper.{map};
 ghost use Rattle.tracker.specs.Reply.{replyOf, counted};
 ghost use Rattle.tracker.specs.Entries.{listedAt, packedAt};
-ghost use Rattle.rows.specs.Said.{Tells};
-ghost use Rattle.rows.specs.Replies.{replyDetail, entryDetail};
-use rows::replies;
+ghost use Rattle.wardrail_rows.specs.Said.{Tells};
+ghost use Rattle.wardrail_rows.specs.Replies.{replyDetail, entryDetail};
+use wardrail_rows::replies;
 
 // Reads a tracker's reply. `detail` becomes 1 with the first byte and the length of a failure reason; or 2 for entries of
 // six bytes or 3 for a list, the seconds to wait, how many entries, and the place of the first; or the refusal's place.

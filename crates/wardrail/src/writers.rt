@@ -1,15 +1,15 @@
 // Writers for C, each at the start of `out`. `detail` becomes how many bytes were written, or the refusal's place.
 // A refusal leaves `out` as it was, and what is past the written part stays.
 ghost use mathlib.Core.List.{_∷_};
-ghost use Rattle.writer.specs.Put.{putOf};
-ghost use Rattle.wire.specs.Message.{keepalive, encode};
-ghost use Rattle.wire.specs.Frames.{writeOf as frameOf};
-ghost use Rattle.wire.specs.Handshake.{handshake, zeros};
+ghost use Rattle.bencode_writer.specs.Put.{putOf};
+ghost use Rattle.peer_wire.specs.Message.{keepalive, encode};
+ghost use Rattle.peer_wire.specs.Frames.{writeOf as frameOf};
+ghost use Rattle.peer_wire.specs.Handshake.{handshake, zeros};
 ghost use Rattle.tracker.specs.Writing.{writeOf as replyTextOf};
-ghost use Rattle.authoring.specs.Writing.{fields, sizeOf, writeOf as torrentTextOf};
-ghost use Rattle.rows.specs.Said.{detailOf, Tells};
-ghost use Rattle.rows.specs.Writers.{Wrote};
-use rows::writers;
+ghost use Rattle.torrent_authoring.specs.Writing.{fields, sizeOf, writeOf as torrentTextOf};
+ghost use Rattle.wardrail_rows.specs.Said.{detailOf, Tells};
+ghost use Rattle.wardrail_rows.specs.Writers.{Wrote};
+use wardrail_rows::writers;
 
 // A frame of any id and payload.
 #[no_mangle]
@@ -21,7 +21,7 @@ pub extern "C" fn wardrail_write_frame(
 ) -> u64
     ensures { λ r. ⌜ Wrote (frameOf (id ∷ now (payload .entry)) (now (out .entry))) r (now (detail .exit)) (now (out .exit)) ⌝ }
 {
-    let put = wire::write::raw(out, id, payload);
+    let put = peer_wire::write::raw(out, id, payload);
     *detail = writers::put_detail(put);
     writers::put_number(put)
 }
@@ -31,7 +31,7 @@ pub extern "C" fn wardrail_write_frame(
 pub extern "C" fn wardrail_write_keepalive(out: &mut [u8], detail: &mut u64) -> u64
     ensures { λ r. ⌜ Wrote (putOf (encode keepalive) 0 (now (out .entry))) r (now (detail .exit)) (now (out .exit)) ⌝ }
 {
-    let put = wire::write::keepalive(out);
+    let put = peer_wire::write::keepalive(out);
     *detail = writers::put_detail(put);
     writers::put_number(put)
 }
@@ -46,7 +46,7 @@ pub extern "C" fn wardrail_write_handshake(
 ) -> u64
     ensures { λ r. ⌜ Wrote (putOf (handshake zeros (now (info .entry)) (now (peer .entry))) 0 (now (out .entry))) r (now (detail .exit)) (now (out .exit)) ⌝ }
 {
-    let put = wire::write::handshake(out, info, peer);
+    let put = peer_wire::write::handshake(out, info, peer);
     *detail = writers::put_detail(put);
     writers::put_number(put)
 }
@@ -64,7 +64,7 @@ pub extern "C" fn wardrail_write_torrent(
 ) -> u64
     ensures { λ r. ⌜ Wrote (torrentTextOf (fields (now (announce .entry)) (now (name .entry)) «piece_length» (now (pieces .entry)) length) (now (out .entry))) r (now (detail .exit)) (now (out .exit)) ⌝ }
 {
-    let put = authoring::write(out, announce, name, piece_length, pieces, length);
+    let put = torrent_authoring::write(out, announce, name, piece_length, pieces, length);
     *detail = writers::put_detail(put);
     writers::put_number(put)
 }
@@ -81,7 +81,7 @@ pub extern "C" fn wardrail_torrent_size(
 ) -> u64
     ensures { λ r. ⌜ Tells detailOf (sizeOf (fields (now (announce .entry)) (now (name .entry)) «piece_length» (now (pieces .entry)) length)) r (now (detail .exit)) ⌝ }
 {
-    let sized = authoring::size(announce, name, piece_length, pieces, length);
+    let sized = torrent_authoring::size(announce, name, piece_length, pieces, length);
     *detail = writers::sized_detail(sized);
     writers::sized_number(sized)
 }

@@ -3,15 +3,15 @@
 ghost use mathlib.Core.Path.{_≡_};
 ghost use lib.ListN.{length};
 ghost use lib.Seq.{sets};
-ghost use Rattle.tables.specs.Tables.{yardOf};
-ghost use Rattle.tables.specs.Step.{Call, step, written};
-ghost use Rattle.telling.specs.Telling.{Steps, Tells, Looks, Shows};
-use tables::Head;
-use tables::Seat;
-use telling::Told;
-use telling::code;
-use telling::shown;
-use telling::tell;
+ghost use Rattle.yard_tables.specs.Tables.{yardOf};
+ghost use Rattle.yard_tables.specs.Step.{Call, step, written};
+ghost use Rattle.yard_telling.specs.Telling.{Steps, Tells, Looks, Shows};
+use yard_tables::Head;
+use yard_tables::Seat;
+use yard_telling::Told;
+use yard_telling::code;
+use yard_telling::shown;
+use yard_telling::tell;
 
 // A yard of so many pieces starts.
 #[no_mangle]

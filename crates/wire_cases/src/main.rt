@@ -1,4 +1,4 @@
-// What the readers and writers of `wire` answer to each line of a table, the file stdin, held to the file stdout. A line is one of
+// What the readers and writers of `peer_wire` answer to each line of a table, the file stdin, held to the file stdout. A line is one of
 //   id ID length LENGTH: a frame that is read whole and cut after every byte
 //   keepalive ROOM, plain ROOM ID, have ROOM INDEX, request ROOM INDEX BEGIN LENGTH, cancel ROOM INDEX BEGIN LENGTH,
 //   bitfield ROOM PAYLOAD, piece ROOM INDEX BEGIN PAYLOAD, raw ROOM ID PAYLOAD, handshake ROOM: a writer, into so many bytes

@@ -2,9 +2,9 @@
 ghost use Prim.Native.Nat.{_≤_};
 use crate::report;
 use crate::words;
+use peer_wire::Greeting;
+use peer_wire::Read;
 use refusal::big_endian;
-use wire::Greeting;
-use wire::Read;
 
 // A frame that names a length, has an id, and goes on with its places' own numbers.
 pub fn frame(line: &[u8], space: &mut [u8]) {
@@ -42,7 +42,7 @@ fn cuts(bytes: &[u8], shake: bool) {
 }
 
 fn greeted(bytes: &[u8]) -> Greeting {
-    wire::read_handshake(bytes, &[7u8; 20])
+    peer_wire::read_handshake(bytes, &[7u8; 20])
 }
 
 // How many of the cuts, from no byte to all but one, are waits.
@@ -66,7 +66,7 @@ fn wait_at(bytes: &[u8], shake: bool) -> usize
         }
         return 0;
     }
-    if let Read::Wait = wire::read_frame(bytes) {
+    if let Read::Wait = peer_wire::read_frame(bytes) {
         return 1;
     }
     0

@@ -1,12 +1,12 @@
 // Words and numbers of an answer.
 use crate::words;
+use bencode_writer::Put;
 use libc::STDOUT_FILENO;
+use peer_wire::Frame;
+use peer_wire::Greeting;
+use peer_wire::Read;
 use refusal::Part;
 use refusal::Refusal;
-use wire::Frame;
-use wire::Greeting;
-use wire::Read;
-use writer::Put;
 
 // The numbers of the words that are no frame's.
 const KEEPALIVE: usize = 10;
@@ -73,7 +73,7 @@ fn refused(r: Refusal) {
 
 // What the bytes begin with.
 pub fn read(bytes: &[u8]) {
-    match wire::read_frame(bytes) {
+    match peer_wire::read_frame(bytes) {
         Read::Wait => name(WAIT),
         Read::Keepalive(used) => keepalive(used),
         Read::Whole(f, used) => whole(f, used),

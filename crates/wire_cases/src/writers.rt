@@ -2,8 +2,8 @@
 use crate::report;
 use crate::words;
 use crate::words::number;
-use wire::write;
-use writer::Put;
+use bencode_writer::Put;
+use peer_wire::write;
 
 pub fn one(line: &[u8], first: u8, fourth: u8, space: &mut [u8], run: &mut [u8]) {
     let n = words::payload(run, line, length_at(first));

@@ -8,27 +8,27 @@ use borrow.Author.Tests.{leb-true}
 use lib.Dec.{eqb, leb}
 use lib.ListN.{length, getD, set, replicate}
 use lib.Seq.{sets}
-use Rattle.tables.specs.Seats.{cleared, weChoke, weWant, counted}
-use Rattle.tables.specs.Tables.{Yard, Said, listed, Around, Turn, Out, paper, around, turn, refuse, says, sizesFit, yardOf, out, atSeat}
-use Rattle.tables.specs.Frames.{feedOf}
-use Rattle.tables.specs.Seating.{startOf, lowestFree, sitOf, leaveOf, markOf}
-use Rattle.tables.specs.Looks.{pageOf, linesOf, scarcestOf, seatOf, hasOf, countOf}
-use Rattle.tables.specs.Step.{Call, start, sit, leave, feed, choke, interest, missing, scarcest, look, has, count, step, chokeFrame, interestFrame, ifTaken, writes, written}
+use Rattle.yard_tables.specs.Seats.{cleared, weChoke, weWant, counted}
+use Rattle.yard_tables.specs.Tables.{Yard, listed, Around, Turn, Out, paper, around, turn, refuse, says, sizesFit, yardOf, out, atSeat}
+use Rattle.yard_tables.specs.Frames.{feedOf}
+use Rattle.yard_tables.specs.Seating.{startOf, lowestFree, sitOf, leaveOf, markOf}
+use Rattle.yard_tables.specs.Looks.{pageOf, linesOf, scarcestOf, seatOf, hasOf, countOf}
+use Rattle.yard_tables.specs.Step.{start, sit, leave, feed, choke, interest, missing, scarcest, look, has, count, step, chokeFrame, interestFrame, ifTaken, written}
 use Rattle.refusal.specs.Numbers.{seat, sizes}
 use Rattle.refusal.specs.Limits.{mostSeats}
-use Rattle.tables.proofs.Sizing.{fitting}
+use Rattle.yard_tables.proofs.Sizing.{fitting}
 use Rattle.yard.proofs.Heard.{head-same}
-use Rattle.tables.specs.declared.Page.{Page}
-use Rattle.scans.specs.declared.Asked.{Asked}
-use Rattle.scans.specs.Pages.{asLines}
-use Rattle.scans.proofs.Passes.{lines-are}
+use Rattle.yard_tables.specs.declared.Page.{Page}
+use Rattle.yard_scans.specs.declared.Asked.{Asked}
+use Rattle.yard_scans.specs.Pages.{asLines}
+use Rattle.yard_scans.proofs.Passes.{lines-are}
 use Rattle.yard.specs.Pages.{pageFault, answerOf}
-use Rattle.tables.specs.declared.Head.{Head}
-use Rattle.tables.specs.declared.Seat.{Seat}
-use Rattle.tables.specs.declared.Stepped.{Stepped}
-use Rattle.tables.specs.declared.Answer.{Answer}
-use Rattle.seating.specs.declared.Begun.{Begun}
-use Rattle.seating.specs.Steps.{begun}
+use Rattle.yard_tables.specs.declared.Head.{Head}
+use Rattle.yard_tables.specs.declared.Seat.{Seat}
+use Rattle.yard_tables.specs.declared.Stepped.{Stepped}
+use Rattle.yard_tables.specs.declared.Answer.{Answer}
+use Rattle.yard_seating.specs.declared.Begun.{Begun}
+use Rattle.yard_seating.specs.Steps.{begun}
 
 -- the tables at entry, and what the step leaves
 module _ (h : Head) (seats : List Seat) (rows holders : List ℕ) where

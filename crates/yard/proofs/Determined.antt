@@ -1,18 +1,18 @@
 -- What the contracts permit: one answer and one content of all that is lent, and nothing changed by a refusal or a wait. Assumes nothing.
 -- The laws are stated at any call, so they serve each function: `out ..` is what a call that may change the tables ensures, `paper ..` what a look
 -- ensures, and `sets .. (written ..)` what is ensured of a lent frame or page.
-use mathlib.Core.Path.{_≡_, refl, sym, ap, subst, _∙_}
+use mathlib.Core.Path.{_≡_, sym, ap, subst, _∙_}
 use mathlib.Core.List.{List}
 use Prim.Native.Nat.{ℕ}
 use lib.Seq.{sets}
 use Rattle.refusal.specs.Paper.{Outcome, refused}
-use Rattle.tables.proofs.Keeping.{Unused, step-keeps}
-use Rattle.tables.proofs.Telling.{paper-tells, out-tells}
-use Rattle.tables.specs.Tables.{Yard, Said, Out, paper, out, yardOf}
-use Rattle.tables.specs.Step.{Call, step, writes, ifTaken, written}
-use Rattle.tables.specs.declared.Head.{Head}
-use Rattle.tables.specs.declared.Seat.{Seat}
-use Rattle.tables.specs.declared.Answer.{Answer}
+use Rattle.yard_tables.proofs.Keeping.{Unused, step-keeps}
+use Rattle.yard_tables.proofs.Telling.{paper-tells, out-tells}
+use Rattle.yard_tables.specs.Tables.{Yard, Said, Out, paper, out, yardOf}
+use Rattle.yard_tables.specs.Step.{Call, step, writes, ifTaken, written}
+use Rattle.yard_tables.specs.declared.Head.{Head}
+use Rattle.yard_tables.specs.declared.Seat.{Seat}
+use Rattle.yard_tables.specs.declared.Answer.{Answer}
 
 module _ (c : Call) (y : Yard) where
   pub call-determined : (a b : Answer) (h h′ : Head) (seats seats′ : List Seat) (rows rows′ holders holders′ : List ℕ) → out a h seats rows holders ≡ step c y → out b h′ seats′ rows′ holders′ ≡ step c y

@@ -6,8 +6,8 @@ use borrow.Author.Tests.{le-leb, lt-leb}
 use lib.Dec.{leb}
 use Rattle.refusal.specs.Numbers.{seat, sizes}
 use Rattle.refusal.proofs.Cases.{pick-yes, pick-no}
-use Rattle.tables.specs.Tables.{sizesFit}
-use Rattle.tables.specs.declared.Head.{Head}
+use Rattle.yard_tables.specs.Tables.{sizesFit}
+use Rattle.yard_tables.specs.declared.Head.{Head}
 use Rattle.yard.specs.Pages.{pageFault}
 
 module _ (h : Head) (n rows holders first : ℕ) (b : Bool) (e : b ≡ sizesFit h n rows holders) where

@@ -6,12 +6,12 @@ use Prim.Native.Nat.{ℕ}
 use lib.Dec.{eqb, ltb}
 use lib.ListN.{length}
 use Rattle.refusal.specs.Paper.{Outcome, taken, refused}
-use Rattle.wire.specs.Message.{Message, keepalive, choke, unchoke, interested, notInterested, have, bitfield, request, piece, cancel, other}
-use Rattle.wire.specs.Frames.{Found, wait, found, readOf, meant}
-use Rattle.tables.specs.Rows.{width, bitAt, withBit, withBits}
-use Rattle.tables.specs.Seats.{counted}
-use Rattle.tables.specs.Tables.{Said, Around, Turn, sizesFit}
-use Rattle.tables.specs.Frames.{overTop, announced, announce, haveOf, spareSet, bitfieldOf, blockFits, blockOf, messageOf, frameOf, feedOf}
+use Rattle.peer_wire.specs.Message.{Message, keepalive, choke, unchoke, interested, notInterested, have, bitfield, request, piece, cancel, other}
+use Rattle.peer_wire.specs.Frames.{Found, wait, found, readOf, meant}
+use Rattle.yard_tables.specs.Rows.{width, bitAt, withBit, withBits}
+use Rattle.yard_tables.specs.Seats.{counted}
+use Rattle.yard_tables.specs.Tables.{Said, Around, Turn, sizesFit}
+use Rattle.yard_tables.specs.Frames.{overTop, announced, announce, haveOf, spareSet, bitfieldOf, blockFits, blockOf, messageOf, frameOf, feedOf}
 
 -- the head after a turn is the head before it with the seats complete
 pub record Same (x : Around) (t : Turn) : Type 0 where

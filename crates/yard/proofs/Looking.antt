@@ -6,11 +6,11 @@ use lib.Dec.{ltb, leb}
 use lib.ListN.{length, getD, set}
 use lib.Seq.{set-getD}
 use Rattle.refusal.proofs.Cases.{by-test}
-use Rattle.tables.specs.Seats.{cleared}
-use Rattle.tables.specs.Tables.{Yard, Around, Turn, around, sizesFit, sized, yardOf, atSeat}
-use Rattle.tables.specs.Looks.{missingOf, scarcestOf, seatOf, hasOf, countOf}
-use Rattle.tables.specs.Step.{missing, scarcest, look, has, count, step}
-use Rattle.tables.specs.declared.Seat.{Seat}
+use Rattle.yard_tables.specs.Seats.{cleared}
+use Rattle.yard_tables.specs.Tables.{Yard, Around, Turn, around, sizesFit, sized, yardOf, atSeat}
+use Rattle.yard_tables.specs.Looks.{missingOf, scarcestOf, seatOf, hasOf, countOf}
+use Rattle.yard_tables.specs.Step.{missing, scarcest, look, has, count, step}
+use Rattle.yard_tables.specs.declared.Seat.{Seat}
 
 module _ (x : Around) where
   abbrev Same : Turn → Type 0

@@ -6,11 +6,11 @@ ghost use lib.ListN.{length};
 ghost use Rattle.yard.specs.Pages.{pageFault, answerOf};
 use refusal::Refusal;
 use refusal::number;
-use scans::Asked;
-use tables::Answer;
-use tables::Head;
-use tables::Page;
-use tables::sizes;
+use yard_scans::Asked;
+use yard_tables::Answer;
+use yard_tables::Head;
+use yard_tables::Page;
+use yard_tables::sizes;
 
 // The number of the refusal of a page from a first seat on, and 0 where there is none.
 pub fn fault(h: Head, n: usize, rows: &[u8], holders: &[u16], first: usize) -> u8

@@ -1,4 +1,5 @@
-use mathlib.Core.Path.{_≡_, refl, sym, ap, _∙_}
+-- `bencode::+dictionary+list+value` meets its contract. Assumes nothing.
+use mathlib.Core.Path.{sym, ap, _∙_}
 use Prim.Native.Nat.{ℕ, _+_, _-_, _*_, _<_}
 use native.Mathlib.Omega.{arith}
 use borrow.Author.Needs.{needs}
@@ -23,7 +24,7 @@ use Rattle.bencode.proofs.next_key.Reads as next-key-reads
 use Rattle.bencode.proofs.passed.Reads as passed-reads
 use Rattle.bencode.proofs.same.Reads as same-reads
 use Rattle.bencode.proofs.string.Reads as string-reads
-use Rattle.scalar.proofs.digit.Reads as digit-reads
+use Rattle.bencode_scalar.proofs.digit.Reads as digit-reads
 use Rattle.bencode.proofs.+dictionary+list+value.{statement}
 use Rattle.bencode.proofs.+dictionary+list+value.Tie.{close}
 
@@ -71,79 +72,60 @@ dictionary-Inv-loop text levels at₀ count₀ before₀ at count before = DictT
 abbrev dictionary-μ-loop : dictionary-lts.MeasureT-loop
 dictionary-μ-loop text levels at₀ count₀ before₀ at count before = length text - at
 
--- src/lib.rt:121:5
 dictionary-loop-holds : (t : ℕ) → dictionary-lts.Need-loop-holds (dictionary-calls t) (dictionary-at t) dictionary.Post dictionary-Inv-loop dictionary-μ-loop
 dictionary-loop-holds t c = dict-start _ _ _ _
 
--- src/lib.rt:122:12
 dictionary-shared-slice-read-if1 : (t : ℕ) → dictionary-lts.Need-shared-slice-read-if1 (dictionary-calls t) (dictionary-at t) dictionary.Post dictionary-Inv-loop dictionary-μ-loop
 dictionary-shared-slice-read-if1 t c = omega arith
 
--- src/lib.rt:123:27
 dictionary-add-passed : (t : ℕ) → dictionary-lts.Need-add-passed (dictionary-calls t) (dictionary-at t) dictionary.Post dictionary-Inv-loop dictionary-μ-loop
 dictionary-add-passed t c = omega arith
 
--- src/lib.rt:123:13
 dictionary-passed-requires : (t : ℕ) → dictionary-lts.Need-passed-requires (dictionary-calls t) (dictionary-at t) dictionary.Post dictionary-Inv-loop dictionary-μ-loop
 dictionary-passed-requires t c κs = search needs
 
--- src/lib.rt:123:13
 dictionary-returns : (t : ℕ) → dictionary-lts.Need-returns (dictionary-calls t) (dictionary-at t) dictionary.Post dictionary-Inv-loop dictionary-μ-loop
 dictionary-returns t c = c .passed .ensures ∙ dict-close (c .before .before .before .before .before .before .args .text .now) (c .before .before .before .before .before .before .args .levels) (c .before .before .before .before .before .before .args .c .at) (c .before .before .before .before .before .before .args .c .count) (c .before .before .before .before .loop .at) (c .before .before .before .before .loop .count) (c .before .before .before .before .loop .before) (c .before .before .before .before .loop .inv) (omega arith) (omega arith)
 
--- src/lib.rt:125:15
 dictionary-next-key-requires : (t : ℕ) → dictionary-lts.Need-next-key-requires (dictionary-calls t) (dictionary-at t) dictionary.Post dictionary-Inv-loop dictionary-μ-loop
 dictionary-next-key-requires t c κs = c .before .before .before .loop .inv .within
 
--- src/lib.rt:126:23
 dictionary-enum-known-from : (t : ℕ) → dictionary-lts.Need-enum-known-from (dictionary-calls t) (dictionary-at t) dictionary.Post dictionary-Inv-loop dictionary-μ-loop
 dictionary-enum-known-from t c = search needs
 
--- src/lib.rt:128:25
 dictionary-add-t19 : (t : ℕ) → dictionary-lts.Need-add-t19 (dictionary-calls t) (dictionary-at t) dictionary.Post dictionary-Inv-loop dictionary-μ-loop
 dictionary-add-t19 t c = omega (arith, key-further (c .before .before .before .before .before .before .before .before .before .args .text .now) (prevOf (c .before .before .before .before .before .before .before .before .before .args .text .now) (c .before .before .before .before .before .before .before .loop .before)) (c .before .before .before .before .before .before .before .loop .at) (c .before .before .before .before .before .before .before .loop .count) (c .before .from .given .0 .0) (c .before .from .given .0 .1 .0) (omega arith) (ap (keyIs (c .before .before .before .before .before .before .before .before .before .args .text .now) (c .before .before .before .before .before .before .before .loop .count)) (sym (c .before .from .given .1)) ∙ c .before .before .before .next-key .ensures))
 
--- src/lib.rt:129:28
 dictionary-add-t20 : (t : ℕ) → dictionary-lts.Need-add-t20 (dictionary-calls t) (dictionary-at t) dictionary.Post dictionary-Inv-loop dictionary-μ-loop
 dictionary-add-t20 t c = omega (arith, key-further (c .before .before .before .before .before .before .before .before .before .args .text .now) (prevOf (c .before .before .before .before .before .before .before .before .before .args .text .now) (c .before .before .before .before .before .before .before .loop .before)) (c .before .before .before .before .before .before .before .loop .at) (c .before .before .before .before .before .before .before .loop .count) (c .before .from .given .0 .0) (c .before .from .given .0 .1 .0) (omega arith) (ap (keyIs (c .before .before .before .before .before .before .before .before .before .args .text .now) (c .before .before .before .before .before .before .before .loop .count)) (sym (c .before .from .given .1)) ∙ c .before .before .before .next-key .ensures))
 
--- src/lib.rt:131:23
 dictionary-value-requires : (t : ℕ) → dictionary-lts.Need-value-requires (dictionary-calls t) (dictionary-at t) dictionary.Post dictionary-Inv-loop dictionary-μ-loop
 dictionary-value-requires t c κs = (omega arith, tt)
 
--- src/lib.rt:132:32
 dictionary-enum-known-next : (t : ℕ) → dictionary-lts.Need-enum-known-next (dictionary-calls t) (dictionary-at t) dictionary.Post dictionary-Inv-loop dictionary-μ-loop
 dictionary-enum-known-next t c = search needs
 
--- src/lib.rt:121:5
 dictionary-loop-less : (t : ℕ) → dictionary-lts.Need-loop-less (dictionary-calls t) (dictionary-at t) dictionary.Post dictionary-Inv-loop dictionary-μ-loop
 dictionary-loop-less t c = omega (arith, dict-more (c .before .before .before .before .before .before .before .before .before .before .before .before .before .args .text .now) (c .before .before .before .before .before .before .before .before .before .before .before .before .before .args .levels) (c .before .before .before .before .before .before .before .before .before .before .before .before .before .args .c .at) (c .before .before .before .before .before .before .before .before .before .before .before .before .before .args .c .count) (c .before .before .before .before .before .before .before .before .before .before .before .loop .at) (c .before .before .before .before .before .before .before .before .before .before .before .loop .count) (c .before .before .before .before .before .before .before .before .before .before .before .loop .before) (c .before .before .before .before .before .before .before .before .before .before .before .loop .inv) (omega arith) (c .before .before .before .before .before .before .before .before .if1 .left) (c .before .before .before .before .before .from .given .0 .0) (c .before .before .before .before .before .from .given .0 .1 .0) (ap (keyIs (c .before .before .before .before .before .before .before .before .before .before .before .before .before .args .text .now) (c .before .before .before .before .before .before .before .before .before .before .before .loop .count)) (sym (c .before .before .before .before .before .from .given .1)) ∙ c .before .before .before .before .before .before .before .next-key .ensures) (c .before .next .given .0 .0) (sym (c .before .next .given .1) ∙ c .before .before .before .value .ensures) .0)
 
--- src/lib.rt:121:5
 dictionary-loop-again : (t : ℕ) → dictionary-lts.Need-loop-again (dictionary-calls t) (dictionary-at t) dictionary.Post dictionary-Inv-loop dictionary-μ-loop
 dictionary-loop-again t c = dict-more (c .before .before .before .before .before .before .before .before .before .before .before .before .before .args .text .now) (c .before .before .before .before .before .before .before .before .before .before .before .before .before .args .levels) (c .before .before .before .before .before .before .before .before .before .before .before .before .before .args .c .at) (c .before .before .before .before .before .before .before .before .before .before .before .before .before .args .c .count) (c .before .before .before .before .before .before .before .before .before .before .before .loop .at) (c .before .before .before .before .before .before .before .before .before .before .before .loop .count) (c .before .before .before .before .before .before .before .before .before .before .before .loop .before) (c .before .before .before .before .before .before .before .before .before .before .before .loop .inv) (omega arith) (c .before .before .before .before .before .before .before .before .if1 .left) (c .before .before .before .before .before .from .given .0 .0) (c .before .before .before .before .before .from .given .0 .1 .0) (ap (keyIs (c .before .before .before .before .before .before .before .before .before .before .before .before .before .args .text .now) (c .before .before .before .before .before .before .before .before .before .before .before .loop .count)) (sym (c .before .before .before .before .before .from .given .1)) ∙ c .before .before .before .before .before .before .before .next-key .ensures) (c .before .next .given .0 .0) (sym (c .before .next .given .1) ∙ c .before .before .before .value .ensures) .1
 
--- src/lib.rt:141:31
 dictionary-enum-known-r : (t : ℕ) → dictionary-lts.Need-enum-known-r (dictionary-calls t) (dictionary-at t) dictionary.Post dictionary-Inv-loop dictionary-μ-loop
 dictionary-enum-known-r t c = search needs
 
--- src/lib.rt:141:37
 dictionary-returns-2 : (t : ℕ) → dictionary-lts.Need-returns-2 (dictionary-calls t) (dictionary-at t) dictionary.Post dictionary-Inv-loop dictionary-μ-loop
 dictionary-returns-2 t c = dict-bad (c .before .before .before .before .before .before .before .before .before .before .before .before .before .args .text .now) (c .before .before .before .before .before .before .before .before .before .before .before .before .before .args .levels) (c .before .before .before .before .before .before .before .before .before .before .before .before .before .args .c .at) (c .before .before .before .before .before .before .before .before .before .before .before .before .before .args .c .count) (c .before .before .before .before .before .before .before .before .before .before .before .loop .at) (c .before .before .before .before .before .before .before .before .before .before .before .loop .count) (c .before .before .before .before .before .before .before .before .before .before .before .loop .before) (c .before .before .before .before .before .before .before .before .before .before .before .loop .inv) (omega arith) (c .before .before .before .before .before .before .before .before .if1 .left) (c .before .before .before .before .before .from .given .0 .0) (c .before .before .before .before .before .from .given .0 .1 .0) (ap (keyIs (c .before .before .before .before .before .before .before .before .before .before .before .before .before .args .text .now) (c .before .before .before .before .before .before .before .before .before .before .before .loop .count)) (sym (c .before .before .before .before .before .from .given .1)) ∙ c .before .before .before .before .before .before .before .next-key .ensures) (c .before .r .given .0 .0) (sym (c .before .r .given .1) ∙ c .before .before .before .value .ensures)
 
--- src/lib.rt:144:24
 dictionary-enum-known-r-2 : (t : ℕ) → dictionary-lts.Need-enum-known-r-2 (dictionary-calls t) (dictionary-at t) dictionary.Post dictionary-Inv-loop dictionary-μ-loop
 dictionary-enum-known-r-2 t c = search needs
 
--- src/lib.rt:144:30
 dictionary-returns-3 : (t : ℕ) → dictionary-lts.Need-returns-3 (dictionary-calls t) (dictionary-at t) dictionary.Post dictionary-Inv-loop dictionary-μ-loop
 dictionary-returns-3 t c = dict-not (c .before .before .before .before .before .before .before .before .before .args .text .now) (c .before .before .before .before .before .before .before .before .before .args .levels) (c .before .before .before .before .before .before .before .before .before .args .c .at) (c .before .before .before .before .before .before .before .before .before .args .c .count) (c .before .before .before .before .before .before .before .loop .at) (c .before .before .before .before .before .before .before .loop .count) (c .before .before .before .before .before .before .before .loop .before) (c .before .before .before .before .before .before .before .loop .inv) (omega arith) (c .before .before .before .before .if1 .left) (c .before .r2 .given .0 .0) (ap (keyIs (c .before .before .before .before .before .before .before .before .before .args .text .now) (c .before .before .before .before .before .before .before .loop .count)) (sym (c .before .r2 .given .1)) ∙ c .before .before .before .next-key .ensures)
 
--- src/lib.rt:147:5
 dictionary-bad-requires : (t : ℕ) → dictionary-lts.Need-bad-requires (dictionary-calls t) (dictionary-at t) dictionary.Post dictionary-Inv-loop dictionary-μ-loop
 dictionary-bad-requires t c κs = search needs
 
--- src/lib.rt:111:1
 dictionary-returns-4 : (t : ℕ) → dictionary-lts.Need-returns-4 (dictionary-calls t) (dictionary-at t) dictionary.Post dictionary-Inv-loop dictionary-μ-loop
 dictionary-returns-4 t c = c .bad .ensures ∙ dict-out (c .before .before .before .before .args .text .now) (c .before .before .before .before .args .levels) (c .before .before .before .before .args .c .at) (c .before .before .before .before .args .c .count) (c .before .before .loop .at) (c .before .before .loop .count) (c .before .before .loop .before) (c .before .before .loop .inv) (omega arith)
 
@@ -153,161 +135,123 @@ list-Inv-loop text levels at₀ count₀ at count = ListTurn text levels at₀ c
 abbrev list-μ-loop : list-lts.MeasureT-loop
 list-μ-loop text levels at₀ count₀ at count = length text - at
 
--- src/lib.rt:95:5
 list-loop-holds : (t : ℕ) → list-lts.Need-loop-holds (list-calls t) (list-at t) list.Post list-Inv-loop list-μ-loop
 list-loop-holds t c = list-start _ _ _ _
 
--- src/lib.rt:96:12
 list-shared-slice-read-if1 : (t : ℕ) → list-lts.Need-shared-slice-read-if1 (list-calls t) (list-at t) list.Post list-Inv-loop list-μ-loop
 list-shared-slice-read-if1 t c = omega arith
 
--- src/lib.rt:97:27
 list-add-passed : (t : ℕ) → list-lts.Need-add-passed (list-calls t) (list-at t) list.Post list-Inv-loop list-μ-loop
 list-add-passed t c = omega arith
 
--- src/lib.rt:97:13
 list-passed-requires : (t : ℕ) → list-lts.Need-passed-requires (list-calls t) (list-at t) list.Post list-Inv-loop list-μ-loop
 list-passed-requires t c κs = search needs
 
--- src/lib.rt:97:13
 list-returns : (t : ℕ) → list-lts.Need-returns (list-calls t) (list-at t) list.Post list-Inv-loop list-μ-loop
 list-returns t c = c .passed .ensures ∙ list-close (c .before .before .before .before .before .before .args .text .now) (c .before .before .before .before .before .before .args .levels) (c .before .before .before .before .before .before .args .c .at) (c .before .before .before .before .before .before .args .c .count) (c .before .before .before .before .loop .at) (c .before .before .before .before .loop .count) (c .before .before .before .before .loop .inv) (omega arith) (omega arith)
 
--- src/lib.rt:99:15
 list-value-requires : (t : ℕ) → list-lts.Need-value-requires (list-calls t) (list-at t) list.Post list-Inv-loop list-μ-loop
 list-value-requires t c κs = (omega arith, tt)
 
--- src/lib.rt:100:24
 list-enum-known-next : (t : ℕ) → list-lts.Need-enum-known-next (list-calls t) (list-at t) list.Post list-Inv-loop list-μ-loop
 list-enum-known-next t c = search needs
 
--- src/lib.rt:95:5
 list-loop-less : (t : ℕ) → list-lts.Need-loop-less (list-calls t) (list-at t) list.Post list-Inv-loop list-μ-loop
 list-loop-less t c = omega (arith, list-more (c .before .before .before .before .before .before .before .before .before .args .text .now) (c .before .before .before .before .before .before .before .before .before .args .levels) (c .before .before .before .before .before .before .before .before .before .args .c .at) (c .before .before .before .before .before .before .before .before .before .args .c .count) (c .before .before .before .before .before .before .before .loop .at) (c .before .before .before .before .before .before .before .loop .count) (c .before .before .before .before .before .before .before .loop .inv) (omega arith) (c .before .before .before .before .if1 .left) (c .before .next .given .0 .0) (sym (c .before .next .given .1) ∙ c .before .before .before .value .ensures) .0)
 
--- src/lib.rt:95:5
 list-loop-again : (t : ℕ) → list-lts.Need-loop-again (list-calls t) (list-at t) list.Post list-Inv-loop list-μ-loop
 list-loop-again t c = list-more (c .before .before .before .before .before .before .before .before .before .args .text .now) (c .before .before .before .before .before .before .before .before .before .args .levels) (c .before .before .before .before .before .before .before .before .before .args .c .at) (c .before .before .before .before .before .before .before .before .before .args .c .count) (c .before .before .before .before .before .before .before .loop .at) (c .before .before .before .before .before .before .before .loop .count) (c .before .before .before .before .before .before .before .loop .inv) (omega arith) (c .before .before .before .before .if1 .left) (c .before .next .given .0 .0) (sym (c .before .next .given .1) ∙ c .before .before .before .value .ensures) .1
 
--- src/lib.rt:104:23
 list-enum-known-r : (t : ℕ) → list-lts.Need-enum-known-r (list-calls t) (list-at t) list.Post list-Inv-loop list-μ-loop
 list-enum-known-r t c = search needs
 
--- src/lib.rt:104:29
 list-returns-2 : (t : ℕ) → list-lts.Need-returns-2 (list-calls t) (list-at t) list.Post list-Inv-loop list-μ-loop
 list-returns-2 t c = list-bad (c .before .before .before .before .before .before .before .before .before .args .text .now) (c .before .before .before .before .before .before .before .before .before .args .levels) (c .before .before .before .before .before .before .before .before .before .args .c .at) (c .before .before .before .before .before .before .before .before .before .args .c .count) (c .before .before .before .before .before .before .before .loop .at) (c .before .before .before .before .before .before .before .loop .count) (c .before .before .before .before .before .before .before .loop .inv) (c .before .r .given .0 .0) (omega arith) (c .before .before .before .before .if1 .left) (sym (c .before .r .given .1) ∙ c .before .before .before .value .ensures)
 
--- src/lib.rt:107:5
 list-bad-requires : (t : ℕ) → list-lts.Need-bad-requires (list-calls t) (list-at t) list.Post list-Inv-loop list-μ-loop
 list-bad-requires t c κs = search needs
 
--- src/lib.rt:90:1
 list-returns-3 : (t : ℕ) → list-lts.Need-returns-3 (list-calls t) (list-at t) list.Post list-Inv-loop list-μ-loop
 list-returns-3 t c = c .bad .ensures ∙ list-out (c .before .before .before .before .args .text .now) (c .before .before .before .before .args .levels) (c .before .before .before .before .args .c .at) (c .before .before .before .before .args .c .count) (c .before .before .loop .at) (c .before .before .loop .count) (c .before .before .loop .inv) (omega arith)
 
--- src/lib.rt:61:9
 value-bad-requires : (t : ℕ) → value-lts.Need-bad-requires (value-calls t) (value-at t) value.Post
 value-bad-requires t c κs = search needs
 
--- src/lib.rt:61:9
 value-returns : (t : ℕ) → value-lts.Need-returns (value-calls t) (value-at t) value.Post
 value-returns t c = c .bad .ensures ∙ ap stepOf (sym (value-out (c .before .before .before .args .text .now) (c .before .before .before .args .c .at) (c .before .before .before .args .c .count) (c .before .before .before .args .levels) (omega arith)))
 
--- src/lib.rt:63:13
 value-shared-slice-read-b : (t : ℕ) → value-lts.Need-shared-slice-read-b (value-calls t) (value-at t) value.Post
 value-shared-slice-read-b t c = search needs
 
--- src/lib.rt:64:8
 value-begins-requires : (t : ℕ) → value-lts.Need-begins-requires (value-calls t) (value-at t) value.Post
 value-begins-requires t c κs = search needs
 
--- src/lib.rt:66:13
 value-bad-requires-2 : (t : ℕ) → value-lts.Need-bad-requires-2 (value-calls t) (value-at t) value.Post
 value-bad-requires-2 t c κs = search needs
 
--- src/lib.rt:66:13
 value-returns-2 : (t : ℕ) → value-lts.Need-returns-2 (value-calls t) (value-at t) value.Post
 value-returns-2 t c = c .bad2 .ensures ∙ ap stepOf (sym (value-many (c .before .before .before .before .before .before .before .args .text .now) (c .before .before .before .before .before .before .before .args .c .at) (c .before .before .before .before .before .before .before .args .c .count) (omega arith) (c .before .before .before .before .before .before .before .args .levels) (sym (c .before .before .before .begins .ensures) ∙ c .before .before .if2 .taken) (omega arith)))
 
--- src/lib.rt:69:38
 value-add-integer : (t : ℕ) → value-lts.Need-add-integer (value-calls t) (value-at t) value.Post
 value-add-integer t c = search needs
 
--- src/lib.rt:69:13
 value-integer-requires : (t : ℕ) → value-lts.Need-integer-requires (value-calls t) (value-at t) value.Post
 value-integer-requires t c κs = search needs
 
--- src/lib.rt:69:13
 value-returns-3 : (t : ℕ) → value-lts.Need-returns-3 (value-calls t) (value-at t) value.Post
 value-returns-3 t c = c .integer .ensures ∙ value-int (c .before .before .before .before .before .before .before .before .args .text .now) (c .before .before .before .before .before .before .before .before .args .c .at) (c .before .before .before .before .before .before .before .before .args .c .count) (omega arith) (c .before .before .before .before .before .before .before .before .args .levels) (c .before .if4 .taken) (omega arith)
 
--- src/lib.rt:71:12
 value-digit-requires : (t : ℕ) → value-lts.Need-digit-requires (value-calls t) (value-at t) value.Post
 value-digit-requires t c κs = search needs
 
--- src/lib.rt:72:37
 value-add-string : (t : ℕ) → value-lts.Need-add-string (value-calls t) (value-at t) value.Post
 value-add-string t c = search needs
 
--- src/lib.rt:72:13
 value-string-requires : (t : ℕ) → value-lts.Need-string-requires (value-calls t) (value-at t) value.Post
 value-string-requires t c κs = omega arith
 
--- src/lib.rt:72:13
 value-returns-4 : (t : ℕ) → value-lts.Need-returns-4 (value-calls t) (value-at t) value.Post
 value-returns-4 t c = c .string .ensures ∙ value-str (c .before .before .before .before .before .before .before .before .before .before .args .text .now) (c .before .before .before .before .before .before .before .before .before .before .args .c .at) (c .before .before .before .before .before .before .before .before .before .before .args .c .count) (omega arith) (c .before .before .before .before .before .before .before .before .before .before .args .levels) (sym (c .before .before .digit .ensures) ∙ c .before .if5 .taken) (omega arith)
 
--- src/lib.rt:75:13
 value-bad-requires-3 : (t : ℕ) → value-lts.Need-bad-requires-3 (value-calls t) (value-at t) value.Post
 value-bad-requires-3 t c κs = search needs
 
--- src/lib.rt:75:13
 value-returns-5 : (t : ℕ) → value-lts.Need-returns-5 (value-calls t) (value-at t) value.Post
 value-returns-5 t c = c .bad3 .ensures ∙ ap stepOf (sym (value-deep (c .before .before .before .before .before .before .before .before .before .before .before .args .text .now) (c .before .before .before .before .before .before .before .before .before .before .before .args .c .at) (c .before .before .before .before .before .before .before .before .before .before .before .args .c .count) (omega arith) (c .before .before .before .before .before .before .before .before .before .before .before .args .levels) (omega arith) (kind-opens _ (sym (c .before .before .before .before .before .before .before .begins .ensures) ∙ c .before .before .before .before .before .before .if2 .taken) (c .before .before .before .before .if4 .left) (sym (c .before .before .before .digit .ensures) ∙ c .before .before .if5 .left)) (omega arith)))
 
--- src/lib.rt:78:17
 value-add-t18 : (t : ℕ) → value-lts.Need-add-t18 (value-calls t) (value-at t) value.Post
 value-add-t18 t c = search needs
 
--- src/lib.rt:79:20
 value-add-dictionary : (t : ℕ) → value-lts.Need-add-dictionary (value-calls t) (value-at t) value.Post
 value-add-dictionary t c = search needs
 
--- src/lib.rt:82:39
 value-sub-list : (t : ℕ) → value-lts.Need-sub-list (value-calls t) (value-at t) value.Post
 value-sub-list t c = search needs
 
--- src/lib.rt:82:13
 value-list-requires : (t : ℕ) → value-lts.Need-list-requires (value-calls t) (value-at t) value.Post
 value-list-requires t c κs = (omega arith, tt)
 
 value-same-requires : (t : ℕ) → value-lts.Need-same-requires (value-calls t) (value-at t) value.Post
 value-same-requires t c κs = search needs
 
--- src/lib.rt:82:13
 value-returns-6 : (t : ℕ) → value-lts.Need-returns-6 (value-calls t) (value-at t) value.Post
 value-returns-6 t c = c .same .ensures ∙ c .before .list .ensures ∙ value-list (c .before .before .before .before .before .before .before .before .before .before .before .before .before .args .text .now) (c .before .before .before .before .before .before .before .before .before .before .before .before .before .args .c .at) (c .before .before .before .before .before .before .before .before .before .before .before .before .before .args .c .count) (omega arith) (c .before .before .before .before .before .before .before .before .before .before .before .before .before .args .levels) (c .before .before .before .if6 .left) (kind-L _ (c .before .before .if7 .taken)) (omega arith)
 
--- src/lib.rt:84:41
 value-sub-dictionary : (t : ℕ) → value-lts.Need-sub-dictionary (value-calls t) (value-at t) value.Post
 value-sub-dictionary t c = search needs
 
--- src/lib.rt:84:9
 value-dictionary-requires : (t : ℕ) → value-lts.Need-dictionary-requires (value-calls t) (value-at t) value.Post
 value-dictionary-requires t c κs = (omega arith, tt)
 
 value-same-requires-2 : (t : ℕ) → value-lts.Need-same-requires-2 (value-calls t) (value-at t) value.Post
 value-same-requires-2 t c κs = search needs
 
--- src/lib.rt:84:9
 value-returns-7 : (t : ℕ) → value-lts.Need-returns-7 (value-calls t) (value-at t) value.Post
 value-returns-7 t c = c .same2 .ensures ∙ c .before .dictionary .ensures ∙ value-dict (c .before .before .before .before .before .before .before .before .before .before .before .before .before .args .text .now) (c .before .before .before .before .before .before .before .before .before .before .before .before .before .args .c .at) (c .before .before .before .before .before .before .before .before .before .before .before .before .before .args .c .count) (omega arith) (c .before .before .before .before .before .before .before .before .before .before .before .before .before .args .levels) (c .before .before .before .if6 .left) (kind-open _ (sym (c .before .before .before .before .before .before .before .before .before .begins .ensures) ∙ c .before .before .before .before .before .before .before .before .if2 .taken) (c .before .before .before .before .before .before .if4 .left) (sym (c .before .before .before .before .before .digit .ensures) ∙ c .before .before .before .before .if5 .left) (c .before .before .if7 .left)) (omega arith)
 
--- src/lib.rt:86:5
 value-bad-requires-4 : (t : ℕ) → value-lts.Need-bad-requires-4 (value-calls t) (value-at t) value.Post
 value-bad-requires-4 t c κs = search needs
 
--- src/lib.rt:55:1
 value-returns-8 : (t : ℕ) → value-lts.Need-returns-8 (value-calls t) (value-at t) value.Post
 value-returns-8 t c = c .bad4 .ensures ∙ ap stepOf (sym (value-wrong (c .before .before .before .before .before .before .args .text .now) (c .before .before .before .before .before .before .args .c .at) (c .before .before .before .before .before .before .args .c .count) (omega arith) (c .before .before .before .before .before .before .args .levels) (sym (c .before .before .begins .ensures) ∙ c .before .if2 .left)))
 

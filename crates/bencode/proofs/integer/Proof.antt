@@ -1,47 +1,34 @@
+-- `bencode::integer` meets its contract. Assumes nothing.
 use borrow.Author.Needs.{needs}
 use Rattle.bencode.proofs.Turns.{is-at, large-at, unread-at}
-use mathlib.Core.Path.{_≡_, refl, sym, ap, _∙_, subst}
+use mathlib.Core.Path.{sym, _∙_}
 use Rattle.bencode.proofs.integer.Statement.{statement}
 use Rattle.bencode.proofs.integer.Tie as tie
-use Rattle.bencode.proofs.integer.Reads as reads
-use Rattle.bencode.proofs.integer.Lts as lts
-use Rattle.bencode.proofs.bad.Reads as bad-reads
-use Rattle.bencode.proofs.passed.Reads as passed-reads
-use Rattle.scalar.proofs.integer.Reads as integer-reads
 
--- src/lib.rt:206:11
 integer-requires : tie.Need-integer-requires
 integer-requires c κs = search needs
 
--- src/lib.rt:207:20
 enum-known-next : tie.Need-enum-known-next
 enum-known-next c = search needs
 
--- src/lib.rt:207:29
 passed-requires : tie.Need-passed-requires
 passed-requires c κs = search needs
 
--- src/lib.rt:208:26
 enum-told : tie.Need-enum-told
 enum-told c = search needs
 
--- src/lib.rt:208:26
 bad-requires : tie.Need-bad-requires
 bad-requires c κs = search needs
 
--- src/lib.rt:209:21
 enum-known-r : tie.Need-enum-known-r
 enum-known-r c = search needs
 
--- src/lib.rt:203:1
 returns : tie.Need-returns
 returns c = c .passed .ensures ∙ is-at (c .before .before .before .before .before .before .args .at) (c .before .before .before .before .before .before .args .count) (c .before .before .before .before .before .before .args .text .now) _ _ (sym (c .before .before .next .given .1) ∙ c .before .before .before .before .integer .ensures (c .before .before .before .before .before .before .args .count))
 
--- src/lib.rt:203:1
 returns-2 : tie.Need-returns-2
 returns-2 c = c .bad .ensures ∙ large-at (c .before .before .before .before .before .args .at) (c .before .before .before .before .before .args .count) (c .before .before .before .before .before .args .text .now) _ (sym (c .before .enum-told .given .1) ∙ c .before .before .before .integer .ensures (c .before .before .before .before .before .args .count))
 
--- src/lib.rt:203:1
 returns-3 : tie.Need-returns-3
 returns-3 c = unread-at (c .before .before .before .before .before .args .at) (c .before .before .before .before .before .args .count) (c .before .before .before .before .before .args .text .now) _ (sym (c .before .r .given .1) ∙ c .before .before .before .integer .ensures (c .before .before .before .before .before .args .count))
 

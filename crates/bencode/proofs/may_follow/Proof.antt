@@ -1,54 +1,41 @@
+-- `bencode::may_follow` meets its contract. Assumes nothing.
 use borrow.Author.Needs.{needs}
-use mathlib.Core.Path.{_≡_, refl, sym, ap, _∙_, subst}
-use Prim.Native.Nat.{ℕ, _+_, _-_}
+use mathlib.Core.Path.{_≡_, _∙_}
+use Prim.Native.Nat.{_+_, _-_}
 use native.Mathlib.Omega.{arith}
 use Rattle.bencode.proofs.may_follow.Statement.{statement}
 use Rattle.bencode.proofs.may_follow.Tie as tie
-use Rattle.bencode.proofs.may_follow.Reads as reads
-use Rattle.bencode.proofs.may_follow.Lts as lts
-use Rattle.scalar.proofs.precedes.Reads as precedes-reads
 
--- src/lib.rt:195:17
 add-b : tie.Need-add-b
 add-b c = search needs
 
--- src/lib.rt:196:19
 add-end : tie.Need-add-end
 add-end c = search needs
 
--- src/lib.rt:197:33
 sub-precedes : tie.Need-sub-precedes
 sub-precedes c = search needs
 
--- src/lib.rt:197:33
 part-precedes-start : tie.Need-part-precedes-start
 part-precedes-start c = search needs
 
--- src/lib.rt:197:33
 part-precedes-end : tie.Need-part-precedes-end
 part-precedes-end c = search needs
 
--- src/lib.rt:197:46
 sub-precedes-2 : tie.Need-sub-precedes-2
 sub-precedes-2 c = search needs
 
--- src/lib.rt:197:46
 part-precedes-start-2 : tie.Need-part-precedes-start-2
 part-precedes-start-2 c = search needs
 
--- src/lib.rt:197:46
 part-precedes-end-2 : tie.Need-part-precedes-end-2
 part-precedes-end-2 c = search needs
 
--- src/lib.rt:197:9
 precedes-requires : tie.Need-precedes-requires
 precedes-requires c κs = search needs
 
--- src/lib.rt:197:9
 returns : tie.Need-returns
 returns c = let e : c .before .before .before .before .before .before .args .before .from + c .before .before .before .before .before .before .args .before .size - c .before .before .before .before .before .before .args .before .from ≡ c .before .before .before .before .before .before .args .before .size = omega arith in let f : c .before .before .before .before .before .before .args .from + c .before .before .before .before .before .before .args .size - c .before .before .before .before .before .before .args .from ≡ c .before .before .before .before .before .before .args .size = omega arith in rw (c .before .before .before .before .if1 .taken) (c .precedes .ensures ∙ rw (e, f))
 
--- src/lib.rt:189:1
 returns-2 : tie.Need-returns-2
 returns-2 c = search needs
 

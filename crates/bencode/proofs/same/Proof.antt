@@ -1,29 +1,24 @@
-use mathlib.Core.Path.{_≡_, sym, _∙_}
+-- `bencode::same` meets its contract. Assumes nothing.
+use mathlib.Core.Path.{sym, _∙_}
 use borrow.Author.Needs.{needs}
 use Rattle.bencode.proofs.same.Statement.{statement}
 use Rattle.bencode.proofs.same.Tie as tie
 
--- src/lib.rt:228:20
 enum-known-s : tie.Need-enum-known-s
 enum-known-s c = search needs
 
--- src/lib.rt:228:26
 passed-requires : tie.Need-passed-requires
 passed-requires c κs = search needs
 
--- src/lib.rt:229:19
 enum-known-s-2 : tie.Need-enum-known-s-2
 enum-known-s-2 c = search needs
 
--- src/lib.rt:229:25
 bad-requires : tie.Need-bad-requires
 bad-requires c κs = search needs
 
--- src/lib.rt:224:1
 returns : tie.Need-returns
 returns c = c .passed .ensures ∙ sym (c .before .before .s .given .1)
 
--- src/lib.rt:224:1
 returns-2 : tie.Need-returns-2
 returns-2 c = c .bad .ensures ∙ sym (c .before .before .s2 .given .1)
 

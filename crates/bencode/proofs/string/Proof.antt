@@ -1,41 +1,31 @@
+-- `bencode::string` meets its contract. Assumes nothing.
 use borrow.Author.Needs.{needs}
-use Rattle.scalar.proofs.Determined.{whole-inside}
+use Rattle.bencode_scalar.proofs.Determined.{whole-inside}
 use Rattle.bencode.specs.Answers.{stepOf}
-use Rattle.scalar.specs.Answers.{textOf}
+use Rattle.bencode_scalar.specs.Answers.{textOf}
 use native.Mathlib.Omega.{arith}
-use mathlib.Core.Path.{_≡_, refl, sym, ap, _∙_, subst}
+use mathlib.Core.Path.{sym, ap, _∙_}
 use Rattle.bencode.proofs.string.Statement.{statement}
 use Rattle.bencode.proofs.string.Tie as tie
-use Rattle.bencode.proofs.string.Reads as reads
-use Rattle.bencode.proofs.string.Lts as lts
-use Rattle.bencode.proofs.passed.Reads as passed-reads
-use Rattle.scalar.proofs.string.Reads as string-reads
 
--- src/lib.rt:218:11
 string-requires : tie.Need-string-requires
 string-requires c κs = search needs
 
--- src/lib.rt:219:21
 enum-known-from : tie.Need-enum-known-from
 enum-known-from c = search needs
 
--- src/lib.rt:219:43
 add-passed : tie.Need-add-passed
 add-passed c = omega (arith, whole-inside (c .before .before .before .before .before .args .text .now) (c .before .before .before .before .before .args .at) (c .before .from .given .0 .0) (c .before .from .given .0 .1 .0) (c .before .before .before .before .before .pre) (ap (textOf (c .before .before .before .before .before .args .text .now) _) (sym (c .before .from .given .1)) ∙ c .before .before .before .string .ensures _))
 
--- src/lib.rt:219:36
 passed-requires : tie.Need-passed-requires
 passed-requires c κs = search needs
 
--- src/lib.rt:220:22
 enum-known-r : tie.Need-enum-known-r
 enum-known-r c = search needs
 
--- src/lib.rt:214:1
 returns : tie.Need-returns
 returns c = c .passed .ensures ∙ ap stepOf (ap (textOf (c .before .before .before .before .before .before .args .text .now) _) (sym (c .before .before .from .given .1)) ∙ c .before .before .before .before .string .ensures _)
 
--- src/lib.rt:214:1
 returns-2 : tie.Need-returns-2
 returns-2 c = ap stepOf (ap (textOf (c .before .before .before .before .before .args .text .now) _) (sym (c .before .r .given .1)) ∙ c .before .before .before .string .ensures _)
 

@@ -1,68 +1,67 @@
 -- When a number is given, where the crates below say it of another outcome or in one direction. Assumes nothing.
 use mathlib.Core.Path.{_≡_, refl, sym, ap, subst, _∙_}
 use mathlib.Core.Logic.{_⊎_, inl, inr, ⊎-elim, _↔_}
-use mathlib.Core.Bool.{Bool, true, false, cond}
+use mathlib.Core.Bool.{Bool, true, false}
 use mathlib.Core.List.{List, [], _∷_, List·Memᴰ·head, List·Memᴰ·tail, List·Memᴰ·cases-cons, List·Memᴰ·not-nil}
 use mathlib.Core.List.{List·Memᴰ as In}
-use Prim.Native.Nat.{ℕ, zero, suc, _+_, _%_, _≤_, _<_}
+use Prim.Native.Nat.{ℕ, suc, _+_, _%_, _≤_, _<_}
 use native.Mathlib.Omega.{arith}
-use borrow.Author.Tests.{ltb-true, ltb-false, leb-true, leb-false, eqb-true, eqb-false, lt-ltb, le-ltb, lt-leb, le-leb, ne-eqb}
+use borrow.Author.Tests.{ltb-true, ltb-false, leb-true, leb-false, eqb-true, eqb-false, lt-ltb, le-ltb}
 use lib.Dec.{ltb, leb, eqb}
 use lib.ListN.{length, getD}
 use Rattle.refusal.specs.Paper.{Outcome, taken, refused, map, then}
 use Rattle.refusal.specs.Limits.{mostText, longestPiece, longestFrame, longestInterval}
 use Rattle.refusal.specs.Parts.{bytesAt}
 use Rattle.refusal.specs.declared.Part.{Part}
-use Rattle.writer.specs.Put.{Left, left, paper, putOf}
-use Rattle.writer.specs.declared.Put.{Put}
-use Rattle.writer.specs.declared.Put.the-variants.{Refused}
-use Rattle.writer.proofs.Laws.{put-none, refusal-keeps}
+use Rattle.bencode_writer.specs.Put.{Left, left, putOf}
+use Rattle.bencode_writer.specs.declared.Put.the-variants.{Refused}
+use Rattle.bencode_writer.proofs.Laws.{put-none, refusal-keeps}
 use Rattle.bencode.specs.Value.{Value, Items}
 use Rattle.bencode.specs.Decode.{decode}
-use Rattle.causes.proofs.Laws as bencode
-use Rattle.walk.specs.Lookup.{Under}
-use Rattle.sha1.specs.Digest.{digestOf, agreementOf}
-use Rattle.sha1.specs.Parts.{finishOf}
-use Rattle.sha1.specs.declared.stream.Stream.{Stream}
-use Rattle.sha1.proofs.Steps.{agreement-whole, agreement-over}
-use Rattle.sha1.proofs.Parts.{digest-over, finish-over}
-use Rattle.sha1.proofs.Determined.{digest-refusal-keeps, finish-refusal-keeps}
-use Rattle.wire.specs.Frames.{Allowed, writeOf}
-use Rattle.wire.specs.Frames.{readOf as readsOf}
-use Rattle.wire.specs.Handshake.{shakeOf}
-use Rattle.wire.proofs.Written.{write-exactly}
-use Rattle.wire.specs.Causes.{TooLong, All, Right, Named, Misnamed, infoIn, ShakeCause, WriteCause}
-use Rattle.wire.specs.Causes.{Cause as FrameCause}
-use Rattle.wire.proofs.Decided.{exactly}
-use Rattle.wire.proofs.Shaking.{shake-exactly}
+use Rattle.bencode_laws.proofs.Laws as bencode
+use Rattle.bencode_walk.specs.Lookup.{Under}
+use Rattle.hash_sha1.specs.Digest.{digestOf, agreementOf}
+use Rattle.hash_sha1.specs.Parts.{finishOf}
+use Rattle.hash_sha1.specs.declared.stream.Stream.{Stream}
+use Rattle.hash_sha1.proofs.Steps.{agreement-whole, agreement-over}
+use Rattle.hash_sha1.proofs.Parts.{digest-over, finish-over}
+use Rattle.hash_sha1.proofs.Determined.{digest-refusal-keeps, finish-refusal-keeps}
+use Rattle.peer_wire.specs.Frames.{Allowed, writeOf}
+use Rattle.peer_wire.specs.Frames.{readOf as readsOf}
+use Rattle.peer_wire.specs.Handshake.{shakeOf}
+use Rattle.peer_wire.proofs.Written.{write-exactly}
+use Rattle.peer_wire.specs.Causes.{TooLong, All, Right, Named, Misnamed, infoIn, ShakeCause, WriteCause}
+use Rattle.peer_wire.specs.Causes.{Cause as FrameCause}
+use Rattle.peer_wire.proofs.Decided.{exactly}
+use Rattle.peer_wire.proofs.Shaking.{shake-exactly}
 use Rattle.tracker.specs.Reply.{Answer, replyOf, counted, nthOf}
 use Rattle.tracker.specs.Entries.{PeerEntry}
 use Rattle.tracker.specs.Reading.{entriesIn}
 use Rattle.tracker.specs.Writing.{textOf}
 use Rattle.tracker.specs.Writing.{writeOf as replyText}
 use Rattle.tracker.specs.Faults.{NotWritten, too-late, not-sixes, too-long, no-room}
-use Rattle.fields.specs.Causes.{Lacks, missing, wrong, NoString, no-string, NoNumber, no-integer, out-of-range}
-use Rattle.fields.specs.Nth.{nth}
-use Rattle.fields.proofs.Nth.{nth-within}
+use Rattle.bencode_fields.specs.Causes.{Lacks, missing, wrong, NoString, no-string, NoNumber, no-integer, out-of-range}
+use Rattle.bencode_fields.specs.Nth.{nth}
+use Rattle.bencode_fields.proofs.Nth.{nth-within}
 use Rattle.tracker.specs.Causes.{NoId, no-id, other-length, NoPeer, no-dictionary, bad-id, bad-ip, bad-port, SomeNoPeer, this, later, NoPeers, other-kind, not-whole, bad-peer, NoReply, no-top, bad-reason, bad-interval, bad-peers, WhyRefused, no-bencode, no-reply}
 use Rattle.tracker.proofs.Causes.{reply-causes, reply-refused}
 use Rattle.tracker.proofs.Numbering.{entry-within, entry-beyond}
 use Rattle.tracker.proofs.Rewriting as replies
-use Rattle.metainfo.specs.Reading.{readOf}
-use Rattle.metainfo.specs.Hashes.{hashedIn, infoHashOf}
-use Rattle.metainfo.proofs.Hashing.{info-hash}
-use Rattle.metainfo.specs.declared.Torrent.{Torrent}
-use Rattle.authoring.specs.Writing as author
-use Rattle.authoring.specs.Rules as rules
-use Rattle.authoring.proofs.Written as torrents
-use Rattle.authoring.proofs.Ruling.{size-ruled, ruled-broken, limited}
-use Rattle.authoring.proofs.Steps.{SizeCase, size-not, size-over, size-fine, size-cases, size-is-long}
-use Rattle.torrents.proofs.Laws as torrent
-use Rattle.contents.specs.Files as file
-use Rattle.contents.specs.Pieces.{hashPart, hashIn, hashOf, pieceBytes, checkAgainst, checkIn, checkOf}
-use Rattle.contents.specs.declared.Entry.{Entry as FileEntry}
-use Rattle.contents.proofs.Numbering as numbering
-use Rattle.contents.proofs.Hashing.{hash-there, hash-beyond, check-beyond, check-long, check-outside, check-agreed}
+use Rattle.torrent_metainfo.specs.Reading.{readOf}
+use Rattle.torrent_metainfo.specs.Hashes.{hashedIn, infoHashOf}
+use Rattle.torrent_metainfo.proofs.Hashing.{info-hash}
+use Rattle.torrent_metainfo.specs.declared.Torrent.{Torrent}
+use Rattle.torrent_authoring.specs.Writing as author
+use Rattle.torrent_authoring.specs.Rules as rules
+use Rattle.torrent_authoring.proofs.Written as torrents
+use Rattle.torrent_authoring.proofs.Ruling.{size-ruled, ruled-broken, limited}
+use Rattle.torrent_authoring.proofs.Steps.{SizeCase, size-not, size-over, size-fine, size-cases, size-is-long}
+use Rattle.torrent_laws.proofs.Laws as torrent
+use Rattle.torrent_contents.specs.Files as file
+use Rattle.torrent_contents.specs.Pieces.{hashPart, hashIn, hashOf, pieceBytes, checkIn, checkOf}
+use Rattle.torrent_contents.specs.declared.Entry.{Entry as FileEntry}
+use Rattle.torrent_contents.proofs.Numbering as numbering
+use Rattle.torrent_contents.proofs.Hashing.{hash-there, hash-beyond, check-beyond, check-long, check-outside, check-agreed}
 use Rattle.demands.specs.One.Causes.{NoReplyText, Unchecked, no-such-piece, long-piece, wrong-length, Unsized, broken, over}
 use Rattle.demands.specs.Cited.{refuses, same-left}
 

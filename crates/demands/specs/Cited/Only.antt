@@ -14,25 +14,25 @@ use Rattle.refusal.specs.Limits.{longestPiece}
 use Rattle.bencode.specs.Value as value
 use Rattle.bencode.specs.Decode.{decode}
 use Rattle.bencode.specs.Answers.{checkOf}
-use Rattle.causes.proofs.Laws as bencode
-use Rattle.sha1.specs.Digest.{agreementOf}
-use Rattle.sha1.specs.Parts.{finishOf}
-use Rattle.sha1.specs.declared.stream.Stream.{Stream}
-use Rattle.sha1.proofs.Steps.{agreement-whole, agreement-over}
-use Rattle.sha1.proofs.Determined.{finish-refusal-keeps}
-use Rattle.blocks.specs.Spans.{Span}
-use Rattle.blocks.specs.Covers.{run, BlockCause, block-range, block-beyond, block-outside, block-room, ByteCause, byte-range, byte-beyond, byte-outside, SizeCause, size-range, size-beyond}
-use Rattle.wire.specs.Causes.{ShakeCause, WriteCause}
-use Rattle.wire.specs.Causes.{Cause as FrameCause}
+use Rattle.bencode_laws.proofs.Laws as bencode
+use Rattle.hash_sha1.specs.Digest.{agreementOf}
+use Rattle.hash_sha1.specs.Parts.{finishOf}
+use Rattle.hash_sha1.specs.declared.stream.Stream.{Stream}
+use Rattle.hash_sha1.proofs.Steps.{agreement-whole, agreement-over}
+use Rattle.hash_sha1.proofs.Determined.{finish-refusal-keeps}
+use Rattle.torrent_blocks.specs.Spans.{Span}
+use Rattle.torrent_blocks.specs.Covers.{run, BlockCause, block-range, block-beyond, block-outside, block-room, ByteCause, byte-range, byte-beyond, byte-outside, SizeCause, size-range, size-beyond}
+use Rattle.peer_wire.specs.Causes.{ShakeCause, WriteCause}
+use Rattle.peer_wire.specs.Causes.{Cause as FrameCause}
 use Rattle.tracker.specs.Reply.{replyOf, counted, nthOf}
 use Rattle.tracker.specs.Faults as faults
-use Rattle.metainfo.specs.Reading.{readOf}
-use Rattle.metainfo.specs.declared.Torrent.{Torrent}
-use Rattle.authoring.specs.Writing.{Fields}
-use Rattle.authoring.specs.Rules as rules
-use Rattle.torrents.proofs.Laws as torrents
-use Rattle.contents.specs.Pieces.{hashIn, hashOf, checkOf as pieceOf}
-use Rattle.contents.specs.Files as file
+use Rattle.torrent_metainfo.specs.Reading.{readOf}
+use Rattle.torrent_metainfo.specs.declared.Torrent.{Torrent}
+use Rattle.torrent_authoring.specs.Writing.{Fields}
+use Rattle.torrent_authoring.specs.Rules as rules
+use Rattle.torrent_laws.proofs.Laws as torrents
+use Rattle.torrent_contents.specs.Pieces.{hashIn, hashOf, checkOf as pieceOf}
+use Rattle.torrent_contents.specs.Files as file
 use Rattle.demands.specs.One.Causes.{NoReplyText, Unchecked, no-such-piece, long-piece, wrong-length, Unsized, broken, over}
 use Rattle.demands.specs.Cited.{refuses, same-left}
 use Rattle.demands.specs.Cited.Numbers.{map-refused, then-refused, same-refusal, taken-not, by-count, in-hash, check-exactly, file-alike, peer-alike, reply-law, reply-ours}

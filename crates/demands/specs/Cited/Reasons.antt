@@ -8,16 +8,16 @@ use Prim.Native.Nat.{ℕ, _*_, _≤_, _<_}
 use native.Mathlib.Omega.{arith}
 use lib.ListN.{length}
 use Rattle.refusal.specs.Paper.{taken, refused}
-use Rattle.wire.specs.Message.{Message, have}
-use Rattle.wire.specs.Message.{bitfield as bits}
-use Rattle.wire.specs.Causes.{TooLong, All, Right, Few, Cut}
-use Rattle.tables.specs.Rows.{width, bitAt}
-use Rattle.tables.specs.Tables.{Yard, wait}
-use Rattle.tables.specs.Step.{Call, start, sit, feed, missing, look, has, count, step}
-use Rattle.history.specs.History.{History, seated, fresh, pieces}
-use Rattle.history.specs.Causes.{Sits, Nobody, On, Marks, Says, SpeaksOf, Fits, StartFits, Cause, WaitCause, cut-off, too-long, wrong-payload, not-first, no-such-have, no-such-block, no-such-has, no-such-count, wrong-length, spare-bit, past-piece, all-taken, nobody, past-list, past-look, past-has, no-room, unfit}
-use Rattle.history.proofs.Demand.{fair, fair-wait, never-damaged}
-use Rattle.history.specs.Run.{Accepted, State, after}
+use Rattle.peer_wire.specs.Message.{Message, have}
+use Rattle.peer_wire.specs.Message.{bitfield as bits}
+use Rattle.peer_wire.specs.Causes.{TooLong, All, Right, Few, Cut}
+use Rattle.yard_tables.specs.Rows.{width, bitAt}
+use Rattle.yard_tables.specs.Tables.{Yard, wait}
+use Rattle.yard_tables.specs.Step.{Call, start, sit, feed, missing, look, has, count, step}
+use Rattle.yard_laws.specs.History.{History, seated, fresh, pieces}
+use Rattle.yard_laws.specs.Causes.{Sits, Nobody, On, Marks, Says, SpeaksOf, Fits, StartFits, Cause, WaitCause, cut-off, too-long, wrong-payload, not-first, no-such-have, no-such-block, no-such-has, no-such-count, wrong-length, spare-bit, past-piece, all-taken, nobody, past-list, past-look, past-has, no-room, unfit}
+use Rattle.yard_laws.proofs.Demand.{fair, fair-wait, never-damaged}
+use Rattle.yard_laws.specs.Run.{Accepted, State, after}
 use Rattle.demands.specs.Three.Program.{Made, made-run}
 
 module _ (n : ℕ) (h : History) where

@@ -1,16 +1,16 @@
--- Demand 1 of `authoring`: torrents, written. Assumes nothing.
+-- Demand 1 of `torrent_authoring`: torrents, written. Assumes nothing.
 use mathlib.Core.List.{List}
 use mathlib.Core.Path.{_≡_}
 use Prim.Native.Nat.{ℕ}
-use Rattle.writer.specs.Put.{paper as putPaper}
-use Rattle.writer.specs.Put.{left}
-use Rattle.writer.specs.declared.Put.{Put}
-use Rattle.authoring.specs.Writing.{fields, writeOf, sizeOf, paper}
-use Rattle.authoring.specs.declared.Sized.{Sized}
-use Rattle.authoring.proofs.Written as laws
+use Rattle.bencode_writer.specs.Put.{paper as putPaper}
+use Rattle.bencode_writer.specs.Put.{left}
+use Rattle.bencode_writer.specs.declared.Put.{Put}
+use Rattle.torrent_authoring.specs.Writing.{fields, writeOf, sizeOf, paper}
+use Rattle.torrent_authoring.specs.declared.Sized.{Sized}
+use Rattle.torrent_authoring.proofs.Written as laws
 use Rattle.demands.specs.One.{Lent, now, Determined1, Keeps1, Refused, Determined}
 
--- authoring::write
+-- torrent_authoring::write
 abbrev write-ensures : (announce name : Lent (List ℕ)) («piece_length» : ℕ) (pieces : Lent (List ℕ)) (length : ℕ) → Put → Lent (List ℕ) → Type 0
 write-ensures announce name «piece_length» pieces length r out =
     left (putPaper r) (now (out .exit)) ≡ writeOf (fields (now (announce .entry)) (now (name .entry)) «piece_length» (now (pieces .entry)) length) (now (out .entry))
@@ -21,7 +21,7 @@ write-determined announce name «piece_length» pieces length out r r′ out₁ 
 pub write-keeps : (announce name : Lent (List ℕ)) («piece_length» : ℕ) (pieces : Lent (List ℕ)) (length : ℕ) → Keeps1 (write-ensures announce name «piece_length» pieces length) (λ r. Refused (putPaper r))
 write-keeps announce name «piece_length» pieces length r out e k = laws.refusal-keeps _ _ r e (k .0) (k .1) (k .2) .2
 
--- authoring::size
+-- torrent_authoring::size
 abbrev size-ensures : (announce name : Lent (List ℕ)) («piece_length» : ℕ) (pieces : Lent (List ℕ)) (length : ℕ) → Sized → Type 0
 size-ensures announce name «piece_length» pieces length r =
     paper r ≡ sizeOf (fields (now (announce .entry)) (now (name .entry)) «piece_length» (now (pieces .entry)) length)

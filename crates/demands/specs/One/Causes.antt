@@ -8,10 +8,10 @@ use Rattle.refusal.specs.Limits.{mostText, longestPiece}
 use Rattle.bencode.specs.Value.{Value}
 use Rattle.bencode.specs.Decode.{decode}
 use Rattle.tracker.specs.Causes.{NoReply}
-use Rattle.metainfo.specs.declared.Torrent.{Torrent}
-use Rattle.authoring.specs.Writing.{Fields, textOf}
-use Rattle.authoring.specs.Rules.{Broken, Ruled}
-use Rattle.contents.specs.Pieces.{pieceBytes}
+use Rattle.torrent_metainfo.specs.declared.Torrent.{Torrent}
+use Rattle.torrent_authoring.specs.Writing.{Fields, textOf}
+use Rattle.torrent_authoring.specs.Rules.{Broken, Ruled}
+use Rattle.torrent_contents.specs.Pieces.{pieceBytes}
 
 -- the text is the encoding of a value that keeps bencode's limits and is no reply
 abbrev pub NoReplyText : List ℕ → ℕ → ℕ → Type 0

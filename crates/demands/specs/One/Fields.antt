@@ -1,81 +1,81 @@
--- Demand 1 of `fields`: typed looks. Assumes nothing.
+-- Demand 1 of `bencode_fields`: typed looks. Assumes nothing.
 use mathlib.Core.List.{List}
 use mathlib.Core.Path.{_≡_}
 use Prim.Native.Nat.{ℕ}
-use Rattle.walk.specs.Walk.{seekPaper}
-use Rattle.walk.specs.declared.Sought.{Sought}
-use Rattle.fields.specs.Looks.{stringPaper, stringOf, naturalPaper, naturalOf, numberPaper, numberOf, insidePaper, listOf, dictionaryOf, needed, soughtAfter}
-use Rattle.fields.specs.declared.Bytes.{Bytes}
-use Rattle.fields.specs.declared.Inside.{Inside}
-use Rattle.fields.specs.declared.Natural.{Natural}
-use Rattle.fields.specs.declared.Number.{Number}
-use Rattle.fields.proofs.Determined as laws
+use Rattle.bencode_walk.specs.Walk.{seekPaper}
+use Rattle.bencode_walk.specs.declared.Sought.{Sought}
+use Rattle.bencode_fields.specs.Looks.{stringPaper, stringOf, naturalPaper, naturalOf, numberPaper, numberOf, insidePaper, listOf, dictionaryOf, needed, soughtAfter}
+use Rattle.bencode_fields.specs.declared.Bytes.{Bytes}
+use Rattle.bencode_fields.specs.declared.Inside.{Inside}
+use Rattle.bencode_fields.specs.declared.Natural.{Natural}
+use Rattle.bencode_fields.specs.declared.Number.{Number}
+use Rattle.bencode_fields.proofs.Determined as laws
 use Rattle.demands.specs.One.{Lent, now, Determined}
 
--- fields::string_at
+-- bencode_fields::string_at
 abbrev string-at-ensures : (text : Lent (List ℕ)) (at : ℕ) → Bytes → Type 0
 string-at-ensures text at r = stringPaper r ≡ stringOf (now (text .entry)) at
 
 pub string-at-determined : (text : Lent (List ℕ)) (at : ℕ) → Determined (string-at-ensures text at)
 string-at-determined text at r r′ e f = laws.string-determined _ r r′ e f
 
--- fields::natural_at
+-- bencode_fields::natural_at
 abbrev natural-at-ensures : (text : Lent (List ℕ)) (at most : ℕ) → Natural → Type 0
 natural-at-ensures text at most r = naturalPaper r ≡ naturalOf most (now (text .entry)) at
 
 pub natural-at-determined : (text : Lent (List ℕ)) (at most : ℕ) → Determined (natural-at-ensures text at most)
 natural-at-determined text at most r r′ e f = laws.natural-determined _ r r′ e f
 
--- fields::number_at
+-- bencode_fields::number_at
 abbrev number-at-ensures : (text : Lent (List ℕ)) (at most : ℕ) → Number → Type 0
 number-at-ensures text at most r = numberPaper r ≡ numberOf most (now (text .entry)) at
 
 pub number-at-determined : (text : Lent (List ℕ)) (at most : ℕ) → Determined (number-at-ensures text at most)
 number-at-determined text at most r r′ e f = laws.number-determined _ r r′ e f
 
--- fields::list_at
+-- bencode_fields::list_at
 abbrev list-at-ensures : (text : Lent (List ℕ)) (at : ℕ) → Inside → Type 0
 list-at-ensures text at r = insidePaper r ≡ listOf (now (text .entry)) at
 
 pub list-at-determined : (text : Lent (List ℕ)) (at : ℕ) → Determined (list-at-ensures text at)
 list-at-determined text at r r′ e f = laws.inside-determined _ r r′ e f
 
--- fields::dictionary_at
+-- bencode_fields::dictionary_at
 abbrev dictionary-at-ensures : (text : Lent (List ℕ)) (at : ℕ) → Inside → Type 0
 dictionary-at-ensures text at r = insidePaper r ≡ dictionaryOf (now (text .entry)) at
 
 pub dictionary-at-determined : (text : Lent (List ℕ)) (at : ℕ) → Determined (dictionary-at-ensures text at)
 dictionary-at-determined text at r r′ e f = laws.inside-determined _ r r′ e f
 
--- fields::string_under
+-- bencode_fields::string_under
 abbrev string-under-ensures : (text : Lent (List ℕ)) (dictionary : ℕ) (sought : Sought) → Bytes → Type 0
 string-under-ensures text dictionary sought r = stringPaper r ≡ needed dictionary (seekPaper sought) (stringOf (now (text .entry)))
 
 pub string-under-determined : (text : Lent (List ℕ)) (dictionary : ℕ) (sought : Sought) → Determined (string-under-ensures text dictionary sought)
 string-under-determined text dictionary sought r r′ e f = laws.string-determined _ r r′ e f
 
--- fields::natural_under
+-- bencode_fields::natural_under
 abbrev natural-under-ensures : (text : Lent (List ℕ)) (dictionary : ℕ) (sought : Sought) (most : ℕ) → Natural → Type 0
 natural-under-ensures text dictionary sought most r = naturalPaper r ≡ needed dictionary (seekPaper sought) (naturalOf most (now (text .entry)))
 
 pub natural-under-determined : (text : Lent (List ℕ)) (dictionary : ℕ) (sought : Sought) (most : ℕ) → Determined (natural-under-ensures text dictionary sought most)
 natural-under-determined text dictionary sought most r r′ e f = laws.natural-determined _ r r′ e f
 
--- fields::list_under
+-- bencode_fields::list_under
 abbrev list-under-ensures : (text : Lent (List ℕ)) (dictionary : ℕ) (sought : Sought) → Inside → Type 0
 list-under-ensures text dictionary sought r = insidePaper r ≡ needed dictionary (seekPaper sought) (listOf (now (text .entry)))
 
 pub list-under-determined : (text : Lent (List ℕ)) (dictionary : ℕ) (sought : Sought) → Determined (list-under-ensures text dictionary sought)
 list-under-determined text dictionary sought r r′ e f = laws.inside-determined _ r r′ e f
 
--- fields::dictionary_under
+-- bencode_fields::dictionary_under
 abbrev dictionary-under-ensures : (text : Lent (List ℕ)) (dictionary : ℕ) (sought : Sought) → Inside → Type 0
 dictionary-under-ensures text dictionary sought r = insidePaper r ≡ needed dictionary (seekPaper sought) (dictionaryOf (now (text .entry)))
 
 pub dictionary-under-determined : (text : Lent (List ℕ)) (dictionary : ℕ) (sought : Sought) → Determined (dictionary-under-ensures text dictionary sought)
 dictionary-under-determined text dictionary sought r r′ e f = laws.inside-determined _ r r′ e f
 
--- fields::seek_after
+-- bencode_fields::seek_after
 abbrev seek-after-ensures : (text : Lent (List ℕ)) (sought : Sought) (key : Lent (List ℕ)) → Sought → Type 0
 seek-after-ensures text sought key r = seekPaper r ≡ soughtAfter (now (text .entry)) (seekPaper sought) (now (key .entry))
 

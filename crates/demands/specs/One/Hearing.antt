@@ -1,18 +1,18 @@
--- Demand 1 of `hearing`: a frame for a seat, by value. Assumes nothing.
+-- Demand 1 of `yard_hearing`: a frame for a seat, by value. Assumes nothing.
 use mathlib.Core.List.{List}
 use mathlib.Core.Path.{_≡_, sym, _∙_}
 use Prim.Native.Nat.{ℕ}
-use Rattle.tables.specs.Frames.{feedOf}
-use Rattle.tables.specs.Seats.{counted}
-use Rattle.tables.specs.Tables.{around, turn, paper}
-use Rattle.tables.specs.declared.Head.{Head}
-use Rattle.tables.specs.declared.Seat.{Seat}
-use Rattle.tables.specs.declared.Stepped.{Stepped}
-use Rattle.hearing.proofs.Determined as laws
+use Rattle.yard_tables.specs.Frames.{feedOf}
+use Rattle.yard_tables.specs.Seats.{counted}
+use Rattle.yard_tables.specs.Tables.{around, turn, paper}
+use Rattle.yard_tables.specs.declared.Head.{Head}
+use Rattle.yard_tables.specs.declared.Seat.{Seat}
+use Rattle.yard_tables.specs.declared.Stepped.{Stepped}
+use Rattle.yard_hearing.proofs.Determined as laws
 use Rattle.demands.specs.Cited.{unspoken}
 use Rattle.demands.specs.One.{Lent, now, Determined, Determined2, Unused, Keeps2}
 
--- hearing::feed_step
+-- yard_hearing::feed_step
 abbrev feed-step-ensures : (h : Head) (s : Seat) (i n : ℕ) (bytes : Lent (List ℕ)) → Stepped → Lent (List ℕ) → Lent (List ℕ) → Type 0
 feed-step-ensures h s i n bytes r rows holders =
     turn r (now (rows .exit)) (now (holders .exit)) ≡ feedOf i (now (bytes .entry)) n (around h s (now (rows .entry)) (now (holders .entry)))
@@ -24,7 +24,7 @@ pub feed-step-keeps : (h : Head) (s : Seat) (i n : ℕ) (bytes : Lent (List ℕ)
 feed-step-keeps h s i n bytes r rows holders e k =
     let t = laws.unused-keeps h s (now (rows .entry)) (now (holders .entry)) i n (now (bytes .entry)) r (now (rows .exit)) (now (holders .exit)) e (unspoken (paper (r .answer)) k) in (t .2, t .3)
 
--- hearing::heard_head
+-- yard_hearing::heard_head
 abbrev heard-head-ensures : (was h : Head) → Head → Type 0
 heard-head-ensures was h r = r ≡ counted (was .taken) (h .complete) was
 

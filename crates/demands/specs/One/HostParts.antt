@@ -2,19 +2,19 @@
 use mathlib.Core.List.{List}
 use mathlib.Core.Path.{_≡_, sym, _∙_}
 use Prim.Native.Nat.{ℕ}
-use Rattle.wire.specs.Frames.{readOf}
-use Rattle.wire.specs.Handshake.{shakeOf}
-use Rattle.blocks.specs.Answers.{blockOf, partsWritten, byteOf, sizeOf}
-use Rattle.blocks.specs.Spans.{joinedFiles}
-use Rattle.metainfo.specs.Reading.{fileAt}
-use Rattle.contents.specs.Files.{entryOf}
-use Rattle.contents.specs.Paths.{elementOf}
-use Rattle.contents.specs.Pieces.{hashOf, checkOf}
-use Rattle.rows.specs.Files.{fileDetail, walkedDetail, elementDetail, partDetail, yesDetail}
-use Rattle.rows.specs.Frames.{frameDetail, shakeDetail}
-use Rattle.rows.specs.Mapping.{spotDetail, Parted}
-use Rattle.rows.specs.Said.{detailOf, Tells}
-use Rattle.rows.proofs.Keeping as laws
+use Rattle.peer_wire.specs.Frames.{readOf}
+use Rattle.peer_wire.specs.Handshake.{shakeOf}
+use Rattle.torrent_blocks.specs.Answers.{blockOf, partsWritten, byteOf, sizeOf}
+use Rattle.torrent_blocks.specs.Spans.{joinedFiles}
+use Rattle.torrent_metainfo.specs.Reading.{fileAt}
+use Rattle.torrent_contents.specs.Files.{entryOf}
+use Rattle.torrent_contents.specs.Paths.{elementOf}
+use Rattle.torrent_contents.specs.Pieces.{hashOf, checkOf}
+use Rattle.wardrail_rows.specs.Files.{fileDetail, walkedDetail, elementDetail, partDetail, yesDetail}
+use Rattle.wardrail_rows.specs.Frames.{frameDetail, shakeDetail}
+use Rattle.wardrail_rows.specs.Mapping.{spotDetail, Parted}
+use Rattle.wardrail_rows.specs.Said.{detailOf, Tells}
+use Rattle.wardrail_rows.proofs.Keeping as laws
 use Rattle.demands.specs.One.{Lent, now, Determined1, Determined2}
 
 -- wardrail::files::wardrail_file

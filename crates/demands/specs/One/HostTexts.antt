@@ -4,18 +4,18 @@ use mathlib.Core.Path.{_≡_, sym, _∙_, refl}
 use Prim.Native.Nat.{ℕ}
 use Rattle.refusal.specs.Paper.{then, map}
 use Rattle.bencode.specs.Answers.{checkOf}
-use Rattle.sha1.specs.Digest.{digestOf}
-use Rattle.sha1.specs.Parts.{begun, addOf, finishOf}
+use Rattle.hash_sha1.specs.Digest.{digestOf}
+use Rattle.hash_sha1.specs.Parts.{begun, addOf, finishOf}
 use Rattle.tracker.specs.Entries.{listedAt, packedAt}
 use Rattle.tracker.specs.Reply.{replyOf, nthOf, counted}
-use Rattle.metainfo.specs.Hashes.{infoHashOf}
-use Rattle.metainfo.specs.Reading.{readOf}
-use Rattle.rows.specs.Hashing.{stateOf, Holds, Digested}
-use Rattle.rows.specs.Peers.{peerDetail}
-use Rattle.rows.specs.Replies.{replyDetail, entryDetail}
-use Rattle.rows.specs.Said.{detailOf, Tells}
-use Rattle.rows.specs.Torrents.{torrentDetail}
-use Rattle.sha1.proofs.Determined as laws
+use Rattle.torrent_metainfo.specs.Hashes.{infoHashOf}
+use Rattle.torrent_metainfo.specs.Reading.{readOf}
+use Rattle.wardrail_rows.specs.Hashing.{stateOf, Holds, Digested}
+use Rattle.wardrail_rows.specs.Peers.{peerDetail}
+use Rattle.wardrail_rows.specs.Replies.{replyDetail, entryDetail}
+use Rattle.wardrail_rows.specs.Said.{detailOf, Tells}
+use Rattle.wardrail_rows.specs.Torrents.{torrentDetail}
+use Rattle.hash_sha1.proofs.Determined as laws
 use Rattle.demands.specs.Cited.{by-number, refuses, same-left, hash-kept}
 use Rattle.demands.specs.One.{Lent, now, Determined1, Keeps1, Determined2}
 

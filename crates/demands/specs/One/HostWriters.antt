@@ -2,17 +2,17 @@
 use mathlib.Core.List.{List, _∷_}
 use mathlib.Core.Path.{_≡_, sym, _∙_}
 use Prim.Native.Nat.{ℕ}
-use Rattle.writer.specs.Put.{putOf}
-use Rattle.wire.specs.Frames.{writeOf as frameOf}
-use Rattle.wire.specs.Handshake.{handshake, zeros}
-use Rattle.wire.specs.Message.{keepalive, encode}
+use Rattle.bencode_writer.specs.Put.{putOf}
+use Rattle.peer_wire.specs.Frames.{writeOf as frameOf}
+use Rattle.peer_wire.specs.Handshake.{handshake, zeros}
+use Rattle.peer_wire.specs.Message.{keepalive, encode}
 use Rattle.tracker.specs.Writing.{writeOf as replyTextOf}
-use Rattle.authoring.specs.Writing.{writeOf as torrentTextOf}
-use Rattle.authoring.specs.Writing.{fields, sizeOf}
-use Rattle.rows.specs.Said.{detailOf, Tells}
-use Rattle.rows.specs.Writers.{Wrote}
-use Rattle.rows.proofs.Determined as laws
-use Rattle.rows.proofs.Keeping as kept
+use Rattle.torrent_authoring.specs.Writing.{writeOf as torrentTextOf}
+use Rattle.torrent_authoring.specs.Writing.{fields, sizeOf}
+use Rattle.wardrail_rows.specs.Said.{detailOf, Tells}
+use Rattle.wardrail_rows.specs.Writers.{Wrote}
+use Rattle.wardrail_rows.proofs.Determined as laws
+use Rattle.wardrail_rows.proofs.Keeping as kept
 use Rattle.demands.specs.One.{Lent, now, Determined2, Determined1}
 
 -- wardrail::writers::wardrail_write_frame

@@ -5,12 +5,12 @@ use mathlib.Core.Path.{_≡_, sym, _∙_}
 use Prim.Native.Nat.{ℕ}
 use lib.ListN.{length}
 use lib.Seq.{sets}
-use Rattle.tables.specs.Step.{Call, step, written}
-use Rattle.tables.specs.Tables.{yardOf}
-use Rattle.tables.specs.declared.Head.{Head}
-use Rattle.tables.specs.declared.Seat.{Seat}
-use Rattle.telling.specs.Telling.{Steps, Tells, Looks, Shows}
-use Rattle.telling.specs.declared.Told.{Told}
+use Rattle.yard_tables.specs.Step.{Call, step, written}
+use Rattle.yard_tables.specs.Tables.{yardOf}
+use Rattle.yard_tables.specs.declared.Head.{Head}
+use Rattle.yard_tables.specs.declared.Seat.{Seat}
+use Rattle.yard_telling.specs.Telling.{Steps, Tells, Looks, Shows}
+use Rattle.yard_telling.specs.declared.Told.{Told}
 use Rattle.demands.specs.Cited.{same-tables, tables-kept, told-kept, shown-kept, put-kept, choke-speaks, interest-speaks, page-speaks}
 use Rattle.demands.specs.One.{Lent, now, Determined4, Keeps4, Determined5, Keeps5, Determined3, Keeps3, Determined2, Keeps2}
 

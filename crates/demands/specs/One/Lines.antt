@@ -1,17 +1,17 @@
--- Demand 1 of `lines`: the listing. Assumes nothing.
+-- Demand 1 of `torrent_lines`: the listing. Assumes nothing.
 use mathlib.Core.List.{List}
 use mathlib.Core.Path.{_≡_, sym, _∙_}
 use Prim.Native.Nat.{ℕ, _≤_}
 use lib.ListN.{length}
 use Rattle.refusal.specs.Paper.{taken}
-use Rattle.writer.specs.Put.{paper as putPaper}
-use Rattle.writer.specs.Put.{left, putOf}
-use Rattle.writer.specs.declared.Put.{Put}
-use Rattle.lines.specs.Lines.{mostPrinted, listingOf}
-use Rattle.lines.proofs.Laws as laws
+use Rattle.bencode_writer.specs.Put.{paper as putPaper}
+use Rattle.bencode_writer.specs.Put.{left, putOf}
+use Rattle.bencode_writer.specs.declared.Put.{Put}
+use Rattle.torrent_lines.specs.Lines.{mostPrinted, listingOf}
+use Rattle.torrent_lines.proofs.Laws as laws
 use Rattle.demands.specs.One.{Lent, now, Determined1, Keeps1, Refused, Determined}
 
--- lines::listing
+-- torrent_lines::listing
 abbrev listing-ensures : (text : Lent (List ℕ)) → Put → Lent (List ℕ) → Type 0
 listing-ensures text r out =
     (left (putPaper r) (now (out .exit)) ≡ putOf (listingOf (now (text .entry))) 0 (now (out .entry)))
@@ -23,7 +23,7 @@ listing-determined text out r r′ out₁ out₂ e f = laws.listing-determined _
 pub listing-keeps : (text : Lent (List ℕ)) → Keeps1 (listing-ensures text) (λ r. Refused (putPaper r))
 listing-keeps text r out e k = laws.listing-refusal-keeps _ _ r (e .0) (k .2) .1
 
--- lines::size
+-- torrent_lines::size
 abbrev size-ensures : (text : Lent (List ℕ)) → ℕ → Type 0
 size-ensures text r = r ≡ length (listingOf (now (text .entry)))
 

@@ -1,31 +1,31 @@
--- Demand 1 of `metainfo`: torrents, read. Assumes nothing.
+-- Demand 1 of `torrent_metainfo`: torrents, read. Assumes nothing.
 use mathlib.Core.Bool.{Bool}
 use mathlib.Core.List.{List}
 use mathlib.Core.Path.{_≡_, sym, _∙_}
 use Prim.Native.Nat.{ℕ, _+_, min}
 use lib.ListN.{length}
 use Rattle.refusal.specs.Parts.{bytesAt}
-use Rattle.sha1.specs.Digest.{paper as hashPaper}
-use Rattle.sha1.specs.Digest.{left}
-use Rattle.sha1.specs.declared.Hashed.{Hashed}
-use Rattle.metainfo.specs.Hashes.{infoHashOf}
-use Rattle.metainfo.specs.Reading.{paper, readOf, announceIn, nameIn, filePaper, fileAt}
-use Rattle.metainfo.specs.Rules.{goodName}
-use Rattle.metainfo.specs.declared.Filed.{Filed}
-use Rattle.metainfo.specs.declared.Reading.{Reading}
-use Rattle.metainfo.proofs.Determined as laws
-use Rattle.metainfo.proofs.Hashing as hashing
+use Rattle.hash_sha1.specs.Digest.{paper as hashPaper}
+use Rattle.hash_sha1.specs.Digest.{left}
+use Rattle.hash_sha1.specs.declared.Hashed.{Hashed}
+use Rattle.torrent_metainfo.specs.Hashes.{infoHashOf}
+use Rattle.torrent_metainfo.specs.Reading.{paper, readOf, announceIn, nameIn, filePaper, fileAt}
+use Rattle.torrent_metainfo.specs.Rules.{goodName}
+use Rattle.torrent_metainfo.specs.declared.Filed.{Filed}
+use Rattle.torrent_metainfo.specs.declared.Reading.{Reading}
+use Rattle.torrent_metainfo.proofs.Determined as laws
+use Rattle.torrent_metainfo.proofs.Hashing as hashing
 use Rattle.demands.specs.Cited.{hash-kept, one-part}
 use Rattle.demands.specs.One.{Lent, now, Determined, Ref, Determined1, Keeps1, Refused}
 
--- metainfo::read
+-- torrent_metainfo::read
 abbrev read-ensures : (text : Lent (List ℕ)) → Reading → Type 0
 read-ensures text r = paper r ≡ readOf (now (text .entry))
 
 pub read-determined : (text : Lent (List ℕ)) → Determined (read-ensures text)
 read-determined text r r′ e f = laws.read-determined _ r r′ e f
 
--- metainfo::announce
+-- torrent_metainfo::announce
 abbrev announce-ensures : (text : Lent (List ℕ)) → Ref (List ℕ) → Type 0
 announce-ensures text r =
     (now r ≡ bytesAt (now (text .entry)) (announceIn (readOf (now (text .entry)))))
@@ -35,7 +35,7 @@ pub announce-determined : (text : Lent (List ℕ)) → Determined (announce-ensu
 announce-determined text r r′ e f =
     one-part (laws.announce-determined (now (text .entry)) (now r) (now r′) (text .entry .ptr .0) (text .entry .ptr .1) (r .ptr .0) (r′ .ptr .0) (r .ptr .1) (r′ .ptr .1) (e .0) (f .0) (e .1) (f .1))
 
--- metainfo::name
+-- torrent_metainfo::name
 abbrev name-ensures : (text : Lent (List ℕ)) → Ref (List ℕ) → Type 0
 name-ensures text r =
     (now r ≡ bytesAt (now (text .entry)) (nameIn (readOf (now (text .entry)))))
@@ -45,7 +45,7 @@ pub name-determined : (text : Lent (List ℕ)) → Determined (name-ensures text
 name-determined text r r′ e f =
     one-part (laws.name-determined (now (text .entry)) (now r) (now r′) (text .entry .ptr .0) (text .entry .ptr .1) (r .ptr .0) (r′ .ptr .0) (r .ptr .1) (r′ .ptr .1) (e .0) (f .0) (e .1) (f .1))
 
--- metainfo::info_hash
+-- torrent_metainfo::info_hash
 abbrev info-hash-ensures : (text : Lent (List ℕ)) → Hashed → Lent (List ℕ) → Type 0
 info-hash-ensures text r out = left (hashPaper r) (now (out .exit)) ≡ infoHashOf (now (text .entry)) (now (out .entry))
 
@@ -55,14 +55,14 @@ info-hash-determined text out r r′ out₁ out₂ e f = hashing.info-hash-deter
 pub info-hash-keeps : (text : Lent (List ℕ)) → Keeps1 (info-hash-ensures text) (λ r. Refused (hashPaper r))
 info-hash-keeps text r out e k = hash-kept (now (text .entry)) (now (out .entry)) (readOf (now (text .entry))) r e (k .2)
 
--- metainfo::legal_name
+-- torrent_metainfo::legal_name
 abbrev legal-name-ensures : (name : Lent (List ℕ)) → Bool → Type 0
 legal-name-ensures name r = r ≡ goodName (now (name .entry))
 
 pub legal-name-determined : (name : Lent (List ℕ)) → Determined (legal-name-ensures name)
 legal-name-determined name r r′ e f = e ∙ sym f
 
--- metainfo::file_at
+-- torrent_metainfo::file_at
 abbrev file-at-ensures : (text : Lent (List ℕ)) (at : ℕ) → Filed → Type 0
 file-at-ensures text at r = filePaper r ≡ fileAt (now (text .entry)) at
 

@@ -1,62 +1,62 @@
 -- Statement 4 of demand 1: "Given exactly when". Each number of document 01's table in its order: under the table's line, call by call, that the number
 -- is given at a place exactly when its cause holds there. A cause says that the checks before it are passed; the left side is what the contract of the
--- call says of its answer. The causes: causes/specs/Causes (1 to 7), torrents/specs/Causes and tracker/specs/Causes (10 to 15), blocks/specs/Covers,
--- wire/specs/Causes (20 to 23, wait), authoring/specs/Rules and tracker/specs/Faults (the writers), history/specs/Causes and Damage (the yard's
+-- call says of its answer. The causes: bencode_laws/specs/Causes (1 to 7), torrent_laws/specs/Causes and tracker/specs/Causes (10 to 15), torrent_blocks/specs/Covers,
+-- peer_wire/specs/Causes (20 to 23, wait), torrent_authoring/specs/Rules and tracker/specs/Faults (the writers), yard_laws/specs/Causes and Damage (the yard's
 -- words), and One/Causes. `Made lent h y` (Three/Program): the tables `lent`, started and then called any way, have become y, and h is what happened. Assumes nothing.
-use mathlib.Core.Path.{_≡_, refl, sym, ap, _∙_}
+use mathlib.Core.Path.{_≡_, refl, ap, _∙_}
 use mathlib.Core.Logic.{_⊎_, _↔_}
 use mathlib.Core.Bool.{true, false}
 use mathlib.Core.List.{List}
 use Prim.Native.Nat.{ℕ, _+_, _*_, _≤_, _<_}
 use native.Mathlib.Omega.{arith}
 use lib.ListN.{length, getD}
-use Rattle.refusal.specs.Paper.{Outcome, taken, refused, map, then}
+use Rattle.refusal.specs.Paper.{taken, refused, map, then}
 use Rattle.refusal.specs.Limits.{mostText, longestPiece, longestFrame}
-use Rattle.writer.specs.Put.{putOf}
+use Rattle.bencode_writer.specs.Put.{putOf}
 use Rattle.bencode.specs.Value as value
 use Rattle.bencode.specs.Decode.{decode}
 use Rattle.bencode.specs.Answers.{checkOf}
-use Rattle.causes.specs.Causes.{Cut, Byte, Order, Integer, Deep, Many, After}
-use Rattle.causes.proofs.Laws as bencode
-use Rattle.sha1.specs.Digest.{digestOf, agreementOf}
-use Rattle.sha1.specs.Parts.{finishOf}
-use Rattle.sha1.specs.declared.stream.Stream.{Stream}
-use Rattle.blocks.specs.Spans.{Span}
-use Rattle.blocks.specs.Answers.{Left, partsWritten, blockOf, byteOf, sizeOf}
-use Rattle.blocks.specs.Covers.{BlockCause, ByteCause, SizeCause}
-use Rattle.blocks.proofs.Causes as blocks
-use Rattle.wire.specs.Frames as frames
-use Rattle.wire.specs.Frames.{Allowed}
-use Rattle.wire.specs.Handshake as handshake
-use Rattle.wire.specs.Handshake.{shakeOf}
-use Rattle.wire.specs.Causes as causes
-use Rattle.wire.specs.Causes.{TooLong, All, Right, Few, Misnamed, Named, infoIn}
-use Rattle.wire.proofs.Decided.{wait-exactly}
-use Rattle.wire.proofs.Shaking.{shake-wait-exactly}
+use Rattle.bencode_laws.specs.Causes.{Cut, Byte, Order, Integer, Deep, Many, After}
+use Rattle.bencode_laws.proofs.Laws as bencode
+use Rattle.hash_sha1.specs.Digest.{digestOf, agreementOf}
+use Rattle.hash_sha1.specs.Parts.{finishOf}
+use Rattle.hash_sha1.specs.declared.stream.Stream.{Stream}
+use Rattle.torrent_blocks.specs.Spans.{Span}
+use Rattle.torrent_blocks.specs.Answers.{Left, partsWritten, blockOf, byteOf, sizeOf}
+use Rattle.torrent_blocks.specs.Covers.{BlockCause, ByteCause, SizeCause}
+use Rattle.torrent_blocks.proofs.Causes as blocks
+use Rattle.peer_wire.specs.Frames as frames
+use Rattle.peer_wire.specs.Frames.{Allowed}
+use Rattle.peer_wire.specs.Handshake as handshake
+use Rattle.peer_wire.specs.Handshake.{shakeOf}
+use Rattle.peer_wire.specs.Causes as causes
+use Rattle.peer_wire.specs.Causes.{TooLong, All, Right, Few, Misnamed, Named, infoIn}
+use Rattle.peer_wire.proofs.Decided.{wait-exactly}
+use Rattle.peer_wire.proofs.Shaking.{shake-wait-exactly}
 use Rattle.tracker.specs.Reply.{Answer, replyOf, counted, nthOf}
 use Rattle.tracker.specs.Entries.{PeerEntry}
 use Rattle.tracker.specs.Reading.{entriesIn}
 use Rattle.tracker.specs.Writing.{writeOf as replyText}
 use Rattle.tracker.specs.Faults.{NotWritten}
-use Rattle.metainfo.specs.Reading.{readOf}
-use Rattle.metainfo.specs.Hashes.{infoHashOf}
-use Rattle.metainfo.specs.declared.Torrent.{Torrent}
-use Rattle.authoring.specs.Writing as author
-use Rattle.authoring.specs.Writing.{Fields}
-use Rattle.authoring.specs.Rules as rules
-use Rattle.torrents.specs.Causes.{NoTorrentText}
-use Rattle.torrents.proofs.Laws as torrents
-use Rattle.contents.specs.Files as file
-use Rattle.contents.specs.Pieces as piece
-use Rattle.wire.specs.Message.{Message, have}
-use Rattle.wire.specs.Message.{bitfield as bits}
-use Rattle.tables.specs.Rows.{width, bitAt}
-use Rattle.tables.specs.Tables.{Yard, wait}
-use Rattle.tables.specs.Step.{Call, start, sit, feed, missing, look, has, count, step}
-use Rattle.history.specs.History.{History, seated, fresh, pieces}
-use Rattle.history.specs.Causes.{Sits, Nobody, On, Marks, Says, SpeaksOf, Fits, StartFits}
-use Rattle.history.specs.Damage.{Unfit, Damaged}
-use Rattle.history.proofs.Damage as damage
+use Rattle.torrent_metainfo.specs.Reading.{readOf}
+use Rattle.torrent_metainfo.specs.Hashes.{infoHashOf}
+use Rattle.torrent_metainfo.specs.declared.Torrent.{Torrent}
+use Rattle.torrent_authoring.specs.Writing as author
+use Rattle.torrent_authoring.specs.Writing.{Fields}
+use Rattle.torrent_authoring.specs.Rules as rules
+use Rattle.torrent_laws.specs.Causes.{NoTorrentText}
+use Rattle.torrent_laws.proofs.Laws as torrents
+use Rattle.torrent_contents.specs.Files as file
+use Rattle.torrent_contents.specs.Pieces as piece
+use Rattle.peer_wire.specs.Message.{Message, have}
+use Rattle.peer_wire.specs.Message.{bitfield as bits}
+use Rattle.yard_tables.specs.Rows.{width, bitAt}
+use Rattle.yard_tables.specs.Tables.{Yard, wait}
+use Rattle.yard_tables.specs.Step.{Call, start, sit, feed, missing, look, has, count, step}
+use Rattle.yard_laws.specs.History.{History, seated, fresh, pieces}
+use Rattle.yard_laws.specs.Causes.{Sits, Nobody, On, Marks, Says, SpeaksOf, Fits, StartFits}
+use Rattle.yard_laws.specs.Damage.{Unfit, Damaged}
+use Rattle.yard_laws.proofs.Damage as damage
 use Rattle.demands.specs.One.Causes.{Unchecked, Unsized, NoReplyText}
 use Rattle.demands.specs.Three.Program.{Made}
 use Rattle.demands.specs.Cited.Reasons as reasons
@@ -65,19 +65,19 @@ use Rattle.demands.specs.Cited.Numbers.{both-ways, map-refused, at-place
 
 -- ---- calls that refuse as another does: each number below is then given as by that one
 
--- `metainfo::info_hash` as `metainfo::read`
+-- `torrent_metainfo::info_hash` as `torrent_metainfo::read`
 pub info-hash-alike : (s o : List ℕ) (k p : ℕ) → infoHashOf s o .answer ≡ refused k p ↔ readOf s ≡ refused k p
 info-hash-alike s o k p = cited.info-hash-alike s o k p
 
--- `contents::piece_hash` as `metainfo::read`, but for 31
+-- `torrent_contents::piece_hash` as `torrent_metainfo::read`, but for 31
 pub piece-hash-alike : (s : List ℕ) (n k p : ℕ) → (k ≡ 31 → ⊥) → piece.hashOf s n ≡ refused k p ↔ readOf s ≡ refused k p
 piece-hash-alike s n k p l = cited.hash-alike s n k p l
 
--- `contents::file` as `metainfo::read`, but for 31
+-- `torrent_contents::file` as `torrent_metainfo::read`, but for 31
 pub file-alike : (s : List ℕ) (n k p : ℕ) → (k ≡ 31 → ⊥) → file.entryOf s n ≡ refused k p ↔ readOf s ≡ refused k p
 file-alike s n k p l = cited.file-alike s n k p l
 
--- `contents::check_piece` as `metainfo::read`, but for 8, 31 and 34
+-- `torrent_contents::check_piece` as `torrent_metainfo::read`, but for 8, 31 and 34
 pub piece-check-alike : (s : List ℕ) (n : ℕ) (m : List ℕ) (k p : ℕ) → piece.checkOf s n m ≡ refused k p ↔ ((readOf s ≡ refused k p) ⊎ ((t : Torrent) × (readOf s ≡ taken t) × Unchecked t n m k × (p ≡ 0)))
 piece-check-alike s n m k p = cited.check-exactly s n m k p
 
@@ -91,7 +91,7 @@ peer-alike s n k p l = cited.peer-alike s n k p l
 pub check-1 : (s : List ℕ) (p : ℕ) → length s ≤ mostText → checkOf s ≡ refused 1 p ↔ Cut s p
 check-1 s p h = both-ways (map-refused value.count (decode s) 1 p) (bencode.cut-law s p h)
 
--- given by metainfo::read
+-- given by torrent_metainfo::read
 pub torrent-1 : (s : List ℕ) (p : ℕ) → length s ≤ mostText → readOf s ≡ refused 1 p ↔ Cut s p
 torrent-1 s p h = torrents.cut-law s p h
 
@@ -105,7 +105,7 @@ reply-1 s p h = both-ways (cited.reply-bencode s 1 p (omega arith)) (bencode.cut
 pub check-2 : (s : List ℕ) (p : ℕ) → length s ≤ mostText → checkOf s ≡ refused 2 p ↔ Byte s p
 check-2 s p h = both-ways (map-refused value.count (decode s) 2 p) (bencode.byte-law s p h)
 
--- given by metainfo::read
+-- given by torrent_metainfo::read
 pub torrent-2 : (s : List ℕ) (p : ℕ) → length s ≤ mostText → readOf s ≡ refused 2 p ↔ Byte s p
 torrent-2 s p h = torrents.byte-law s p h
 
@@ -119,7 +119,7 @@ reply-2 s p h = both-ways (cited.reply-bencode s 2 p (omega arith)) (bencode.byt
 pub check-3 : (s : List ℕ) (p : ℕ) → length s ≤ mostText → checkOf s ≡ refused 3 p ↔ Order s p
 check-3 s p h = both-ways (map-refused value.count (decode s) 3 p) (bencode.order-law s p h)
 
--- given by metainfo::read
+-- given by torrent_metainfo::read
 pub torrent-3 : (s : List ℕ) (p : ℕ) → length s ≤ mostText → readOf s ≡ refused 3 p ↔ Order s p
 torrent-3 s p h = torrents.order-law s p h
 
@@ -133,7 +133,7 @@ reply-3 s p h = both-ways (cited.reply-bencode s 3 p (omega arith)) (bencode.ord
 pub check-4 : (s : List ℕ) (p : ℕ) → length s ≤ mostText → checkOf s ≡ refused 4 p ↔ Integer s p
 check-4 s p h = both-ways (map-refused value.count (decode s) 4 p) (bencode.integer-law s p h)
 
--- given by metainfo::read
+-- given by torrent_metainfo::read
 pub torrent-4 : (s : List ℕ) (p : ℕ) → length s ≤ mostText → readOf s ≡ refused 4 p ↔ Integer s p
 torrent-4 s p h = torrents.integer-law s p h
 
@@ -147,7 +147,7 @@ reply-4 s p h = both-ways (cited.reply-bencode s 4 p (omega arith)) (bencode.int
 pub check-5 : (s : List ℕ) (p : ℕ) → length s ≤ mostText → checkOf s ≡ refused 5 p ↔ Deep s p
 check-5 s p h = both-ways (map-refused value.count (decode s) 5 p) (bencode.deep-law s p h)
 
--- given by metainfo::read
+-- given by torrent_metainfo::read
 pub torrent-5 : (s : List ℕ) (p : ℕ) → length s ≤ mostText → readOf s ≡ refused 5 p ↔ Deep s p
 torrent-5 s p h = torrents.deep-law s p h
 
@@ -161,7 +161,7 @@ reply-5 s p h = both-ways (cited.reply-bencode s 5 p (omega arith)) (bencode.dee
 pub check-6 : (s : List ℕ) (p : ℕ) → length s ≤ mostText → checkOf s ≡ refused 6 p ↔ Many s p
 check-6 s p h = both-ways (map-refused value.count (decode s) 6 p) (bencode.many-law s p h)
 
--- given by metainfo::read
+-- given by torrent_metainfo::read
 pub torrent-6 : (s : List ℕ) (p : ℕ) → length s ≤ mostText → readOf s ≡ refused 6 p ↔ Many s p
 torrent-6 s p h = torrents.many-law s p h
 
@@ -175,7 +175,7 @@ reply-6 s p h = both-ways (cited.reply-bencode s 6 p (omega arith)) (bencode.man
 pub check-7 : (s : List ℕ) (p : ℕ) → length s ≤ mostText → checkOf s ≡ refused 7 p ↔ After s p
 check-7 s p h = both-ways (map-refused value.count (decode s) 7 p) (bencode.after-law s p h)
 
--- given by metainfo::read
+-- given by torrent_metainfo::read
 pub torrent-7 : (s : List ℕ) (p : ℕ) → length s ≤ mostText → readOf s ≡ refused 7 p ↔ After s p
 torrent-7 s p h = torrents.after-law s p h
 
@@ -189,7 +189,7 @@ reply-7 s p h = both-ways (cited.reply-bencode s 7 p (omega arith)) (bencode.aft
 pub check-8 : (s : List ℕ) (p : ℕ) → checkOf s ≡ refused 8 p ↔ ((mostText < length s) × (p ≡ 0))
 check-8 s p = both-ways (map-refused value.count (decode s) 8 p) (decode-8 s p)
 
--- given by metainfo::read
+-- given by torrent_metainfo::read
 pub torrent-8 : (s : List ℕ) (p : ℕ) → readOf s ≡ refused 8 p ↔ ((mostText < length s) × (p ≡ 0))
 torrent-8 s p = torrents.long-law s p
 
@@ -197,19 +197,19 @@ torrent-8 s p = torrents.long-law s p
 pub reply-8 : (s : List ℕ) (p : ℕ) → map counted (replyOf s) ≡ refused 8 p ↔ ((mostText < length s) × (p ≡ 0))
 reply-8 s p = both-ways (cited.reply-bencode s 8 p (omega arith)) (decode-8 s p)
 
--- given by sha1::digest
+-- given by hash_sha1::digest
 pub digest-8 : (m o : List ℕ) (p : ℕ) → digestOf m o .answer ≡ refused 8 p ↔ ((longestPiece < length m) × (p ≡ 0))
 digest-8 m o p = let e = cited.digest-exactly m o 8 p in (λ h. let k = e .0 h in (k .1, k .2), λ h. e .1 (refl, h .0, h .1))
 
--- given by sha1::stream::finish
+-- given by hash_sha1::stream::finish
 pub finish-8 : (s : Stream) (o : List ℕ) (p : ℕ) → finishOf s o .answer ≡ refused 8 p ↔ ((longestPiece < s .length) × (p ≡ 0))
 finish-8 s o p = cited.finish-exactly s o p
 
--- given by sha1::agrees
+-- given by hash_sha1::agrees
 pub agrees-8 : (m expected : List ℕ) (p : ℕ) → agreementOf m expected ≡ refused 8 p ↔ ((longestPiece < length m) × (p ≡ 0))
 agrees-8 m expected p = cited.agreement-exactly m expected p
 
--- given by contents::check_piece
+-- given by torrent_contents::check_piece
 pub piece-check-8 : (s : List ℕ) (n : ℕ) (m : List ℕ) (p : ℕ) → piece.checkOf s n m ≡ refused 8 p ↔ ((readOf s ≡ refused 8 p) ⊎ ((t : Torrent) × (readOf s ≡ taken t) × Unchecked t n m 8 × (p ≡ 0)))
 piece-check-8 s n m p = cited.check-exactly s n m 8 p
 
@@ -217,17 +217,17 @@ piece-check-8 s n m p = cited.check-exactly s n m 8 p
 pub reply-writer-8 : (interval : ℕ) (peers o : List ℕ) (p : ℕ) → replyText interval peers o .answer ≡ refused 8 p ↔ (NotWritten interval peers o 8 × (p ≡ 0))
 reply-writer-8 interval peers o p = cited.reply-written interval peers o 8 p
 
--- given by authoring::write
+-- given by torrent_authoring::write
 pub torrent-writer-8 : (f : Fields) (o : List ℕ) (p : ℕ) → author.writeOf f o .answer ≡ refused 8 p ↔ (rules.NotWritten f o 8 × (p ≡ 0))
 torrent-writer-8 f o p = cited.torrent-written f o 8 p
 
--- given by authoring::size
+-- given by torrent_authoring::size
 pub torrent-size-8 : (f : Fields) (p : ℕ) → author.sizeOf f ≡ refused 8 p ↔ (Unsized f 8 × (p ≡ 0))
 torrent-size-8 f p = cited.torrent-sized f 8 p
 
 -- ---- 10: "key missing (offset of its dictionary), value of the wrong kind (its offset)"
 
--- given by metainfo::read
+-- given by torrent_metainfo::read
 pub torrent-10 : (s : List ℕ) (p : ℕ) → readOf s ≡ refused 10 p ↔ NoTorrentText s 10 p
 torrent-10 s p = torrents.kind-law s p
 
@@ -237,7 +237,7 @@ reply-10 s p = cited.reply-own s 10 p (omega arith)
 
 -- ---- 11: "number out of range; offset of the value"
 
--- given by metainfo::read
+-- given by torrent_metainfo::read
 pub torrent-11 : (s : List ℕ) (p : ℕ) → readOf s ≡ refused 11 p ↔ NoTorrentText s 11 p
 torrent-11 s p = torrents.range-law s p
 
@@ -245,16 +245,16 @@ torrent-11 s p = torrents.range-law s p
 pub reply-11 : (s : List ℕ) (p : ℕ) → map counted (replyOf s) ≡ refused 11 p ↔ NoReplyText s 11 p
 reply-11 s p = cited.reply-own s 11 p (omega arith)
 
--- given by blocks::block
+-- given by torrent_blocks::block
 pub block-11 : (files : List Span) (pl p o n : ℕ) (out : List ℕ) (q : ℕ) → partsWritten (blockOf files pl p o n) out .answer ≡ refused 11 q ↔ (BlockCause files pl p o n (length out) 11 × (q ≡ 0))
 block-11 files pl p o n out q =
     (blocks.block-refused-only files pl p o n out 11 q, λ h. ap (λ (l : Left). l .answer) (blocks.block-refused-every files pl p o n out 11 (h .0)) ∙ at-place (h .1))
 
--- given by blocks::byte
+-- given by torrent_blocks::byte
 pub byte-11 : (files : List Span) (pl f o q : ℕ) → byteOf files pl f o ≡ refused 11 q ↔ (ByteCause files pl f o 11 × (q ≡ 0))
 byte-11 files pl f o q = (blocks.byte-refused-only files pl f o 11 q, λ h. blocks.byte-refused-every files pl f o 11 (h .0) ∙ at-place (h .1))
 
--- given by blocks::piece_size
+-- given by torrent_blocks::piece_size
 pub piece-size-11 : (files : List Span) (pl p q : ℕ) → sizeOf files pl p ≡ refused 11 q ↔ (SizeCause files pl p 11 × (q ≡ 0))
 piece-size-11 files pl p q = (blocks.size-refused-only files pl p 11 q, λ h. blocks.size-refused-every files pl p 11 (h .0) ∙ at-place (h .1))
 
@@ -262,39 +262,39 @@ piece-size-11 files pl p q = (blocks.size-refused-only files pl p 11 q, λ h. bl
 pub reply-writer-11 : (interval : ℕ) (peers o : List ℕ) (p : ℕ) → replyText interval peers o .answer ≡ refused 11 p ↔ (NotWritten interval peers o 11 × (p ≡ 0))
 reply-writer-11 interval peers o p = cited.reply-written interval peers o 11 p
 
--- given by authoring::write
+-- given by torrent_authoring::write
 pub torrent-writer-11 : (f : Fields) (o : List ℕ) (p : ℕ) → author.writeOf f o .answer ≡ refused 11 p ↔ (rules.NotWritten f o 11 × (p ≡ 0))
 torrent-writer-11 f o p = cited.torrent-written f o 11 p
 
--- given by authoring::size
+-- given by torrent_authoring::size
 pub torrent-size-11 : (f : Fields) (p : ℕ) → author.sizeOf f ≡ refused 11 p ↔ (Unsized f 11 × (p ≡ 0))
 torrent-size-11 f p = cited.torrent-sized f 11 p
 
 -- ---- 12: "wrong length of pieces; its offset"
 
--- given by metainfo::read
+-- given by torrent_metainfo::read
 pub torrent-12 : (s : List ℕ) (p : ℕ) → readOf s ≡ refused 12 p ↔ NoTorrentText s 12 p
 torrent-12 s p = torrents.pieces-law s p
 
--- given by authoring::write
+-- given by torrent_authoring::write
 pub torrent-writer-12 : (f : Fields) (o : List ℕ) (p : ℕ) → author.writeOf f o .answer ≡ refused 12 p ↔ (rules.NotWritten f o 12 × (p ≡ 0))
 torrent-writer-12 f o p = cited.torrent-written f o 12 p
 
--- given by authoring::size
+-- given by torrent_authoring::size
 pub torrent-size-12 : (f : Fields) (p : ℕ) → author.sizeOf f ≡ refused 12 p ↔ (Unsized f 12 × (p ≡ 0))
 torrent-size-12 f p = cited.torrent-sized f 12 p
 
 -- ---- 13: "bad name or path; offset of the string, or of an empty path list"
 
--- given by metainfo::read
+-- given by torrent_metainfo::read
 pub torrent-13 : (s : List ℕ) (p : ℕ) → readOf s ≡ refused 13 p ↔ NoTorrentText s 13 p
 torrent-13 s p = torrents.name-law s p
 
--- given by authoring::write
+-- given by torrent_authoring::write
 pub torrent-writer-13 : (f : Fields) (o : List ℕ) (p : ℕ) → author.writeOf f o .answer ≡ refused 13 p ↔ (rules.NotWritten f o 13 × (p ≡ 0))
 torrent-writer-13 f o p = cited.torrent-written f o 13 p
 
--- given by authoring::size
+-- given by torrent_authoring::size
 pub torrent-size-13 : (f : Fields) (p : ℕ) → author.sizeOf f ≡ refused 13 p ↔ (Unsized f 13 × (p ≡ 0))
 torrent-size-13 f p = cited.torrent-sized f 13 p
 
@@ -310,7 +310,7 @@ reply-writer-15 interval peers o p = cited.reply-written interval peers o 15 p
 
 -- ---- 20: "frame length over 16,393"
 
--- given by wire::read_frame
+-- given by peer_wire::read_frame
 pub frame-20 : (s : List ℕ) (p : ℕ) → frames.readOf s ≡ refused 20 p ↔ (TooLong s × (p ≡ 0))
 frame-20 s p = cited.frame-20 s p
 
@@ -325,7 +325,7 @@ yard-20 lent h y m c place = both-ways (reasons.made-fair lent h y m c 20 place)
 
 -- ---- 21: "payload length wrong for its id"
 
--- given by wire::read_frame
+-- given by peer_wire::read_frame
 pub frame-21 : (s : List ℕ) (p : ℕ) → frames.readOf s ≡ refused 21 p ↔ (All s × (Right s → ⊥) × (p ≡ 0))
 frame-21 s p = cited.frame-21 s p
 
@@ -340,13 +340,13 @@ yard-21 lent h y m c place = both-ways (reasons.made-fair lent h y m c 21 place)
 
 -- ---- 22: "handshake's first 20 bytes wrong"
 
--- given by wire::read_handshake, whose info hash has 20 bytes
+-- given by peer_wire::read_handshake, whose info hash has 20 bytes
 pub handshake-22 : (info s : List ℕ) (p : ℕ) → length info ≡ 20 → shakeOf info s ≡ refused 22 p ↔ (Misnamed s × (p ≡ 0))
 handshake-22 info s p h = cited.handshake-22 info s p h
 
 -- ---- 23: "handshake for another info hash"
 
--- given by wire::read_handshake, whose info hash has 20 bytes
+-- given by peer_wire::read_handshake, whose info hash has 20 bytes
 pub handshake-23 : (info s : List ℕ) (p : ℕ) → length info ≡ 20 → shakeOf info s ≡ refused 23 p ↔ (Named s × (68 ≤ length s) × (infoIn s ≡ info → ⊥) × (p ≡ 0))
 handshake-23 info s p h = cited.handshake-23 info s p h
 
@@ -367,24 +367,24 @@ pub yard-31 : (lent : Yard) (h : History) (y : Yard) → Made lent h y → (c : 
     ⊎ ((q : ℕ) × (c ≡ count q) × (pieces h ≤ q))))) × (place ≡ 0))
 yard-31 lent h y m c place = both-ways (reasons.made-fair lent h y m c 31 place) (reasons.cause-31 (length (lent .seats)) h c place)
 
--- given by blocks::block
+-- given by torrent_blocks::block
 pub block-31 : (files : List Span) (pl p o n : ℕ) (out : List ℕ) (q : ℕ) → partsWritten (blockOf files pl p o n) out .answer ≡ refused 31 q ↔ (BlockCause files pl p o n (length out) 31 × (q ≡ 0))
 block-31 files pl p o n out q =
     (blocks.block-refused-only files pl p o n out 31 q, λ h. ap (λ (l : Left). l .answer) (blocks.block-refused-every files pl p o n out 31 (h .0)) ∙ at-place (h .1))
 
--- given by blocks::byte
+-- given by torrent_blocks::byte
 pub byte-31 : (files : List Span) (pl f o q : ℕ) → byteOf files pl f o ≡ refused 31 q ↔ (ByteCause files pl f o 31 × (q ≡ 0))
 byte-31 files pl f o q = (blocks.byte-refused-only files pl f o 31 q, λ h. blocks.byte-refused-every files pl f o 31 (h .0) ∙ at-place (h .1))
 
--- given by blocks::piece_size
+-- given by torrent_blocks::piece_size
 pub piece-size-31 : (files : List Span) (pl p q : ℕ) → sizeOf files pl p ≡ refused 31 q ↔ (SizeCause files pl p 31 × (q ≡ 0))
 piece-size-31 files pl p q = (blocks.size-refused-only files pl p 31 q, λ h. blocks.size-refused-every files pl p 31 (h .0) ∙ at-place (h .1))
 
--- given by contents::file
+-- given by torrent_contents::file
 pub file-31 : (s : List ℕ) (n p : ℕ) → file.entryOf s n ≡ refused 31 p ↔ ((t : Torrent) × (readOf s ≡ taken t) × (t .content .files ≤ n) × (p ≡ 0))
 file-31 s n p = cited.file-exactly s n p
 
--- given by contents::piece_hash
+-- given by torrent_contents::piece_hash
 pub piece-hash-31 : (s : List ℕ) (n p : ℕ) → piece.hashOf s n ≡ refused 31 p ↔ ((t : Torrent) × (readOf s ≡ taken t) × (t .«piece_count» ≤ n) × (p ≡ 0))
 piece-hash-31 s n p = cited.hash-exactly s n p
 
@@ -392,7 +392,7 @@ piece-hash-31 s n p = cited.hash-exactly s n p
 pub peer-31 : (s : List ℕ) (n p : ℕ) → then (replyOf s) (nthOf n) ≡ refused 31 p ↔ ((x : Answer (List PeerEntry)) × (replyOf s ≡ taken x) × (entriesIn (counted x) ≤ n) × (p ≡ 0))
 peer-31 s n p = cited.peer-exactly s n p
 
--- given by contents::check_piece
+-- given by torrent_contents::check_piece
 pub piece-check-31 : (s : List ℕ) (n : ℕ) (m : List ℕ) (p : ℕ) → piece.checkOf s n m ≡ refused 31 p ↔ ((t : Torrent) × (readOf s ≡ taken t) × Unchecked t n m 31 × (p ≡ 0))
 piece-check-31 s n m p = cited.check-own s n m 31 p (omega arith)
 
@@ -417,16 +417,16 @@ pub yard-34 : (lent : Yard) (h : History) (y : Yard) → Made lent h y → (c : 
     ↔ (((i : ℕ) × (s : List ℕ) × (m : Message (List ℕ)) × (q : ℕ) × (b : ℕ) × (k : ℕ) × (bytes : ℕ) × (c ≡ feed i s) × Sits (length (lent .seats)) h i × Says s m bytes × SpeaksOf q b k m × (q < pieces h) × (Fits h q b k → ⊥)) × (place ≡ 0))
 yard-34 lent h y m c place = both-ways (reasons.made-fair lent h y m c 34 place) (reasons.cause-34 (length (lent .seats)) h c place)
 
--- given by blocks::block
+-- given by torrent_blocks::block
 pub block-34 : (files : List Span) (pl p o n : ℕ) (out : List ℕ) (q : ℕ) → partsWritten (blockOf files pl p o n) out .answer ≡ refused 34 q ↔ (BlockCause files pl p o n (length out) 34 × (q ≡ 0))
 block-34 files pl p o n out q =
     (blocks.block-refused-only files pl p o n out 34 q, λ h. ap (λ (l : Left). l .answer) (blocks.block-refused-every files pl p o n out 34 (h .0)) ∙ at-place (h .1))
 
--- given by blocks::byte
+-- given by torrent_blocks::byte
 pub byte-34 : (files : List Span) (pl f o q : ℕ) → byteOf files pl f o ≡ refused 34 q ↔ (ByteCause files pl f o 34 × (q ≡ 0))
 byte-34 files pl f o q = (blocks.byte-refused-only files pl f o 34 q, λ h. blocks.byte-refused-every files pl f o 34 (h .0) ∙ at-place (h .1))
 
--- given by contents::check_piece
+-- given by torrent_contents::check_piece
 pub piece-check-34 : (s : List ℕ) (n : ℕ) (m : List ℕ) (p : ℕ) → piece.checkOf s n m ≡ refused 34 p ↔ ((t : Torrent) × (readOf s ≡ taken t) × Unchecked t n m 34 × (p ≡ 0))
 piece-check-34 s n m p = cited.check-own s n m 34 p (omega arith)
 
@@ -454,12 +454,12 @@ pub yard-37 : (lent : Yard) (h : History) (y : Yard) → Made lent h y → (c : 
     ↔ (((i : ℕ) × (space : ℕ) × Marks i space c × Sits (length (lent .seats)) h i × (space < 5)) × (place ≡ 0))
 yard-37 lent h y m c place = both-ways (reasons.made-fair lent h y m c 37 place) (reasons.cause-37 (length (lent .seats)) h c place)
 
--- given by blocks::block
+-- given by torrent_blocks::block
 pub block-37 : (files : List Span) (pl p o n : ℕ) (out : List ℕ) (q : ℕ) → partsWritten (blockOf files pl p o n) out .answer ≡ refused 37 q ↔ (BlockCause files pl p o n (length out) 37 × (q ≡ 0))
 block-37 files pl p o n out q =
     (blocks.block-refused-only files pl p o n out 37 q, λ h. ap (λ (l : Left). l .answer) (blocks.block-refused-every files pl p o n out 37 (h .0)) ∙ at-place (h .1))
 
--- given by the writers of `writer`, a keepalive, a handshake and the listing: bytes w put at a place
+-- given by the writers of `bencode_writer`, a keepalive, a handshake and the listing: bytes w put at a place
 pub put-37 : (w : List ℕ) (at : ℕ) (o : List ℕ) (p : ℕ) → putOf w at o .answer ≡ refused 37 p ↔ ((length o < at + length w) × (p ≡ 0))
 put-37 w at o p = let e = cited.put-exactly w at o 37 p in (λ h. let k = e .0 h in (k .1, k .2), λ h. e .1 (refl, h .0, h .1))
 
@@ -471,7 +471,7 @@ write-37 rest o p = cited.write-37 rest o p
 pub reply-writer-37 : (interval : ℕ) (peers o : List ℕ) (p : ℕ) → replyText interval peers o .answer ≡ refused 37 p ↔ (NotWritten interval peers o 37 × (p ≡ 0))
 reply-writer-37 interval peers o p = cited.reply-written interval peers o 37 p
 
--- given by authoring::write
+-- given by torrent_authoring::write
 pub torrent-writer-37 : (f : Fields) (o : List ℕ) (p : ℕ) → author.writeOf f o .answer ≡ refused 37 p ↔ (rules.NotWritten f o 37 × (p ≡ 0))
 torrent-writer-37 f o p = cited.torrent-written f o 37 p
 
@@ -498,11 +498,11 @@ never-39 lent h y m c place = reasons.made-undamaged lent h y m c place
 
 -- ---- wait: "more bytes are needed, nothing is used"
 
--- given by wire::read_frame
+-- given by peer_wire::read_frame
 pub frame-wait : (s : List ℕ) → frames.readOf s ≡ taken frames.wait ↔ (Few s ⊎ causes.Cut s)
 frame-wait s = wait-exactly s
 
--- given by wire::read_handshake, whose info hash has 20 bytes
+-- given by peer_wire::read_handshake, whose info hash has 20 bytes
 pub handshake-wait : (info s : List ℕ) → length info ≡ 20 → shakeOf info s ≡ taken handshake.wait ↔ (Named s × (length s < 68))
 handshake-wait info s h = shake-wait-exactly info s h
 

@@ -6,30 +6,30 @@ use mathlib.Core.List.{List·Memᴰ as In}
 use Prim.Native.Nat.{ℕ}
 use lib.ListN.{length}
 use Rattle.refusal.specs.Paper.{refused, map, then}
-use Rattle.writer.specs.Put.{putOf}
+use Rattle.bencode_writer.specs.Put.{putOf}
 use Rattle.bencode.specs.Answers.{checkOf}
-use Rattle.sha1.specs.Digest.{digestOf, agreementOf}
-use Rattle.sha1.specs.Parts.{finishOf}
-use Rattle.sha1.specs.declared.stream.Stream.{Stream}
-use Rattle.blocks.specs.Spans.{Span}
-use Rattle.blocks.specs.Answers.{partsWritten, blockOf, byteOf, sizeOf}
-use Rattle.blocks.proofs.Causes as blocks
-use Rattle.wire.specs.Frames as frames
-use Rattle.wire.specs.Handshake.{shakeOf}
-use Rattle.wire.proofs.Decided.{exactly}
-use Rattle.wire.proofs.Shaking.{shake-exactly}
-use Rattle.wire.proofs.Written.{write-exactly}
+use Rattle.hash_sha1.specs.Digest.{digestOf, agreementOf}
+use Rattle.hash_sha1.specs.Parts.{finishOf}
+use Rattle.hash_sha1.specs.declared.stream.Stream.{Stream}
+use Rattle.torrent_blocks.specs.Spans.{Span}
+use Rattle.torrent_blocks.specs.Answers.{partsWritten, blockOf, byteOf, sizeOf}
+use Rattle.torrent_blocks.proofs.Causes as blocks
+use Rattle.peer_wire.specs.Frames as frames
+use Rattle.peer_wire.specs.Handshake.{shakeOf}
+use Rattle.peer_wire.proofs.Decided.{exactly}
+use Rattle.peer_wire.proofs.Shaking.{shake-exactly}
+use Rattle.peer_wire.proofs.Written.{write-exactly}
 use Rattle.tracker.specs.Reply.{replyOf, counted, nthOf}
 use Rattle.tracker.specs.Writing.{writeOf as replyText}
-use Rattle.metainfo.specs.Reading.{readOf}
-use Rattle.metainfo.specs.Hashes.{infoHashOf}
-use Rattle.authoring.specs.Writing as author
-use Rattle.authoring.specs.Writing.{Fields}
-use Rattle.contents.specs.Files as file
-use Rattle.contents.specs.Pieces as piece
-use Rattle.tables.specs.Tables.{Yard}
-use Rattle.tables.specs.Step.{Call, step}
-use Rattle.history.specs.History.{History}
+use Rattle.torrent_metainfo.specs.Reading.{readOf}
+use Rattle.torrent_metainfo.specs.Hashes.{infoHashOf}
+use Rattle.torrent_authoring.specs.Writing as author
+use Rattle.torrent_authoring.specs.Writing.{Fields}
+use Rattle.torrent_contents.specs.Files as file
+use Rattle.torrent_contents.specs.Pieces as piece
+use Rattle.yard_tables.specs.Tables.{Yard}
+use Rattle.yard_tables.specs.Step.{Call, step}
+use Rattle.yard_laws.specs.History.{History}
 use Rattle.demands.specs.Three.Program.{Made}
 use Rattle.demands.specs.Cited.Numbers as cited
 use Rattle.demands.specs.Cited.Only as only
@@ -44,31 +44,31 @@ check-no-other = only.check
 -- ---- torrents: "Checks in this order: bencode; top is a dictionary; [..] name (string, then 13), piece length (integer, then 11) [..]. Then how many files, the
 -- total, how many pieces (11), then 12."
 
--- of metainfo::read
+-- of torrent_metainfo::read
 pub torrent-no-other : (s : List ℕ) (k p : ℕ) → readOf s ≡ refused k p → In k (1 ∷ 2 ∷ 3 ∷ 4 ∷ 5 ∷ 6 ∷ 7 ∷ 8 ∷ 10 ∷ 11 ∷ 12 ∷ 13 ∷ [])
 torrent-no-other = only.torrent
 
--- of metainfo::info_hash
+-- of torrent_metainfo::info_hash
 pub info-hash-no-other : (s o : List ℕ) (k p : ℕ) → infoHashOf s o .answer ≡ refused k p → In k (1 ∷ 2 ∷ 3 ∷ 4 ∷ 5 ∷ 6 ∷ 7 ∷ 8 ∷ 10 ∷ 11 ∷ 12 ∷ 13 ∷ [])
 info-hash-no-other s o k p e = only.torrent s k p (cited.info-hash-alike s o k p .0 e)
 
--- of contents::file: a file's number too
+-- of torrent_contents::file: a file's number too
 pub file-no-other : (s : List ℕ) (n k p : ℕ) → file.entryOf s n ≡ refused k p → In k (31 ∷ 1 ∷ 2 ∷ 3 ∷ 4 ∷ 5 ∷ 6 ∷ 7 ∷ 8 ∷ 10 ∷ 11 ∷ 12 ∷ 13 ∷ [])
 file-no-other = only.file-entry
 
--- of contents::piece_hash: a piece's number too
+-- of torrent_contents::piece_hash: a piece's number too
 pub piece-hash-no-other : (s : List ℕ) (n k p : ℕ) → piece.hashOf s n ≡ refused k p → In k (31 ∷ 1 ∷ 2 ∷ 3 ∷ 4 ∷ 5 ∷ 6 ∷ 7 ∷ 8 ∷ 10 ∷ 11 ∷ 12 ∷ 13 ∷ [])
 piece-hash-no-other = only.piece-hash
 
--- of contents::check_piece: and "a piece to check of the wrong length"
+-- of torrent_contents::check_piece: and "a piece to check of the wrong length"
 pub piece-check-no-other : (s : List ℕ) (n : ℕ) (m : List ℕ) (k p : ℕ) → piece.checkOf s n m ≡ refused k p → In k (31 ∷ 34 ∷ 1 ∷ 2 ∷ 3 ∷ 4 ∷ 5 ∷ 6 ∷ 7 ∷ 8 ∷ 10 ∷ 11 ∷ 12 ∷ 13 ∷ [])
 piece-check-no-other = only.piece-check
 
--- of authoring::write
+-- of torrent_authoring::write
 pub torrent-writer-no-other : (f : Fields) (o : List ℕ) (k p : ℕ) → author.writeOf f o .answer ≡ refused k p → In k (8 ∷ 11 ∷ 12 ∷ 13 ∷ 37 ∷ [])
 torrent-writer-no-other f o k p e = only.torrent-writer f o k (cited.torrent-written f o k p .0 e .0)
 
--- of authoring::size
+-- of torrent_authoring::size
 pub torrent-size-no-other : (f : Fields) (k p : ℕ) → author.sizeOf f ≡ refused k p → In k (8 ∷ 11 ∷ 12 ∷ 13 ∷ [])
 torrent-size-no-other f k p e = only.torrent-size f k (cited.torrent-sized f k p .0 e .0)
 
@@ -89,39 +89,39 @@ reply-writer-no-other interval peers o k p e = only.reply-writer interval peers 
 
 -- ---- digests: "piece to hash over 16,777,216"
 
--- of sha1::digest
+-- of hash_sha1::digest
 pub digest-no-other : (m o : List ℕ) (k p : ℕ) → digestOf m o .answer ≡ refused k p → k ≡ 8
 digest-no-other m o k p e = cited.digest-exactly m o k p .0 e .0
 
--- of sha1::stream::finish
+-- of hash_sha1::stream::finish
 pub finish-no-other : (s : Stream) (o : List ℕ) (k p : ℕ) → finishOf s o .answer ≡ refused k p → k ≡ 8
 finish-no-other = only.finish
 
--- of sha1::agrees
+-- of hash_sha1::agrees
 pub agrees-no-other : (m expected : List ℕ) (k p : ℕ) → agreementOf m expected ≡ refused k p → k ≡ 8
 agrees-no-other = only.agreement
 
 -- ---- blocks: "Lent file lengths and a piece length that break a number rule for torrents are 11 at place 0, checked first. Checks: 31, 34, 37."
 
--- of blocks::block
+-- of torrent_blocks::block
 pub block-no-other : (files : List Span) (pl p o n : ℕ) (out : List ℕ) (k q : ℕ) → partsWritten (blockOf files pl p o n) out .answer ≡ refused k q → In k (11 ∷ 31 ∷ 34 ∷ 37 ∷ [])
 block-no-other files pl p o n out k q e = only.block files pl p o n (length out) k (blocks.block-refused-only files pl p o n out k q e .0)
 
--- of blocks::byte: "file number refused by 31, offset by 34"
+-- of torrent_blocks::byte: "file number refused by 31, offset by 34"
 pub byte-no-other : (files : List Span) (pl f o k q : ℕ) → byteOf files pl f o ≡ refused k q → In k (11 ∷ 31 ∷ 34 ∷ [])
 byte-no-other files pl f o k q e = only.byte files pl f o k (blocks.byte-refused-only files pl f o k q e .0)
 
--- of blocks::piece_size
+-- of torrent_blocks::piece_size
 pub piece-size-no-other : (files : List Span) (pl p k q : ℕ) → sizeOf files pl p ≡ refused k q → In k (11 ∷ 31 ∷ [])
 piece-size-no-other files pl p k q e = only.piece-size files pl p k (blocks.size-refused-only files pl p k q e .0)
 
 -- ---- frames and handshakes: "20" to "23" of the table, and "37"
 
--- of wire::read_frame
+-- of peer_wire::read_frame
 pub frame-no-other : (s : List ℕ) (k p : ℕ) → frames.readOf s ≡ refused k p → In k (20 ∷ 21 ∷ [])
 frame-no-other s k p e = only.frame s k p (exactly s (refused k p) .0 e)
 
--- of wire::read_handshake, whose info hash has 20 bytes
+-- of peer_wire::read_handshake, whose info hash has 20 bytes
 pub handshake-no-other : (info s : List ℕ) (k p : ℕ) → length info ≡ 20 → shakeOf info s ≡ refused k p → In k (22 ∷ 23 ∷ [])
 handshake-no-other info s k p h e = only.handshake info s k p (shake-exactly info s h (refused k p) .0 e)
 
@@ -129,7 +129,7 @@ handshake-no-other info s k p h e = only.handshake info s k p (shake-exactly inf
 pub write-no-other : (rest o : List ℕ) (k p : ℕ) → frames.writeOf rest o .answer ≡ refused k p → In k (20 ∷ 21 ∷ 37 ∷ [])
 write-no-other rest o k p e = only.write rest o k p (write-exactly rest o (refused k p) .0 e)
 
--- of the writers of `writer`, a keepalive, a handshake and the listing: bytes w put at a place
+-- of the writers of `bencode_writer`, a keepalive, a handshake and the listing: bytes w put at a place
 pub put-no-other : (w : List ℕ) (at : ℕ) (o : List ℕ) (k p : ℕ) → putOf w at o .answer ≡ refused k p → k ≡ 37
 put-no-other w at o k p e = cited.put-exactly w at o k p .0 e .0
 

@@ -1,27 +1,27 @@
--- Demand 1 of `scans`: the passes over lent seats. Assumes nothing.
+-- Demand 1 of `yard_scans`: the passes over lent seats. Assumes nothing.
 use mathlib.Core.Bool.{Bool, cond}
 use mathlib.Core.List.{List}
 use mathlib.Core.Path.{_≡_, sym, _∙_, refl}
 use Prim.Native.Nat.{ℕ}
 use lib.ListN.{getD, set, length, replicate}
 use lib.Seq.{sets}
-use Rattle.tables.specs.Looks.{pageOf, linesOf}
-use Rattle.tables.specs.Seating.{lowestFree}
-use Rattle.tables.specs.Seats.{cleared}
-use Rattle.tables.specs.declared.Page.{Page}
-use Rattle.tables.specs.declared.Seat.{Seat}
-use Rattle.scans.specs.Pages.{asLines}
-use Rattle.scans.specs.declared.Asked.{Asked}
+use Rattle.yard_tables.specs.Looks.{pageOf, linesOf}
+use Rattle.yard_tables.specs.Seating.{lowestFree}
+use Rattle.yard_tables.specs.Seats.{cleared}
+use Rattle.yard_tables.specs.declared.Page.{Page}
+use Rattle.yard_tables.specs.declared.Seat.{Seat}
+use Rattle.yard_scans.specs.Pages.{asLines}
+use Rattle.yard_scans.specs.declared.Asked.{Asked}
 use Rattle.demands.specs.One.{Lent, now, Determined, Determined1}
 
--- scans::seat_get
+-- yard_scans::seat_get
 abbrev seat-get-ensures : (seats : Lent (List Seat)) (i : ℕ) → Seat → Type 0
 seat-get-ensures seats i r = r ≡ getD (now (seats .entry)) i cleared
 
 pub seat-get-determined : (seats : Lent (List Seat)) (i : ℕ) → Determined (seat-get-ensures seats i)
 seat-get-determined seats i r r′ e f = e ∙ sym f
 
--- scans::seat_set
+-- yard_scans::seat_set
 abbrev seat-set-ensures : (i : ℕ) (s : Seat) → Unit {0} → Lent (List Seat) → Type 0
 seat-set-ensures i s r seats = now (seats .exit) ≡ set (now (seats .entry)) i s
 
@@ -30,14 +30,14 @@ seat-set-determined i s seats r r′ seats₁ seats₂ e f = (refl, e ∙ sym f)
 
 -- it refuses nothing
 
--- scans::lowest_free
+-- yard_scans::lowest_free
 abbrev lowest-free-ensures : (seats : Lent (List Seat)) → ℕ → Type 0
 lowest-free-ensures seats r = r ≡ lowestFree (now (seats .entry))
 
 pub lowest-free-determined : (seats : Lent (List Seat)) → Determined (lowest-free-ensures seats)
 lowest-free-determined seats r r′ e f = e ∙ sym f
 
--- scans::clear_seats
+-- yard_scans::clear_seats
 abbrev clear-seats-ensures : (on : Bool) → Unit {0} → Lent (List Seat) → Type 0
 clear-seats-ensures on r seats = now (seats .exit) ≡ cond on (replicate (length (now (seats .entry))) cleared) (now (seats .entry))
 
@@ -46,7 +46,7 @@ clear-seats-determined on seats r r′ seats₁ seats₂ e f = (refl, e ∙ sym 
 
 -- it refuses nothing
 
--- scans::list_missing
+-- yard_scans::list_missing
 abbrev list-missing-ensures : (seats : Lent (List Seat)) (asked : Asked) → Page → Lent (List ℕ) → Type 0
 list-missing-ensures seats asked r page =
     (r ≡ pageOf (asked .pieces) (asked .first) (asked .lines) (now (seats .entry)))

@@ -1,28 +1,28 @@
--- Demand 1 of `telling`: the yard's answers for C. Assumes nothing.
+-- Demand 1 of `yard_telling`: the yard's answers for C. Assumes nothing.
 use mathlib.Core.Path.{_≡_, sym, _∙_}
 use Prim.Native.Nat.{ℕ}
-use Rattle.tables.specs.Tables.{paper}
-use Rattle.tables.specs.declared.Answer.{Answer}
-use Rattle.tables.specs.declared.Seat.{Seat}
-use Rattle.telling.specs.Telling.{codeOf, toldOf, shownOf}
-use Rattle.telling.specs.declared.Told.{Told}
+use Rattle.yard_tables.specs.Tables.{paper}
+use Rattle.yard_tables.specs.declared.Answer.{Answer}
+use Rattle.yard_tables.specs.declared.Seat.{Seat}
+use Rattle.yard_telling.specs.Telling.{codeOf, toldOf, shownOf}
+use Rattle.yard_telling.specs.declared.Told.{Told}
 use Rattle.demands.specs.One.{Determined}
 
--- telling::code
+-- yard_telling::code
 abbrev code-ensures : (a : Answer) → ℕ → Type 0
 code-ensures a r = r ≡ codeOf (paper a)
 
 pub code-determined : (a : Answer) → Determined (code-ensures a)
 code-determined a r r′ x y = x ∙ sym y
 
--- telling::tell
+-- yard_telling::tell
 abbrev tell-ensures : (a : Answer) (was : Told) → Told → Type 0
 tell-ensures a was r = r ≡ toldOf (paper a) was
 
 pub tell-determined : (a : Answer) (was : Told) → Determined (tell-ensures a was)
 tell-determined a was r r′ x y = x ∙ sym y
 
--- telling::shown
+-- yard_telling::shown
 abbrev shown-ensures : (a : Answer) (seen : Seat) → Seat → Type 0
 shown-ensures a seen r = r ≡ shownOf (paper a) seen
 

@@ -2,8 +2,8 @@
 use mathlib.Core.List.{List}
 use mathlib.Core.Path.{_≡_}
 use Prim.Native.Nat.{ℕ}
-use Rattle.writer.specs.Put.{paper, left}
-use Rattle.writer.specs.declared.Put.{Put}
+use Rattle.bencode_writer.specs.Put.{paper, left}
+use Rattle.bencode_writer.specs.declared.Put.{Put}
 use Rattle.tracker.specs.Writing.{writeOf}
 use Rattle.tracker.proofs.Rewriting as laws
 use Rattle.demands.specs.One.{Lent, now, Determined1, Keeps1, Refused}

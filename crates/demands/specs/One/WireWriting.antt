@@ -1,17 +1,17 @@
--- Demand 1 of `wire::write`: frames and the handshake, written. Assumes nothing.
+-- Demand 1 of `peer_wire::write`: frames and the handshake, written. Assumes nothing.
 use mathlib.Core.List.{List, _∷_, []}
 use mathlib.Core.Path.{_≡_}
 use Prim.Native.Nat.{ℕ}
-use Rattle.writer.specs.Put.{paper, left, putOf}
-use Rattle.writer.specs.declared.Put.{Put}
-use Rattle.wire.specs.Frames.{writeOf}
-use Rattle.wire.specs.Handshake.{handshake, zeros}
-use Rattle.wire.specs.Message.{keepalive, encode, have, body, bitfield, request, piece, cancel}
-use Rattle.wire.proofs.Written as laws
-use Rattle.writer.proofs.Laws as puts
+use Rattle.bencode_writer.specs.Put.{paper, left, putOf}
+use Rattle.bencode_writer.specs.declared.Put.{Put}
+use Rattle.peer_wire.specs.Frames.{writeOf}
+use Rattle.peer_wire.specs.Handshake.{handshake, zeros}
+use Rattle.peer_wire.specs.Message.{keepalive, encode, have, body, bitfield, request, piece, cancel}
+use Rattle.peer_wire.proofs.Written as laws
+use Rattle.bencode_writer.proofs.Laws as puts
 use Rattle.demands.specs.One.{Lent, now, Determined1, Keeps1, Refused}
 
--- wire::write::keepalive
+-- peer_wire::write::keepalive
 abbrev keepalive-ensures : Put → Lent (List ℕ) → Type 0
 keepalive-ensures r out = left (paper r) (now (out .exit)) ≡ putOf (encode keepalive) 0 (now (out .entry))
 
@@ -21,7 +21,7 @@ keepalive-determined out r r′ out₁ out₂ e f = laws.put-determined _ r r′
 pub keepalive-keeps : Keeps1 keepalive-ensures (λ r. Refused (paper r))
 keepalive-keeps r out e k = puts.refusal-keeps _ _ _ r e (k .2) .1
 
--- wire::write::raw
+-- peer_wire::write::raw
 abbrev raw-ensures : (id : ℕ) (payload : Lent (List ℕ)) → Put → Lent (List ℕ) → Type 0
 raw-ensures id payload r out = left (paper r) (now (out .exit)) ≡ writeOf (id ∷ now (payload .entry)) (now (out .entry))
 
@@ -31,7 +31,7 @@ raw-determined id payload out r r′ out₁ out₂ e f = laws.put-determined _ r
 pub raw-keeps : (id : ℕ) (payload : Lent (List ℕ)) → Keeps1 (raw-ensures id payload) (λ r. Refused (paper r))
 raw-keeps id payload r out e k = laws.refusal-keeps _ _ r e (k .2) .1
 
--- wire::write::plain
+-- peer_wire::write::plain
 abbrev plain-ensures : (id : ℕ) → Put → Lent (List ℕ) → Type 0
 plain-ensures id r out = left (paper r) (now (out .exit)) ≡ writeOf (id ∷ []) (now (out .entry))
 
@@ -41,7 +41,7 @@ plain-determined id out r r′ out₁ out₂ e f = laws.put-determined _ r r′ 
 pub plain-keeps : (id : ℕ) → Keeps1 (plain-ensures id) (λ r. Refused (paper r))
 plain-keeps id r out e k = laws.refusal-keeps _ _ r e (k .2) .1
 
--- wire::write::have
+-- peer_wire::write::have
 abbrev have-ensures : (index : ℕ) → Put → Lent (List ℕ) → Type 0
 have-ensures index r out = left (paper r) (now (out .exit)) ≡ writeOf (body (have index)) (now (out .entry))
 
@@ -51,7 +51,7 @@ have-determined index out r r′ out₁ out₂ e f = laws.put-determined _ r r�
 pub have-keeps : (index : ℕ) → Keeps1 (have-ensures index) (λ r. Refused (paper r))
 have-keeps index r out e k = laws.refusal-keeps _ _ r e (k .2) .1
 
--- wire::write::bitfield
+-- peer_wire::write::bitfield
 abbrev bitfield-ensures : (bits : Lent (List ℕ)) → Put → Lent (List ℕ) → Type 0
 bitfield-ensures bits r out = left (paper r) (now (out .exit)) ≡ writeOf (body (bitfield (now (bits .entry)))) (now (out .entry))
 
@@ -61,7 +61,7 @@ bitfield-determined bits out r r′ out₁ out₂ e f = laws.put-determined _ r 
 pub bitfield-keeps : (bits : Lent (List ℕ)) → Keeps1 (bitfield-ensures bits) (λ r. Refused (paper r))
 bitfield-keeps bits r out e k = laws.refusal-keeps _ _ r e (k .2) .1
 
--- wire::write::request
+-- peer_wire::write::request
 abbrev request-ensures : (index begin len : ℕ) → Put → Lent (List ℕ) → Type 0
 request-ensures index begin len r out = left (paper r) (now (out .exit)) ≡ writeOf (body (request index begin len)) (now (out .entry))
 
@@ -71,7 +71,7 @@ request-determined index begin len out r r′ out₁ out₂ e f = laws.put-deter
 pub request-keeps : (index begin len : ℕ) → Keeps1 (request-ensures index begin len) (λ r. Refused (paper r))
 request-keeps index begin len r out e k = laws.refusal-keeps _ _ r e (k .2) .1
 
--- wire::write::piece
+-- peer_wire::write::piece
 abbrev piece-ensures : (index begin : ℕ) (block : Lent (List ℕ)) → Put → Lent (List ℕ) → Type 0
 piece-ensures index begin block r out = left (paper r) (now (out .exit)) ≡ writeOf (body (piece index begin (now (block .entry)))) (now (out .entry))
 
@@ -81,7 +81,7 @@ piece-determined index begin block out r r′ out₁ out₂ e f = laws.put-deter
 pub piece-keeps : (index begin : ℕ) (block : Lent (List ℕ)) → Keeps1 (piece-ensures index begin block) (λ r. Refused (paper r))
 piece-keeps index begin block r out e k = laws.refusal-keeps _ _ r e (k .2) .1
 
--- wire::write::cancel
+-- peer_wire::write::cancel
 abbrev cancel-ensures : (index begin len : ℕ) → Put → Lent (List ℕ) → Type 0
 cancel-ensures index begin len r out = left (paper r) (now (out .exit)) ≡ writeOf (body (cancel index begin len)) (now (out .entry))
 
@@ -91,7 +91,7 @@ cancel-determined index begin len out r r′ out₁ out₂ e f = laws.put-determ
 pub cancel-keeps : (index begin len : ℕ) → Keeps1 (cancel-ensures index begin len) (λ r. Refused (paper r))
 cancel-keeps index begin len r out e k = laws.refusal-keeps _ _ r e (k .2) .1
 
--- wire::write::handshake
+-- peer_wire::write::handshake
 abbrev handshake-ensures : (info peer : Lent (List ℕ)) → Put → Lent (List ℕ) → Type 0
 handshake-ensures info peer r out = left (paper r) (now (out .exit)) ≡ putOf (handshake zeros (now (info .entry)) (now (peer .entry))) 0 (now (out .entry))
 

@@ -1,16 +1,16 @@
--- Demand 1 of `writer`: bytes, numbers, strings and integers put into lent output. Assumes nothing.
+-- Demand 1 of `bencode_writer`: bytes, numbers, strings and integers put into lent output. Assumes nothing.
 use mathlib.Core.List.{List}
 use mathlib.Core.Path.{_≡_, sym, _∙_}
 use Prim.Native.Nat.{ℕ, _≤_}
 use lib.IntN.{ℤ}
 use lib.ListN.{length}
-use Rattle.scalar.specs.Written.{decimal, writtenString, writtenInt}
-use Rattle.writer.specs.Put.{paper, left, putOf, placePast}
-use Rattle.writer.specs.declared.Put.{Put}
-use Rattle.writer.proofs.Laws as laws
+use Rattle.bencode_scalar.specs.Written.{decimal, writtenString, writtenInt}
+use Rattle.bencode_writer.specs.Put.{paper, left, putOf, placePast}
+use Rattle.bencode_writer.specs.declared.Put.{Put}
+use Rattle.bencode_writer.proofs.Laws as laws
 use Rattle.demands.specs.One.{Lent, now, Determined, Determined1, Keeps1, Refused}
 
--- writer::literal
+-- bencode_writer::literal
 abbrev literal-ensures : (at : ℕ) (bytes : Lent (List ℕ)) → Put → Lent (List ℕ) → Type 0
 literal-ensures at bytes r out = left (paper r) (now (out .exit)) ≡ putOf (now (bytes .entry)) at (now (out .entry))
 
@@ -20,7 +20,7 @@ literal-determined at bytes out r r′ out₁ out₂ e f = laws.determined _ _ _
 pub literal-keeps : (at : ℕ) (bytes : Lent (List ℕ)) → Keeps1 (literal-ensures at bytes) (λ r. Refused (paper r))
 literal-keeps at bytes r out e k = laws.refusal-keeps _ _ _ r e (k .2) .1
 
--- writer::decimal
+-- bencode_writer::decimal
 abbrev decimal-ensures : (at n : ℕ) → Put → Lent (List ℕ) → Type 0
 decimal-ensures at n r out = left (paper r) (now (out .exit)) ≡ putOf (decimal n) at (now (out .entry))
 
@@ -30,7 +30,7 @@ decimal-determined at n out r r′ out₁ out₂ e f = laws.determined _ _ _ r e
 pub decimal-keeps : (at n : ℕ) → Keeps1 (decimal-ensures at n) (λ r. Refused (paper r))
 decimal-keeps at n r out e k = laws.refusal-keeps _ _ _ r e (k .2) .1
 
--- writer::string
+-- bencode_writer::string
 abbrev string-ensures : (at : ℕ) (bytes : Lent (List ℕ)) → Put → Lent (List ℕ) → Type 0
 string-ensures at bytes r out = left (paper r) (now (out .exit)) ≡ putOf (writtenString (now (bytes .entry))) at (now (out .entry))
 
@@ -40,7 +40,7 @@ string-determined at bytes out r r′ out₁ out₂ e f = laws.determined _ _ _ 
 pub string-keeps : (at : ℕ) (bytes : Lent (List ℕ)) → Keeps1 (string-ensures at bytes) (λ r. Refused (paper r))
 string-keeps at bytes r out e k = laws.refusal-keeps _ _ _ r e (k .2) .1
 
--- writer::integer
+-- bencode_writer::integer
 abbrev integer-ensures : (at : ℕ) (z : ℤ) → Put → Lent (List ℕ) → Type 0
 integer-ensures at z r out = left (paper r) (now (out .exit)) ≡ putOf (writtenInt z) at (now (out .entry))
 
@@ -50,14 +50,14 @@ integer-determined at z out r r′ out₁ out₂ e f = laws.determined _ _ _ r e
 pub integer-keeps : (at : ℕ) (z : ℤ) → Keeps1 (integer-ensures at z) (λ r. Refused (paper r))
 integer-keeps at z r out e k = laws.refusal-keeps _ _ _ r e (k .2) .1
 
--- writer::digits
+-- bencode_writer::digits
 abbrev digits-ensures : (n : ℕ) → ℕ → Type 0
 digits-ensures n r = (r ≡ length (decimal n)) × (r ≤ 20)
 
 pub digits-determined : (n : ℕ) → Determined (digits-ensures n)
 digits-determined n r r′ e f = e .0 ∙ sym (f .0)
 
--- writer::end
+-- bencode_writer::end
 abbrev end-ensures : (put : Put) → ℕ → Type 0
 end-ensures put r = r ≡ placePast (paper put)
 

@@ -6,11 +6,11 @@ use mathlib.Core.Path.{_≡_, _∙_, sym, ap}
 use Prim.Native.Nat.{ℕ}
 use lib.ListN.{length}
 use lib.Seq.{sets}
-use Rattle.tables.specs.Step.{Call, step, written}
-use Rattle.tables.specs.Tables.{out, yardOf, paper, Out}
-use Rattle.tables.specs.declared.Answer.{Answer}
-use Rattle.tables.specs.declared.Head.{Head}
-use Rattle.tables.specs.declared.Seat.{Seat}
+use Rattle.yard_tables.specs.Step.{Call, step, written}
+use Rattle.yard_tables.specs.Tables.{out, yardOf, paper, Out}
+use Rattle.yard_tables.specs.declared.Answer.{Answer}
+use Rattle.yard_tables.specs.declared.Head.{Head}
+use Rattle.yard_tables.specs.declared.Seat.{Seat}
 use Rattle.yard.proofs.Determined as laws
 use Rattle.demands.specs.Cited.{unspoken}
 use Rattle.demands.specs.One.{Lent, now, Determined4, Unused, Keeps4, Determined3, Keeps3, Refused, Determined1, Keeps1, Determined}

@@ -5,12 +5,12 @@ use Prim.Native.Nat.{ℕ}
 use native.Mathlib.Omega.{arith}
 use lib.ListN.{length}
 use Rattle.refusal.specs.Paper.{refused}
-use Rattle.tables.specs.Tables.{Yard, sizesFit}
-use Rattle.tables.specs.Step.{start, sit, step}
-use Rattle.tables.proofs.Sizing.{Fitting, fitting}
-use Rattle.history.specs.History.{History}
-use Rattle.history.specs.Damage.{Fit}
-use Rattle.history.proofs.Damage.{sizes-exactly}
+use Rattle.yard_tables.specs.Tables.{Yard, sizesFit}
+use Rattle.yard_tables.specs.Step.{start, sit, step}
+use Rattle.yard_tables.proofs.Sizing.{Fitting, fitting}
+use Rattle.yard_laws.specs.History.{History}
+use Rattle.yard_laws.specs.Damage.{Fit}
+use Rattle.yard_laws.proofs.Damage.{sizes-exactly}
 use Rattle.demands.specs.Three.Program.{Made}
 use Rattle.demands.specs.Cited.Reasons.{made-fair, cause-38}
 

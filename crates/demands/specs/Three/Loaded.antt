@@ -1,14 +1,14 @@
 -- When no truck lacks a piece, said of any seats and pieces. Assumes nothing.
-use mathlib.Core.Path.{_≡_, refl, sym, ap, _∙_}
+use mathlib.Core.Path.{_≡_, refl, ap, _∙_}
 use mathlib.Core.Logic.{_↔_}
-use mathlib.Core.Bool.{Bool, true, false, not, _&&_}
-use Prim.Native.Nat.{ℕ, zero, suc, _+_, _≤_, _<_}
+use mathlib.Core.Bool.{Bool, true, not, _&&_}
+use Prim.Native.Nat.{ℕ, zero, suc, _<_}
 use native.Mathlib.Omega.{arith}
 use borrow.Author.Tests.{eqb-true, eq-eqb}
 use lib.Dec.{eqb}
 use Rattle.refusal.proofs.Cases.{by-bool, both-true, and-not}
-use Rattle.tables.specs.Counting.{bit, count}
-use Rattle.tables.proofs.Counts.{count-has, count-lacks, count-none}
+use Rattle.yard_tables.specs.Counting.{bit, count}
+use Rattle.yard_tables.proofs.Counts.{count-has, count-lacks, count-none}
 
 -- all of n have f: they are n
 count-all : (f : ℕ → Bool) (n : ℕ) → ((k : ℕ) → k < n → f k ≡ true) → count n f ≡ n

@@ -1,5 +1,5 @@
 -- What a page of the missing list says, put together from the laws of pages. Assumes nothing.
-use mathlib.Core.Path.{_≡_, refl, sym, ap, _∙_, subst}
+use mathlib.Core.Path.{_≡_, refl, sym, ap, _∙_}
 use mathlib.Core.Logic.{_↔_}
 use mathlib.Core.Bool.{Bool, true, false, cond}
 use mathlib.Core.List.{List, _++_}
@@ -10,16 +10,16 @@ use borrow.Author.Tests.{leb-true}
 use lib.Dec.{leb}
 use lib.ListN.{length, take, drop, length-take}
 use lib.Seq.{sets, sets-eq}
-use Rattle.refusal.specs.Paper.{Outcome, taken, refused}
-use Rattle.tables.specs.Counting.{count}
-use Rattle.tables.specs.Looks.{firstOr}
-use Rattle.tables.specs.Tables.{Said, listed}
-use Rattle.tables.specs.Step.{missing, ifTaken}
-use Rattle.tables.specs.declared.Page.{Page}
-use Rattle.history.specs.History.{History}
-use Rattle.history.specs.Says.{Ascending, lacking, missingFrom, pageLines, pageOf}
-use Rattle.history.specs.Expected.{answer, output}
-use Rattle.history.proofs.Pages.{listed-lacks, lacking-listed, list-ascends, lines-fit}
+use Rattle.refusal.specs.Paper.{taken, refused}
+use Rattle.yard_tables.specs.Counting.{count}
+use Rattle.yard_tables.specs.Looks.{firstOr}
+use Rattle.yard_tables.specs.Tables.{listed}
+use Rattle.yard_tables.specs.Step.{missing, ifTaken}
+use Rattle.yard_tables.specs.declared.Page.{Page}
+use Rattle.yard_laws.specs.History.{History}
+use Rattle.yard_laws.specs.Says.{Ascending, lacking, missingFrom, pageLines, pageOf}
+use Rattle.yard_laws.specs.Expected.{answer, output}
+use Rattle.yard_laws.proofs.Pages.{listed-lacks, lacking-listed, list-ascends}
 
 -- the total is of all seats, whatever the page
 pub page-total : (n : ℕ) (h : History) (first space : ℕ) (x : Page) → answer n h (missing first space) ≡ taken (listed x) → x .total ≡ count n (lacking h)

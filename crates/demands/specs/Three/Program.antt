@@ -3,12 +3,12 @@ use mathlib.Core.Path.{_≡_, refl, sym, ap, _∙_}
 use mathlib.Core.List.{List, [], _∷_, _++_}
 use Prim.Native.Nat.{ℕ}
 use Rattle.refusal.specs.Paper.{Outcome, taken}
-use Rattle.tables.specs.Tables.{Yard, Said, done, Out, paper}
-use Rattle.tables.specs.Step.{Call, start, missing, scarcest, look, has, step, ifTaken, written}
-use Rattle.tables.specs.Step.{count as countCall}
-use Rattle.tables.specs.declared.Answer.{Answer}
-use Rattle.history.specs.History.{History, entry}
-use Rattle.history.specs.Run.{State, next, run, after}
+use Rattle.yard_tables.specs.Tables.{Yard, Said, done, Out, paper}
+use Rattle.yard_tables.specs.Step.{Call, start, missing, scarcest, look, has, step, ifTaken, written}
+use Rattle.yard_tables.specs.Step.{count as countCall}
+use Rattle.yard_tables.specs.declared.Answer.{Answer}
+use Rattle.yard_laws.specs.History.{History, entry}
+use Rattle.yard_laws.specs.Run.{State, next, run, after}
 use Rattle.yard.proofs.Looking.{missing-changes-nothing, scarcest-changes-nothing, look-changes-nothing, has-changes-nothing, count-changes-nothing}
 
 -- the calls that look and change nothing

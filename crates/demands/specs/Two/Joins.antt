@@ -1,45 +1,44 @@
 -- What joins laws of several crates into one statement of `Two`. Assumes nothing.
 use mathlib.Core.Path.{_≡_, refl, sym, ap, _∙_, subst}
-use mathlib.Core.Bool.{Bool, true, false, cond, _&&_}
+use mathlib.Core.Bool.{Bool, true, false, cond}
 use mathlib.Core.List.{List, [], _∷_, _++_}
 use Prim.Native.Nat.{ℕ, _+_, _-_, _*_, _%_, _^_, _≤_, _<_, min}
 use native.Mathlib.Omega.{arith}
 use native.Mathlib.Nat.{mod-lt}
 use borrow.Author.Tests.{ltb-true, eqb-true, leb-true, lt-ltb, le-ltb, le-leb}
 use lib.Dec.{ltb, leb, eqb}
-use lib.IntN.{pos}
 use lib.ListN.{length, getD, take, drop, length-drop, take-append-drop}
 use lib.Seq.{take-append-le, drop-append-le, drop-drop}
 use Rattle.refusal.specs.Paper.{Outcome, taken, refused, then}
 use Rattle.refusal.specs.Parts.{bytesAt}
 use Rattle.refusal.specs.declared.Part.{Part}
 use Rattle.refusal.proofs.Outcomes.{then-taken}
-use Rattle.scalar.specs.Written.{keyLt}
-use Rattle.bencode.specs.Value.{Value, str, int, dict, empty, entry, count, Keeps}
+use Rattle.bencode_scalar.specs.Written.{keyLt}
+use Rattle.bencode.specs.Value.{Value, dict, empty, entry, count, Keeps}
 use Rattle.bencode.specs.Exact.{Fine}
 use Rattle.bencode.proofs.Exact.{fine-taken}
-use Rattle.walk.specs.Lookup.{lookup, sameKey}
-use Rattle.fields.specs.Values.{partOf, dictionaryAt}
-use Rattle.writer.specs.Put.{putOf}
-use Rattle.sha1.specs.Sha1.{sha1}
-use Rattle.sha1.specs.Digest.{same}
-use Rattle.blocks.specs.Rules.{sum, Lawful, piecesOf, lawful}
-use Rattle.blocks.specs.Spans.{Span, FilePart, joinedFiles, lengths, heldIn, partsOf, part, nowhere, endOf}
-use Rattle.blocks.specs.Answers.{Spot, spotAt, pieces, keeps, lies, sizeOf, blockOf, byteOf, flat}
-use Rattle.blocks.specs.Answers.{partsWritten, left as parting, Left as Parting}
-use Rattle.blocks.specs.Covers.{Block}
-use Rattle.blocks.proofs.Legal.{is-lawful, lawful-is, piece-bounds}
-use Rattle.blocks.proofs.Whole.{byte-finds-piece, is-lies, lies-is}
-use Rattle.blocks.proofs.Whole.{passed as all-passed}
-use Rattle.blocks.proofs.Joined.{joined-laid, joined-start, joined-count, joined-size, joined-keeps, joined-held, joined-end}
-use Rattle.metainfo.specs.Reading.{readOf}
-use Rattle.metainfo.specs.declared.Torrent.{Torrent}
-use Rattle.torrents.specs.Torrent.{TorrentSays, IsTorrent, is-torrent, lengthsIn}
-use Rattle.torrents.specs.Exact.{ShowsTorrent}
-use Rattle.torrents.proofs.Laws.{torrent-exact}
-use Rattle.contents.specs.Pieces.{hashPart, pieceBytes, checkIn, checkOf}
-use Rattle.contents.proofs.Hashing.{piece-check}
-use Rattle.contents.specs.Pieces.{hashIn, hashOf}
+use Rattle.bencode_walk.specs.Lookup.{lookup, sameKey}
+use Rattle.bencode_fields.specs.Values.{partOf, dictionaryAt}
+use Rattle.bencode_writer.specs.Put.{putOf}
+use Rattle.hash_sha1.specs.Sha1.{sha1}
+use Rattle.hash_sha1.specs.Digest.{same}
+use Rattle.torrent_blocks.specs.Rules.{sum, Lawful, piecesOf, lawful}
+use Rattle.torrent_blocks.specs.Spans.{Span, FilePart, joinedFiles, heldIn, partsOf, part, nowhere, endOf}
+use Rattle.torrent_blocks.specs.Answers.{Spot, spotAt, pieces, keeps, lies, sizeOf, blockOf, byteOf, flat}
+use Rattle.torrent_blocks.specs.Answers.{partsWritten, left as parting, Left as Parting}
+use Rattle.torrent_blocks.specs.Covers.{Block}
+use Rattle.torrent_blocks.proofs.Legal.{is-lawful, lawful-is, piece-bounds}
+use Rattle.torrent_blocks.proofs.Whole.{byte-finds-piece, is-lies, lies-is}
+use Rattle.torrent_blocks.proofs.Whole.{passed as all-passed}
+use Rattle.torrent_blocks.proofs.Joined.{joined-laid, joined-start, joined-count, joined-size, joined-keeps, joined-held, joined-end}
+use Rattle.torrent_metainfo.specs.Reading.{readOf}
+use Rattle.torrent_metainfo.specs.declared.Torrent.{Torrent}
+use Rattle.torrent_laws.specs.Torrent.{TorrentSays, IsTorrent, is-torrent, lengthsIn}
+use Rattle.torrent_laws.specs.Exact.{ShowsTorrent}
+use Rattle.torrent_laws.proofs.Laws.{torrent-exact}
+use Rattle.torrent_contents.specs.Pieces.{hashPart, pieceBytes, checkIn, checkOf}
+use Rattle.torrent_contents.proofs.Hashing.{piece-check}
+use Rattle.torrent_contents.specs.Pieces.{hashIn, hashOf}
 use Rattle.tracker.specs.Keys.{interval, peers}
 use Rattle.tracker.specs.Entries.{PeerEntry}
 use Rattle.tracker.specs.Reply.{Answer, compact, sixes, replyIn, replyOf}

@@ -12,22 +12,22 @@ use Rattle.refusal.specs.declared.Part.{Part}
 use Rattle.refusal.proofs.Outcomes.{then-taken}
 use Rattle.bencode.specs.Value.{Value, Items}
 use Rattle.bencode.specs.Decode.{decode}
-use Rattle.blocks.specs.Rules.{sum}
-use Rattle.metainfo.specs.Keys.{filesKey}
-use Rattle.metainfo.specs.Reading.{readOf, fileAt}
-use Rattle.metainfo.specs.Rules.{torrentOf}
-use Rattle.metainfo.specs.declared.File.{File}
-use Rattle.metainfo.specs.declared.Torrent.{Torrent}
-use Rattle.torrents.specs.Torrent.{OneFile, sizesOf}
-use Rattle.torrents.specs.Exact.{PathAt, FilesAt, none-left, file-at}
-use Rattle.contents.specs.Files.{inInfo, entry, entriesUnder, allEntries, entryIn, entryOf}
-use Rattle.fields.specs.Nth.{nth}
-use Rattle.fields.proofs.Nth.{nth-beyond}
-use Rattle.contents.specs.Files.{single as oneEntry}
-use Rattle.contents.specs.Walks.{last, next, Walked}
-use Rattle.contents.specs.Walks.{FilesWalked}
-use Rattle.contents.specs.declared.Entry.{Entry}
-use Rattle.contents.proofs.Walking.{files-walked}
+use Rattle.torrent_blocks.specs.Rules.{sum}
+use Rattle.torrent_metainfo.specs.Keys.{filesKey}
+use Rattle.torrent_metainfo.specs.Reading.{readOf}
+use Rattle.torrent_metainfo.specs.Rules.{torrentOf}
+use Rattle.torrent_metainfo.specs.declared.File.{File}
+use Rattle.torrent_metainfo.specs.declared.Torrent.{Torrent}
+use Rattle.torrent_laws.specs.Torrent.{OneFile, sizesOf}
+use Rattle.torrent_laws.specs.Exact.{PathAt, FilesAt, none-left, file-at}
+use Rattle.torrent_contents.specs.Files.{inInfo, entry, entriesUnder, allEntries, entryIn, entryOf}
+use Rattle.bencode_fields.specs.Nth.{nth}
+use Rattle.bencode_fields.proofs.Nth.{nth-beyond}
+use Rattle.torrent_contents.specs.Files.{single as oneEntry}
+use Rattle.torrent_contents.specs.Walks.{last, next, Walked}
+use Rattle.torrent_contents.specs.Walks.{FilesWalked}
+use Rattle.torrent_contents.specs.declared.Entry.{Entry}
+use Rattle.torrent_contents.proofs.Walking.{files-walked}
 
 no-way : {A : Type 0} → _≡_ {A = ℕ} 0 1 → A
 no-way e = absurd (omega arith)

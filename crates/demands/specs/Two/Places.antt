@@ -9,24 +9,24 @@ use Rattle.refusal.specs.Paper.{Outcome, taken, refused, map, then}
 use Rattle.refusal.specs.declared.Part.{Part}
 use Rattle.refusal.specs.Limits.{longestInterval, longestFile, largestPort}
 use Rattle.refusal.proofs.Outcomes.{not-taken, then-taken, map-taken}
-use Rattle.scalar.specs.Written.{decimal}
+use Rattle.bencode_scalar.specs.Written.{decimal}
 use Rattle.bencode.specs.Value.{Value, Items, Entries, str, int, list, dict, none, item, encode}
 use Rattle.bencode.specs.Decode.{decode}
-use Rattle.blocks.specs.Rules.{fileCount, totalAnd, piecesOf}
-use Rattle.walk.specs.Lookup.{Under, nothing, under, lookup}
-use Rattle.fields.specs.Values.{partOf, stringAt, naturalAt, listAt, dictionaryAt, must}
-use Rattle.metainfo.specs.Keys.{announceKey, infoKey, filesKey, lengthKey, nameKey, pathKey, pieceLengthKey, piecesKey}
-use Rattle.metainfo.specs.Rules.{goodName, nameAt, elementsOf, pathAt, fileIn, fileOf, pieceLengthAt, lengthsOf, oneFile, manyFiles, contentOf, placeUnder, sizedOf, infoOf, infoAt, topOf, torrentOf}
-use Rattle.metainfo.specs.Reading.{readOf}
-use Rattle.metainfo.specs.declared.File.{File}
-use Rattle.metainfo.specs.declared.Content.{Content}
-use Rattle.metainfo.specs.declared.Torrent.{Torrent}
-use Rattle.contents.specs.Files.{into, inInfo, entriesFrom, entriesUnder, entryOf}
-use Rattle.fields.specs.Nth.{nth}
-use Rattle.contents.specs.Files.{entry as fileEntry, single as oneEntry}
-use Rattle.contents.specs.Pieces.{hashPart, hashIn, hashOf}
-use Rattle.contents.specs.declared.Entry.{Entry as FileEntry}
-use Rattle.contents.proofs.Walking.{files-walked}
+use Rattle.torrent_blocks.specs.Rules.{fileCount, totalAnd, piecesOf}
+use Rattle.bencode_walk.specs.Lookup.{Under, nothing, under, lookup}
+use Rattle.bencode_fields.specs.Values.{partOf, stringAt, naturalAt, listAt, dictionaryAt, must}
+use Rattle.torrent_metainfo.specs.Keys.{announceKey, infoKey, filesKey, lengthKey, nameKey, pathKey, pieceLengthKey, piecesKey}
+use Rattle.torrent_metainfo.specs.Rules.{goodName, nameAt, elementsOf, pathAt, fileIn, fileOf, pieceLengthAt, lengthsOf, oneFile, manyFiles, contentOf, placeUnder, sizedOf, infoOf, infoAt, topOf, torrentOf}
+use Rattle.torrent_metainfo.specs.Reading.{readOf}
+use Rattle.torrent_metainfo.specs.declared.File.{File}
+use Rattle.torrent_metainfo.specs.declared.Content.{Content}
+use Rattle.torrent_metainfo.specs.declared.Torrent.{Torrent}
+use Rattle.torrent_contents.specs.Files.{into, inInfo, entriesFrom, entriesUnder, entryOf}
+use Rattle.bencode_fields.specs.Nth.{nth}
+use Rattle.torrent_contents.specs.Files.{entry as fileEntry, single as oneEntry}
+use Rattle.torrent_contents.specs.Pieces.{hashPart, hashIn, hashOf}
+use Rattle.torrent_contents.specs.declared.Entry.{Entry as FileEntry}
+use Rattle.torrent_contents.proofs.Walking.{files-walked}
 use Rattle.tracker.specs.Keys.{failureReason, interval, peers, ip, peerId, port}
 use Rattle.tracker.specs.Entries.{PeerEntry, listed, idLength}
 use Rattle.tracker.specs.Reply.{Answer, failure, compact, listing, sixes, idAt, peerIn, peerAt, peersFrom, peersAt, replyBy, replyIn}

@@ -1,6 +1,7 @@
+-- `listing::show` is safe and ends. Assumes nothing.
 use borrow.Author.Needs.{needs}
-use Rattle.lines.proofs.Laws.{listing-written}
-use Rattle.writer.specs.Put.{paper}
+use Rattle.torrent_lines.proofs.Laws.{listing-written}
+use Rattle.bencode_writer.specs.Put.{paper}
 use mathlib.Core.Path.{ap}
 use native.Mathlib.Omega.{arith}
 use Rattle.listing.proofs.show.Statement.{statement}

@@ -2,9 +2,8 @@
 use borrow.Author.Needs.{needs}
 use Rattle.tracker.specs.Reading.{paper}
 use Rattle.tracker.proofs.Steps.{the-peers, no-interval}
-use Rattle.refusal.specs.Paper.{Outcome, taken, refused, map, then}
-use native.Mathlib.Omega.{arith}
-use mathlib.Core.Path.{_≡_, refl, sym, ap, _∙_}
+use Rattle.refusal.specs.Paper.{refused}
+use mathlib.Core.Path.{ap, _∙_}
 use Rattle.tracker.proofs.answered.Statement.{statement}
 use Rattle.tracker.proofs.answered.Tie as tie
 

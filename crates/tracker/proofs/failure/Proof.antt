@@ -1,11 +1,9 @@
 -- `tracker::failure` meets its contract. Assumes nothing.
 use borrow.Author.Needs.{needs}
 use Rattle.tracker.specs.Reply.{failure}
-use Rattle.fields.specs.Looks.{stringPaper}
+use Rattle.bencode_fields.specs.Looks.{stringPaper}
 use Rattle.tracker.proofs.Steps.{via}
-use Rattle.refusal.specs.Paper.{Outcome, taken, refused, map, then}
-use native.Mathlib.Omega.{arith}
-use mathlib.Core.Path.{_≡_, refl, sym, ap, _∙_}
+use Rattle.refusal.specs.Paper.{map}
 use Rattle.tracker.proofs.failure.Statement.{statement}
 use Rattle.tracker.proofs.failure.Tie as tie
 

@@ -1,13 +1,11 @@
 -- `tracker::listed_peer` meets its contract. Assumes nothing.
 use borrow.Author.Needs.{needs}
-use Prim.Native.Nat.{_+_, _*_}
-use Rattle.tracker.specs.Entries.{PeerEntry, PeerStep, packedAt, nthAt, listedPaper}
+use Rattle.tracker.specs.Entries.{nthAt, listedPaper}
 use Rattle.tracker.specs.Reading.{peerPaper}
-use Rattle.tracker.specs.Entries.{PeerEntry, PeerStep, listedPaper}
+use Rattle.tracker.specs.Entries.{listedPaper}
 use Rattle.tracker.proofs.Steps.{via, in-count, no-count}
-use Rattle.refusal.specs.Paper.{Outcome, taken, refused, map, then}
-use native.Mathlib.Omega.{arith}
-use mathlib.Core.Path.{_≡_, refl, sym, ap, _∙_}
+use Rattle.refusal.specs.Paper.{taken, map}
+use mathlib.Core.Path.{ap, _∙_}
 use Rattle.tracker.proofs.listed_peer.Statement.{statement}
 use Rattle.tracker.proofs.listed_peer.Tie as tie
 

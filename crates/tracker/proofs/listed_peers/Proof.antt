@@ -1,11 +1,9 @@
 -- `tracker::listed_peers` meets its contract. Assumes nothing.
 use borrow.Author.Needs.{needs}
-use Rattle.tracker.specs.Reply.{Answer, listing}
+use Rattle.tracker.specs.Reply.{listing}
 use Rattle.tracker.specs.Entries.{countPaper}
 use Rattle.tracker.proofs.Steps.{via}
-use Rattle.refusal.specs.Paper.{Outcome, taken, refused, map, then}
-use native.Mathlib.Omega.{arith}
-use mathlib.Core.Path.{_≡_, refl, sym, ap, _∙_}
+use Rattle.refusal.specs.Paper.{map}
 use Rattle.tracker.proofs.listed_peers.Statement.{statement}
 use Rattle.tracker.proofs.listed_peers.Tie as tie
 

@@ -2,9 +2,9 @@
 use borrow.Author.Needs.{needs}
 use Rattle.tracker.proofs.Steps.{sixes-whole, sixes-cut}
 use Rattle.tracker.specs.Reading.{paper}
-use Rattle.refusal.specs.Paper.{Outcome, taken, refused, map, then}
+use Rattle.refusal.specs.Paper.{refused}
 use native.Mathlib.Omega.{arith}
-use mathlib.Core.Path.{_≡_, refl, sym, ap, _∙_}
+use mathlib.Core.Path.{ap, _∙_}
 use Rattle.tracker.proofs.packed_peers.Statement.{statement}
 use Rattle.tracker.proofs.packed_peers.Tie as tie
 

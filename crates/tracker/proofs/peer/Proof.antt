@@ -2,9 +2,7 @@
 use borrow.Author.Needs.{needs}
 use Rattle.tracker.specs.Reading.{peerPaper}
 use Rattle.tracker.proofs.Walking.{peer-by}
-use Rattle.refusal.specs.Paper.{Outcome, taken, refused, map, then}
-use native.Mathlib.Omega.{arith}
-use mathlib.Core.Path.{_≡_, refl, sym, ap, _∙_}
+use mathlib.Core.Path.{ap, _∙_}
 use Rattle.tracker.proofs.peer.Statement.{statement}
 use Rattle.tracker.proofs.peer.Tie as tie
 

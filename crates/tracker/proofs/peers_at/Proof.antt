@@ -1,10 +1,9 @@
 -- `tracker::peers_at` meets its contract. Assumes nothing.
 use borrow.Author.Needs.{needs}
 use Rattle.tracker.specs.Reading.{paper, peersIn}
-use Rattle.fields.proofs.Looking.{as-seen}
-use Rattle.refusal.specs.Paper.{Outcome, taken, refused, map, then}
-use native.Mathlib.Omega.{arith}
-use mathlib.Core.Path.{_≡_, refl, sym, ap, _∙_}
+use Rattle.bencode_fields.proofs.Looking.{as-seen}
+use Rattle.refusal.specs.Paper.{refused}
+use mathlib.Core.Path.{ap, _∙_}
 use Rattle.tracker.proofs.peers_at.Statement.{statement}
 use Rattle.tracker.proofs.peers_at.Tie as tie
 

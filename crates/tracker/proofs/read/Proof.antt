@@ -2,9 +2,8 @@
 use borrow.Author.Needs.{needs}
 use Rattle.bencode.specs.Answers.{paper}
 use Rattle.tracker.proofs.Agreeing.{read-whole, read-refused}
-use Rattle.refusal.specs.Paper.{Outcome, taken, refused, map, then}
-use native.Mathlib.Omega.{arith}
-use mathlib.Core.Path.{_≡_, refl, sym, ap, _∙_}
+use Rattle.refusal.specs.Paper.{refused}
+use mathlib.Core.Path.{sym, ap, _∙_}
 use Rattle.tracker.proofs.read.Statement.{statement}
 use Rattle.tracker.proofs.read.Tie as tie
 

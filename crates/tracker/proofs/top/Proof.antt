@@ -1,11 +1,10 @@
 -- `tracker::top` meets its contract. Assumes nothing.
 use borrow.Author.Needs.{needs}
-use Rattle.walk.specs.Walk.{seekPaper}
+use Rattle.bencode_walk.specs.Walk.{seekPaper}
 use Rattle.tracker.specs.Reading.{topBy}
 use Rattle.tracker.proofs.Steps.{via}
-use Rattle.refusal.specs.Paper.{Outcome, taken, refused, map, then}
-use native.Mathlib.Omega.{arith}
-use mathlib.Core.Path.{_≡_, refl, sym, ap, _∙_}
+use Rattle.refusal.specs.Paper.{then}
+use mathlib.Core.Path.{_∙_}
 use Rattle.tracker.proofs.top.Statement.{statement}
 use Rattle.tracker.proofs.top.Tie as tie
 

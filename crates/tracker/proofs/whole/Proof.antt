@@ -1,11 +1,10 @@
 -- `tracker::whole` meets its contract. Assumes nothing.
 use borrow.Author.Needs.{needs}
-use Rattle.fields.specs.Looks.{insidePaper}
+use Rattle.bencode_fields.specs.Looks.{insidePaper}
 use Rattle.tracker.specs.Reading.{topOf}
 use Rattle.tracker.proofs.Steps.{via}
-use Rattle.refusal.specs.Paper.{Outcome, taken, refused, map, then}
-use native.Mathlib.Omega.{arith}
-use mathlib.Core.Path.{_≡_, refl, sym, ap, _∙_}
+use Rattle.refusal.specs.Paper.{then}
+use mathlib.Core.Path.{_∙_}
 use Rattle.tracker.proofs.whole.Statement.{statement}
 use Rattle.tracker.proofs.whole.Tie as tie
 

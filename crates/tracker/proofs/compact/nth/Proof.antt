@@ -2,10 +2,9 @@
 use borrow.Author.Needs.{needs}
 use Prim.Native.Nat.{_+_, _*_}
 use Rattle.tracker.specs.Entries.{packedPaper}
-use Rattle.tracker.proofs.Steps.{packed-whole, packed-cut}
-use Rattle.refusal.specs.Paper.{Outcome, taken, refused, map, then}
+use Rattle.tracker.proofs.Steps.{packed-cut}
 use native.Mathlib.Omega.{arith}
-use mathlib.Core.Path.{_≡_, refl, sym, ap, _∙_}
+use mathlib.Core.Path.{ap, _∙_}
 use Rattle.tracker.proofs.compact.nth.Statement.{statement}
 use Rattle.tracker.proofs.compact.nth.Tie as tie
 

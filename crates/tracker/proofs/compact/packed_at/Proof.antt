@@ -1,11 +1,11 @@
 -- `tracker::compact::packed_at` meets its contract. Assumes nothing.
 use borrow.Author.Needs.{needs}
 use Prim.Native.Nat.{_+_}
-use Rattle.tracker.specs.Entries.{packed, packedPaper, PeerStep, PeerEntry}
+use Rattle.tracker.specs.Entries.{packed, packedPaper}
 use Rattle.tracker.proofs.Steps.{packed-whole, packed-cut}
-use Rattle.refusal.specs.Paper.{Outcome, taken, refused, map, then}
+use Rattle.refusal.specs.Paper.{taken}
 use native.Mathlib.Omega.{arith}
-use mathlib.Core.Path.{_≡_, refl, sym, ap, _∙_}
+use mathlib.Core.Path.{ap, _∙_}
 use Rattle.tracker.proofs.compact.packed_at.Statement.{statement}
 use Rattle.tracker.proofs.compact.packed_at.Tie as tie
 

@@ -1,8 +1,5 @@
 -- `tracker::compact::six` meets its contract. Assumes nothing.
 use borrow.Author.Needs.{needs}
-use Rattle.refusal.specs.Paper.{Outcome, taken, refused, map, then}
-use native.Mathlib.Omega.{arith}
-use mathlib.Core.Path.{_≡_, refl, sym, ap, _∙_}
 use Rattle.tracker.proofs.compact.six.Statement.{statement}
 use Rattle.tracker.proofs.compact.six.Tie as tie
 

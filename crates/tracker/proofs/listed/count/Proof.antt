@@ -5,9 +5,9 @@ use Rattle.tracker.proofs.Steps.{Counting, counting-start, counting-clo
 use lib.ListN.{length}
 use Prim.Native.Nat.{_-_}
 use borrow.Author.Needs.{needs}
-use Rattle.refusal.specs.Paper.{Outcome, taken, refused, map, then}
+use Rattle.refusal.specs.Paper.{taken}
 use native.Mathlib.Omega.{arith}
-use mathlib.Core.Path.{_≡_, refl, sym, ap, _∙_}
+use mathlib.Core.Path.{sym, ap, _∙_}
 use Rattle.tracker.proofs.listed.count.Statement.{statement}
 use Rattle.tracker.proofs.listed.count.Tie as tie
 

@@ -1,11 +1,10 @@
 -- `tracker::listed::id_at` meets its contract. Assumes nothing.
 use borrow.Author.Needs.{needs}
 use Rattle.tracker.specs.Entries.{idLength}
-use Rattle.fields.specs.Looks.{stringPaper}
+use Rattle.bencode_fields.specs.Looks.{stringPaper}
 use Rattle.tracker.proofs.Steps.{via, id-good, id-bad}
-use Rattle.refusal.specs.Paper.{Outcome, taken, refused, map, then}
-use native.Mathlib.Omega.{arith}
-use mathlib.Core.Path.{_≡_, refl, sym, ap, _∙_}
+use Rattle.refusal.specs.Paper.{taken, then}
+use mathlib.Core.Path.{ap, _∙_}
 use Rattle.tracker.proofs.listed.id_at.Statement.{statement}
 use Rattle.tracker.proofs.listed.id_at.Tie as tie
 

@@ -1,11 +1,9 @@
 -- `tracker::listed::id_under` meets its contract. Assumes nothing.
 use borrow.Author.Needs.{needs}
 use Rattle.tracker.specs.Entries.{idOf}
-use Rattle.fields.specs.Looks.{stringPaper}
-use Rattle.fields.proofs.Looking.{as-found}
-use Rattle.refusal.specs.Paper.{Outcome, taken, refused, map, then}
-use native.Mathlib.Omega.{arith}
-use mathlib.Core.Path.{_≡_, refl, sym, ap, _∙_}
+use Rattle.bencode_fields.specs.Looks.{stringPaper}
+use Rattle.bencode_fields.proofs.Looking.{as-found}
+use mathlib.Core.Path.{ap, _∙_}
 use Rattle.tracker.proofs.listed.id_under.Statement.{statement}
 use Rattle.tracker.proofs.listed.id_under.Tie as tie
 

@@ -1,11 +1,10 @@
 -- `tracker::listed::listed_at` meets its contract. Assumes nothing.
 use borrow.Author.Needs.{needs}
 use Rattle.tracker.specs.Entries.{peerBy}
-use Rattle.fields.specs.Looks.{insidePaper}
+use Rattle.bencode_fields.specs.Looks.{insidePaper}
 use Rattle.tracker.proofs.Steps.{via, listed-by}
-use Rattle.refusal.specs.Paper.{Outcome, taken, refused, map, then}
-use native.Mathlib.Omega.{arith}
-use mathlib.Core.Path.{_≡_, refl, sym, ap, _∙_}
+use Rattle.refusal.specs.Paper.{then}
+use mathlib.Core.Path.{_∙_}
 use Rattle.tracker.proofs.listed.listed_at.Statement.{statement}
 use Rattle.tracker.proofs.listed.listed_at.Tie as tie
 

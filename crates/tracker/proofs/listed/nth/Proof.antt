@@ -1,9 +1,8 @@
 -- `tracker::listed::nth` meets its contract. Assumes nothing.
-use Rattle.walk.specs.Walk.{pastPaper}
+use Rattle.bencode_walk.specs.Walk.{pastPaper}
 use Rattle.tracker.specs.Entries.{nthAt}
 use Rattle.tracker.proofs.Steps.{nth-more, nth-bad, nth-here}
 use borrow.Author.Needs.{needs}
-use Rattle.refusal.specs.Paper.{Outcome, taken, refused, map, then}
 use native.Mathlib.Omega.{arith}
 use mathlib.Core.Path.{_≡_, refl, sym, ap, _∙_}
 use Rattle.tracker.proofs.listed.nth.Statement.{statement}

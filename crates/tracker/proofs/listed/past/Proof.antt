@@ -1,12 +1,9 @@
 -- `tracker::listed::past` meets its contract. Assumes nothing.
 use borrow.Author.Needs.{needs}
-use Prim.Native.Nat.{ℕ}
-use Rattle.tracker.specs.Entries.{PeerEntry, listed, PeerStep}
-use Rattle.walk.specs.Walk.{pastPaper}
+use Rattle.tracker.specs.Entries.{listed}
+use Rattle.bencode_walk.specs.Walk.{pastPaper}
 use Rattle.tracker.proofs.Steps.{via}
-use Rattle.refusal.specs.Paper.{Outcome, taken, refused, map, then}
-use native.Mathlib.Omega.{arith}
-use mathlib.Core.Path.{_≡_, refl, sym, ap, _∙_}
+use Rattle.refusal.specs.Paper.{map}
 use Rattle.tracker.proofs.listed.past.Statement.{statement}
 use Rattle.tracker.proofs.listed.past.Tie as tie
 

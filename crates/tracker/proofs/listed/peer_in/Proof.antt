@@ -1,12 +1,7 @@
 -- `tracker::listed::peer_in` meets its contract. Assumes nothing.
 use borrow.Author.Needs.{needs}
 use Rattle.tracker.proofs.Steps.{no-id, no-ip, no-port, a-peer}
-use Rattle.walk.specs.Walk.{seekPaper}
-use Rattle.fields.specs.Looks.{stringPaper, naturalPaper}
-use Rattle.tracker.proofs.Steps.{via, hits, afterId, afterIp, afterPort}
-use Rattle.refusal.specs.Paper.{Outcome, taken, refused, map, then}
-use native.Mathlib.Omega.{arith}
-use mathlib.Core.Path.{_≡_, refl, sym, ap, _∙_}
+use mathlib.Core.Path.{_∙_}
 use Rattle.tracker.proofs.listed.peer_in.Statement.{statement}
 use Rattle.tracker.proofs.listed.peer_in.Tie as tie
 

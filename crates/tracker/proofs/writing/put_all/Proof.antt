@@ -1,8 +1,6 @@
 -- `tracker::writing::put_all` meets its contract. Assumes nothing.
 use borrow.Author.Needs.{needs}
 use Rattle.tracker.proofs.Written.{put-parts}
-use native.Mathlib.Omega.{arith}
-use mathlib.Core.Path.{_≡_, refl, sym, ap, _∙_}
 use Rattle.tracker.proofs.writing.put_all.Statement.{statement}
 use Rattle.tracker.proofs.writing.put_all.Tie as tie
 

@@ -2,7 +2,6 @@
 use borrow.Author.Needs.{needs}
 use Rattle.tracker.proofs.Written.{size, write-range, write-peer, write-long, write-none, write-whole}
 use native.Mathlib.Omega.{arith}
-use mathlib.Core.Path.{_≡_, refl, sym, ap, _∙_}
 use Rattle.tracker.proofs.writing.write.Statement.{statement}
 use Rattle.tracker.proofs.writing.write.Tie as tie
 

@@ -1,8 +1,8 @@
 -- `wardrail_sha1_add` meets its contract. Assumes nothing.
 use mathlib.Core.Path.{ap, _∙_}
-use Rattle.sha1.specs.Parts.{addOf}
-use Rattle.sha1.specs.declared.stream.Stream.{Stream}
-use Rattle.rows.specs.Hashing.{wordsOf}
+use Rattle.hash_sha1.specs.Parts.{addOf}
+use Rattle.hash_sha1.specs.declared.stream.Stream.{Stream}
+use Rattle.wardrail_rows.specs.Hashing.{wordsOf}
 use borrow.Author.Needs.{needs}
 use Rattle.wardrail.proofs.hashing.wardrail_sha1_add.Statement.{statement}
 use Rattle.wardrail.proofs.hashing.wardrail_sha1_add.Tie as tie

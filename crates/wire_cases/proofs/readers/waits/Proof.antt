@@ -1,8 +1,6 @@
 -- `wire_cases::readers::waits` is safe and ends. The measure is what is left of the bytes. Assumes nothing.
 use borrow.Author.Needs.{needs}
-use native.Mathlib.Omega.{arith}
 use lib.ListN.{length}
-use mathlib.Core.Path.{_≡_}
 use Prim.Native.Nat.{_≤_, _-_}
 use Rattle.wire_cases.proofs.readers.waits.Statement.{statement}
 use Rattle.wire_cases.proofs.readers.waits.Tie as tie

@@ -1,9 +1,8 @@
 -- `wire_cases::words::fill` is safe and ends. The measure is what is left of the bytes. Assumes nothing.
 use borrow.Author.Needs.{needs}
-use native.Mathlib.Omega.{arith}
 use lib.ListN.{length}
 use mathlib.Core.Path.{_≡_}
-use Prim.Native.Nat.{_≤_, _-_}
+use Prim.Native.Nat.{_-_}
 use Rattle.wire_cases.proofs.words.fill.Statement.{statement}
 use Rattle.wire_cases.proofs.words.fill.Tie as tie
 

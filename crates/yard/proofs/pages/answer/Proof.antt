@@ -1,6 +1,6 @@
 -- `yard::pages::answer` meets its contract. Assumes nothing.
 use Rattle.refusal.proofs.Cases.{pick-yes, pick-no}
-use Rattle.tables.specs.declared.Answer.the-variants.{Refused, Listed}
+use Rattle.yard_tables.specs.declared.Answer.the-variants.{Refused, Listed}
 use borrow.Author.Tests.{eq-eqb, ne-eqb}
 use lib.Dec.{eqb}
 use mathlib.Core.Path.{refl}

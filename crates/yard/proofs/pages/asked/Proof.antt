@@ -1,6 +1,6 @@
 -- `yard::pages::asked` meets its contract. Assumes nothing.
 use Rattle.refusal.proofs.Cases.{pick-yes, pick-no}
-use Rattle.scans.specs.declared.Asked.{Asked}
+use Rattle.yard_scans.specs.declared.Asked.{Asked}
 use borrow.Author.Tests.{eq-eqb, ne-eqb}
 use lib.Dec.{eqb}
 use Prim.Native.Nat.{ℕ}

@@ -1,0 +1,44 @@
+-- `bencode_fields::seek_after` meets its contract. Assumes nothing.
+use borrow.Author.Needs.{needs}
+use Rattle.bencode_fields.specs.Looks.{soughtFrom, stopped}
+use Rattle.bencode_fields.proofs.Looking.{as-stopped}
+use mathlib.Core.Path.{_∙_}
+use Rattle.bencode_fields.proofs.seek_after.Statement.{statement}
+use Rattle.bencode_fields.proofs.seek_after.Tie as tie
+
+enum-known-sought : tie.Need-enum-known-sought
+enum-known-sought c = search needs
+
+seek-requires : tie.Need-seek-requires
+seek-requires c κs = search needs
+
+enum-known-sought-2 : tie.Need-enum-known-sought-2
+enum-known-sought-2 c = search needs
+
+seek-requires-2 : tie.Need-seek-requires-2
+seek-requires-2 c κs = search needs
+
+enum-known-sought-3 : tie.Need-enum-known-sought-3
+enum-known-sought-3 c = search needs
+
+returns : tie.Need-returns
+returns c = (c .seek .ensures) ∙ as-stopped (λ h. soughtFrom (c .before .before .before .before .before .before .args .text .now) (stopped h) (c .before .before .before .before .before .before .args .key .now)) _ _ (c .before .before .sought .given .1)
+
+returns-2 : tie.Need-returns-2
+returns-2 c = (c .seek2 .ensures) ∙ as-stopped (λ h. soughtFrom (c .before .before .before .before .before .before .args .text .now) (stopped h) (c .before .before .before .before .before .before .args .key .now)) _ _ (c .before .before .sought2 .given .1)
+
+returns-3 : tie.Need-returns-3
+returns-3 c = as-stopped (λ h. soughtFrom (c .before .before .before .before .before .args .text .now) (stopped h) (c .before .before .before .before .before .args .key .now)) _ _ (c .before .sought3 .given .1)
+
+pub seek-after-spec : {M : Type 1} → statement M
+seek-after-spec =
+    tie.close
+    (tie.spec
+    enum-known-sought
+    seek-requires
+    enum-known-sought-2
+    seek-requires-2
+    enum-known-sought-3
+    returns
+    returns-2
+    returns-3)

@@ -1,0 +1,44 @@
+-- `bencode_fields::string_under` meets its contract. Assumes nothing.
+use borrow.Author.Needs.{needs}
+use Rattle.bencode_fields.specs.Looks.{stringPaper, stringOf}
+use Rattle.bencode_fields.proofs.Looking.{as-found}
+use mathlib.Core.Path.{ap, _∙_}
+use Rattle.bencode_fields.proofs.string_under.Statement.{statement}
+use Rattle.bencode_fields.proofs.string_under.Tie as tie
+
+enum-known-sought : tie.Need-enum-known-sought
+enum-known-sought c = search needs
+
+string-at-requires : tie.Need-string-at-requires
+string-at-requires c κs = search needs
+
+enum-told : tie.Need-enum-told
+enum-told c = search needs
+
+no-string-requires : tie.Need-no-string-requires
+no-string-requires c κs = search needs
+
+enum-known-sought-2 : tie.Need-enum-known-sought-2
+enum-known-sought-2 c = search needs
+
+returns : tie.Need-returns
+returns c = (c .string-at .ensures) ∙ as-found (c .before .before .before .before .before .args .dictionary) (stringOf (c .before .before .before .before .before .args .text .now)) _ _ (c .before .before .sought .given .1)
+
+returns-2 : tie.Need-returns-2
+returns-2 c = ap stringPaper (c .no-string .ensures) ∙ as-found (c .before .before .before .before .args .dictionary) (stringOf (c .before .before .before .before .args .text .now)) _ _ (c .before .enum-told .given .1)
+
+returns-3 : tie.Need-returns-3
+returns-3 c = as-found (c .before .before .before .before .args .dictionary) (stringOf (c .before .before .before .before .args .text .now)) _ _ (c .before .sought2 .given .1)
+
+pub string-under-spec : {M : Type 1} → statement M
+string-under-spec =
+    tie.close
+    (tie.spec
+    enum-known-sought
+    string-at-requires
+    enum-told
+    no-string-requires
+    enum-known-sought-2
+    returns
+    returns-2
+    returns-3)

@@ -1,0 +1,208 @@
+// Typed looks: what a reader of torrents or tracker replies asks of a place. Every call answers for any text and any
+// place: another kind is refused by 10, a number out of range by 11, and what cannot be read as `bencode_walk::look` refuses it.
+ghost use mathlib.Core.Path.{_≡_};
+ghost use Rattle.refusal.specs.Numbers.{kind};
+ghost use Rattle.refusal.specs.Paper.{map};
+ghost use Rattle.bencode_walk.specs.Walk.{seekPaper};
+ghost use Rattle.bencode_fields.specs.Looks.{endingAt, stringPaper, naturalPaper, numberPaper, insidePaper, stringOf, naturalOf, numberOf, listOf, dictionaryOf, ranged, needed, soughtAfter};
+use bencode_walk::Seen;
+use bencode_walk::Sought;
+use refusal::Part;
+use refusal::Refusal;
+use refusal::number;
+
+// A string's bytes.
+pub enum Bytes {
+    Are(Part),
+    Unread(Refusal),
+}
+
+// A number from 0 on, or the refusal.
+pub enum Natural {
+    Is(u64),
+    Not(Refusal),
+}
+
+// A number and the place past it.
+pub enum Number {
+    Is(u64, usize),
+    Not(Refusal),
+}
+
+// The place of the first item of a list, or of the first key of a dictionary; or of the e.
+pub enum Inside {
+    At(usize),
+    None(Refusal),
+}
+
+// The string at a place; another kind of value is refused by 10 there.
+pub fn string_at(text: &[u8], at: usize) -> Bytes
+    ensures { λ r. ⌜ stringPaper r ≡ stringOf (now (text .entry)) at ⌝ }
+{
+    match bencode_walk::look(text, at) {
+        Seen::String(bytes, _) => Bytes::Are(bytes),
+        Seen::Refused(r) => Bytes::Unread(r),
+        Seen::Integer(_, _) => no_string(at),
+        Seen::Long(_, _) => no_string(at),
+        Seen::List(_) => no_string(at),
+        Seen::Dictionary(_) => no_string(at),
+        Seen::End(_) => no_string(at),
+    }
+}
+
+// A number from 0 to `most`.
+pub fn natural_at(text: &[u8], at: usize, most: u64) -> Natural
+    ensures { λ r. ⌜ naturalPaper r ≡ naturalOf most (now (text .entry)) at ⌝ }
+{
+    match number_at(text, at, most) {
+        Number::Is(n, _) => Natural::Is(n),
+        Number::Not(r) => Natural::Not(r),
+    }
+}
+
+// The same, with the place past it.
+pub fn number_at(text: &[u8], at: usize, most: u64) -> Number
+    ensures { λ r. ⌜ numberPaper r ≡ numberOf most (now (text .entry)) at ⌝ }
+{
+    match bencode_walk::look(text, at) {
+        Seen::Integer(z, past) => within(z, most, at, past),
+        Seen::Long(_, _) => no_number(number::RANGE, at),
+        Seen::Refused(r) => Number::Not(r),
+        Seen::String(_, _) => no_number(number::KIND, at),
+        Seen::List(_) => no_number(number::KIND, at),
+        Seen::Dictionary(_) => no_number(number::KIND, at),
+        Seen::End(_) => no_number(number::KIND, at),
+    }
+}
+
+// The list at a place: where its first item stands. Another kind is refused by 10.
+pub fn list_at(text: &[u8], at: usize) -> Inside
+    ensures { λ r. ⌜ insidePaper r ≡ listOf (now (text .entry)) at ⌝ }
+{
+    match bencode_walk::look(text, at) {
+        Seen::List(first) => Inside::At(first),
+        Seen::Refused(r) => Inside::None(r),
+        Seen::String(_, _) => nothing_inside(at),
+        Seen::Integer(_, _) => nothing_inside(at),
+        Seen::Long(_, _) => nothing_inside(at),
+        Seen::Dictionary(_) => nothing_inside(at),
+        Seen::End(_) => nothing_inside(at),
+    }
+}
+
+// The dictionary at a place: where its first key stands. Another kind is refused by 10.
+pub fn dictionary_at(text: &[u8], at: usize) -> Inside
+    ensures { λ r. ⌜ insidePaper r ≡ dictionaryOf (now (text .entry)) at ⌝ }
+{
+    match bencode_walk::look(text, at) {
+        Seen::Dictionary(first) => Inside::At(first),
+        Seen::Refused(r) => Inside::None(r),
+        Seen::String(_, _) => nothing_inside(at),
+        Seen::Integer(_, _) => nothing_inside(at),
+        Seen::Long(_, _) => nothing_inside(at),
+        Seen::List(_) => nothing_inside(at),
+        Seen::End(_) => nothing_inside(at),
+    }
+}
+
+// The string under a key of the dictionary at `dictionary`, where the key was sought; the key missing is refused by 10 there.
+pub fn string_under(text: &[u8], dictionary: usize, sought: Sought) -> Bytes
+    ensures { λ r. ⌜ stringPaper r ≡ needed dictionary (seekPaper sought) (stringOf (now (text .entry))) ⌝ }
+{
+    match sought {
+        Sought::Found(_, value) => string_at(text, value),
+        Sought::Missing(_) => no_string(dictionary),
+        Sought::Unread(r) => Bytes::Unread(r),
+    }
+}
+
+// The number under a key, from 0 to the most that is allowed, or 11 at its place; the key missing is 10 at the dictionary.
+pub fn natural_under(text: &[u8], dictionary: usize, sought: Sought, most: u64) -> Natural
+    ensures { λ r. ⌜ naturalPaper r ≡ needed dictionary (seekPaper sought) (naturalOf most (now (text .entry))) ⌝ }
+{
+    match sought {
+        Sought::Found(_, value) => natural_at(text, value, most),
+        Sought::Missing(_) => no_natural(dictionary),
+        Sought::Unread(r) => Natural::Not(r),
+    }
+}
+
+// The list under a key; the key missing is 10 at the dictionary.
+pub fn list_under(text: &[u8], dictionary: usize, sought: Sought) -> Inside
+    ensures { λ r. ⌜ insidePaper r ≡ needed dictionary (seekPaper sought) (listOf (now (text .entry))) ⌝ }
+{
+    match sought {
+        Sought::Found(_, value) => list_at(text, value),
+        Sought::Missing(_) => nothing_inside(dictionary),
+        Sought::Unread(r) => Inside::None(r),
+    }
+}
+
+// The dictionary under a key; the key missing is 10 at the dictionary.
+pub fn dictionary_under(text: &[u8], dictionary: usize, sought: Sought) -> Inside
+    ensures { λ r. ⌜ insidePaper r ≡ needed dictionary (seekPaper sought) (dictionaryOf (now (text .entry))) ⌝ }
+{
+    match sought {
+        Sought::Found(_, value) => dictionary_at(text, value),
+        Sought::Missing(_) => nothing_inside(dictionary),
+        Sought::Unread(r) => Inside::None(r),
+    }
+}
+
+// Where a later key stands, sought from where the search for an earlier one stopped.
+pub fn seek_after(text: &[u8], sought: Sought, key: &[u8]) -> Sought
+    ensures { λ r. ⌜ seekPaper r ≡ soughtAfter (now (text .entry)) (seekPaper sought) (now (key .entry)) ⌝ }
+{
+    match sought {
+        Sought::Found(at, _) => bencode_walk::seek(text, at, key),
+        Sought::Missing(at) => bencode_walk::seek(text, at, key),
+        Sought::Unread(r) => Sought::Unread(r),
+    }
+}
+
+// The number z of the integer at `at`, from 0 to `most`.
+fn within(z: i64, most: u64, at: usize, past: usize) -> Number
+    ensures { λ r. ⌜ numberPaper r ≡ map (endingAt past) (ranged most at z) ⌝ }
+{
+    if z < 0 {
+        return no_number(number::RANGE, at);
+    }
+    let n = z as u64;
+    if most < n {
+        return no_number(number::RANGE, at);
+    }
+    Number::Is(n, past)
+}
+
+fn no_string(at: usize) -> Bytes
+    ensures { λ r. ⌜ r ≡ Bytes.Unread (record { number = kind; place = at }) ⌝ }
+{
+    Bytes::Unread(Refusal {
+        number: number::KIND,
+        place: at,
+    })
+}
+
+fn no_natural(at: usize) -> Natural
+    ensures { λ r. ⌜ r ≡ Natural.Not (record { number = kind; place = at }) ⌝ }
+{
+    Natural::Not(Refusal {
+        number: number::KIND,
+        place: at,
+    })
+}
+
+fn no_number(number: u8, at: usize) -> Number
+    ensures { λ r. ⌜ r ≡ Number.Not (record { number = number; place = at }) ⌝ }
+{
+    Number::Not(Refusal { number, place: at })
+}
+
+fn nothing_inside(at: usize) -> Inside
+    ensures { λ r. ⌜ r ≡ Inside.None (record { number = kind; place = at }) ⌝ }
+{
+    Inside::None(Refusal {
+        number: number::KIND,
+        place: at,
+    })
+}

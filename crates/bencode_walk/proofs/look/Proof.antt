@@ -1,0 +1,65 @@
+-- `bencode_walk::look` meets its contract. Assumes nothing.
+use borrow.Author.Needs.{needs}
+use Rattle.bencode_walk.proofs.Seeing.{look-out, look-integer, look-list, look-dictionary, look-end, look-string}
+use Rattle.bencode_walk.specs.Walk.{paper}
+use native.Mathlib.Omega.{arith}
+use mathlib.Core.Path.{ap, _∙_}
+use Rattle.bencode_walk.proofs.look.Statement.{statement}
+use Rattle.bencode_walk.proofs.look.Tie as tie
+
+refused-requires : tie.Need-refused-requires
+refused-requires c κs = search needs
+
+returns : tie.Need-returns
+returns c = ap paper (c .refused .ensures) ∙ look-out (c .before .before .before .args .text .now) (c .before .before .before .args .at) (omega arith)
+
+shared-slice-read-b : tie.Need-shared-slice-read-b
+shared-slice-read-b c = search needs
+
+integer-requires : tie.Need-integer-requires
+integer-requires c κs = search needs
+
+returns-2 : tie.Need-returns-2
+returns-2 c = c .integer .ensures ∙ look-integer (c .before .before .before .before .before .args .text .now) (c .before .before .before .before .before .args .at) (omega arith) (c .before .if2 .taken)
+
+add-t9 : tie.Need-add-t9
+add-t9 c = search needs
+
+returns-3 : tie.Need-returns-3
+returns-3 c = look-list (c .before .before .before .before .before .args .text .now) (c .before .before .before .before .before .args .at) (omega arith) (c .if3 .taken)
+
+add-t10 : tie.Need-add-t10
+add-t10 c = search needs
+
+returns-4 : tie.Need-returns-4
+returns-4 c = look-dictionary (c .before .before .before .before .before .before .args .text .now) (c .before .before .before .before .before .before .args .at) (omega arith) (c .if4 .taken)
+
+add-t11 : tie.Need-add-t11
+add-t11 c = search needs
+
+returns-5 : tie.Need-returns-5
+returns-5 c = look-end (c .before .before .before .before .before .before .before .args .text .now) (c .before .before .before .before .before .before .before .args .at) (omega arith) (c .if5 .taken)
+
+string-requires : tie.Need-string-requires
+string-requires c κs = omega arith
+
+returns-6 : tie.Need-returns-6
+returns-6 c = c .string .ensures ∙ look-string (c .before .before .before .before .before .before .before .before .args .text .now) (c .before .before .before .before .before .before .before .before .args .at) (omega arith) (c .before .before .before .before .if2 .left) (c .before .before .before .if3 .left) (c .before .before .if4 .left) (c .before .if5 .left)
+
+pub look-spec : {M : Type 1} → statement M
+look-spec =
+    tie.close
+    (tie.spec
+    refused-requires
+    returns
+    shared-slice-read-b
+    integer-requires
+    returns-2
+    add-t9
+    returns-3
+    add-t10
+    returns-4
+    add-t11
+    returns-5
+    string-requires
+    returns-6)

@@ -1,5 +1,0 @@
-pub mod Files
-pub mod Paths
-pub mod Pieces
-pub mod Steps
-pub mod Walks

@@ -1,4 +1,0 @@
-pub mod Looks
-pub mod Values
-pub mod Causes
-pub mod Nth

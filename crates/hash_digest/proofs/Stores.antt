@@ -1,0 +1,146 @@
+-- Bytes stored into zeros: the block that is kept between two parts, and the last blocks with their padding. Assumes nothing.
+use mathlib.Core.Path.{_≡_, sym, ap, _∙_}
+use mathlib.Core.Bool.{Bool, true, cond}
+use mathlib.Core.List.{List, [], _∷_, _++_, append-assoc}
+use Prim.Native.Nat.{ℕ, zero, suc, _+_, _-_, _*_, _%_, _≤_, _<_, min}
+use native.Mathlib.Numerals.{add-one}
+use native.Mathlib.Omega.{arith}
+use lib.ListN.{length, take, drop, getD, set, replicate, length-append, length-take, length-replicate, length-set, replicate-append-replicate}
+use lib.Seq.{sets, sets-eq, length-sets, paste, paste-suc, take-length, take-all, take-at, drop-at, set-at, take-append-le, drop-drop}
+use borrow.Author.Tests.{le-leb}
+use Rattle.refusal.specs.BigEndian.{bytesOf, fits, numberWritten}
+use Rattle.refusal.proofs.Bytes.{length-bytesOf}
+use Rattle.refusal.proofs.Places.{sets-append}
+use Rattle.hash_digest.specs.Message.{zeros, padding, filled}
+
+-- ---- zeros
+
+take-zeros : (r n : ℕ) → r ≤ n → take r (replicate {A = ℕ} n 0) ≡ replicate r 0
+take-zeros r n h =
+    let e : r + (n - r) ≡ n = omega arith in
+    ap (λ (k : ℕ). take r (replicate k 0)) (sym e) ∙ ap (λ (l : List ℕ). take r l) (sym (replicate-append-replicate r (n - r) 0))
+    ∙ take-at (replicate r 0) (replicate (n - r) 0) r (length-replicate r 0)
+
+drop-zeros : (r n : ℕ) → r ≤ n → drop r (replicate {A = ℕ} n 0) ≡ replicate (n - r) 0
+drop-zeros r n h =
+    let e : r + (n - r) ≡ n = omega arith in
+    ap (λ (k : ℕ). drop r (replicate k 0)) (sym e) ∙ ap (λ (l : List ℕ). drop r l) (sym (replicate-append-replicate r (n - r) 0))
+    ∙ drop-at (replicate r 0) (replicate (n - r) 0) r (length-replicate r 0)
+
+-- ---- the first bytes of one list and another
+
+pub take-append : (n : ℕ) (a b : List ℕ) → take n (a ++ b) ≡ take n a ++ take (n - length a) b
+take-append zero a b = let e : 0 - length a ≡ 0 = omega arith in rw e
+take-append (suc n) [] b = let e : suc n - 0 ≡ suc n = omega arith in rw e
+take-append (suc n) (x ∷ a) b = let e : suc n - suc (length a) ≡ n - length a = omega arith in rw (e, take-append n a b)
+
+take-least : (n : ℕ) (l : List ℕ) → take (min (length l) n) l ≡ take n l
+take-least zero l = let e : min (length l) 0 ≡ 0 = omega arith in rw e
+take-least (suc n) [] = let e : min 0 (suc n) ≡ 0 = omega arith in rw e
+take-least (suc n) (x ∷ l) = let e : min (suc (length l)) (suc n) ≡ suc (min (length l) n) = omega arith in rw (e, take-least n l)
+
+-- ---- `filled`
+
+-- bytes that fit, and zeros after them
+pub filled-short : (n : ℕ) (l : List ℕ) → length l ≤ n → filled n l ≡ l ++ replicate (n - length l) 0
+filled-short n l h = rw (take-append n l (replicate n 0), take-all n l h, take-zeros (n - length l) n (omega arith))
+
+-- bytes that fill it
+pub filled-whole : (n : ℕ) (l : List ℕ) → n ≤ length l → filled n l ≡ take n l
+filled-whole n l h = take-append-le n l (replicate n 0) h
+
+pub length-filled : (n : ℕ) (l : List ℕ) → length (filled n l) ≡ n
+length-filled n l = simp (length-take, length-append, length-replicate) (omega arith)
+
+-- ---- stores into zeros
+
+stored : (n : ℕ) (l : List ℕ) → length l ≤ n → sets (replicate n 0) 0 l ≡ l ++ replicate (n - length l) 0
+stored n l h =
+    let e : 0 + length l ≡ length l = omega arith in
+    sets-eq l (replicate n 0) 0 (simp length-replicate (omega arith)) ∙ rw (e, drop-zeros (length l) n h)
+
+-- the first n bytes of l into n zeros
+stored-filled : (n : ℕ) (l : List ℕ) → sets (replicate n 0) 0 (take n l) ≡ filled n l
+stored-filled n l =
+    let e : n - min n (length l) ≡ n - length l = omega arith in
+    let h : length (take n l) ≤ n = rw length-take (omega arith) in
+    stored n (take n l) h ∙ rw (length-take n l, e, take-append n l (replicate n 0), take-zeros (n - length l) n (omega arith))
+
+-- what two runs of stores leave: of a, and after it of b, as many bytes as there is room for
+pub gathers : (n : ℕ) (a b x y o o′ : List ℕ) {i j : ℕ} → i ≡ min (length a) n → j ≡ min (length b) (n - i) → x ≡ take i a → y ≡ take j b
+    → o ≡ sets (replicate n 0) 0 x → o′ ≡ sets o i y → o′ ≡ filled n (a ++ b)
+gathers n a b x y o o′ {i} {j} p q s t u v =
+    let k : n - i ≡ n - length a = omega arith in
+    let l : 0 + length (take i a) ≡ i = omega (arith, length-take i a) in
+    let ex : x ≡ take n a = s ∙ ap (λ (m : ℕ). take m a) p ∙ take-least n a in
+    let ey : y ≡ take (n - length a) b = t ∙ ap (λ (m : ℕ). take m b) q ∙ take-least (n - i) b ∙ ap (λ (m : ℕ). take m b) k in
+    let lx : 0 + length x ≡ i = ap (λ (z : List ℕ). 0 + length z) s ∙ l in
+    let e : sets (sets (replicate n 0) 0 x) i y ≡ sets (replicate n 0) 0 (x ++ y) =
+    ap (λ (m : ℕ). sets (sets (replicate n 0) 0 x) m y) (sym lx) ∙ sym (sets-append (replicate n 0) 0 x y) in
+    let f : x ++ y ≡ take n (a ++ b) = ap (λ (z : List ℕ). z ++ y) ex ∙ ap (λ (z : List ℕ). take n a ++ z) ey ∙ sym (take-append n a b) in
+    v ∙ ap (λ (z : List ℕ). sets z i y) u ∙ e ∙ ap (λ (z : List ℕ). sets (replicate n 0) 0 z) f ∙ stored-filled n (a ++ b)
+
+-- ---- a run of stores, one after the other
+
+-- what the first i of them leave, and then all
+module _ (all : List ℕ) (at : ℕ) (before : List ℕ) where
+  pub store-next : (i : ℕ) {out : List ℕ} → at + length all ≤ length before → i < length all → out ≡ paste before at all i
+      → set out (at + i) (getD all i 0) ≡ paste before at all (i + 1)
+  store-next i h b e = rw (e, add-one) (paste-suc before at all i 0 (omega arith) b)
+
+  pub store-all : {i : ℕ} {out : List ℕ} → at + length all ≤ length before → i ≤ length all → length all ≤ i → out ≡ paste before at all i → out ≡ sets before at all
+  store-all {i} h b c e =
+      let k : i ≡ length all = omega arith in
+      e ∙ ap (paste before at all) k ∙ rw (sets-eq all before at h, take-length all)
+
+-- ---- the padding
+
+pub length-padding : (n : ℕ) → length (padding n) ≡ 9 + zeros n
+unfolding padding
+length-padding n = simp (length-append, length-replicate, length-bytesOf) (omega arith)
+
+-- the byte 128 after s, and zeros up to `at`
+marked : (s : List ℕ) (r at : ℕ) → length s ≡ r → r < at → at ≤ 128
+    → set (s ++ replicate (128 - r) 0) r 128 ≡ (s ++ ((128 ∷ []) ++ replicate (at - 1 - r) 0)) ++ replicate (128 - at) 0
+marked s r at e h k =
+    let a : 128 - r ≡ suc ((at - 1 - r) + (128 - at)) = omega arith in
+    rw (a, set-at s 0 (replicate ((at - 1 - r) + (128 - at)) 0) 128 r e, append-assoc, replicate-append-replicate)
+
+-- the length in the eight bytes from `at` on
+ended-at : (s b : List ℕ) (r at : ℕ) → length s ≡ r → r < at → at + 8 ≤ 128 → length b ≡ 8
+    → sets (set (s ++ replicate (128 - r) 0) r 128) at b ≡ filled 128 (s ++ ((128 ∷ []) ++ (replicate (at - 1 - r) 0 ++ b)))
+ended-at s b r at e h k l =
+    let p : List ℕ = s ++ ((128 ∷ []) ++ replicate (at - 1 - r) 0) in
+    let q : List ℕ = p ++ replicate (128 - at) 0 in
+    let lp : length p ≡ at = simp (length-append, length-replicate) (omega arith) in
+    let lq : length q ≡ 128 = simp (length-append, length-replicate) (omega arith) in
+    let lb : at + length b ≡ at + 8 = omega arith in
+    let lpb : length (p ++ b) ≡ at + 8 = omega (arith, length-append p b) in
+    let u : set (s ++ replicate (128 - r) 0) r 128 ≡ q = marked s r at e h (omega arith) in
+    let v : sets q at b ≡ take at q ++ b ++ drop (at + length b) q = sets-eq b q at (omega arith) in
+    let w : take at q ≡ p = take-at p (replicate (128 - at) 0) at lp in
+    let z : 128 - at - 8 ≡ 128 - (at + 8) = omega arith in
+    let m : drop (at + length b) q ≡ replicate (128 - (at + 8)) 0 =
+    ap (λ (i : ℕ). drop i q) lb ∙ sym (drop-drop 8 at q) ∙ ap (λ (x : List ℕ). drop 8 x) (drop-at p (replicate (128 - at) 0) at lp)
+    ∙ drop-zeros 8 (128 - at) (omega arith) ∙ ap (λ (i : ℕ). replicate i 0) z in
+    let f : filled 128 (p ++ b) ≡ (p ++ b) ++ replicate (128 - (at + 8)) 0 = filled-short 128 (p ++ b) (omega arith) ∙ rw lpb in
+    let g : p ++ b ≡ s ++ ((128 ∷ []) ++ (replicate (at - 1 - r) 0 ++ b)) = append-assoc s ((128 ∷ []) ++ replicate (at - 1 - r) 0) b in
+    ap (λ (x : List ℕ). sets x at b) u ∙ v ∙ ap (λ (x : List ℕ). x ++ b ++ drop (at + length b) q) w ∙ ap (λ (x : List ℕ). p ++ b ++ x) m ∙ sym f
+    ∙ ap (λ (x : List ℕ). filled 128 x) g
+
+-- what the stores of s, of the byte 128 and of the length leave
+pub ends : (s o : List ℕ) (n at : ℕ) {bits : ℕ} → length s ≡ n % 64 → n % 64 < at → at + 8 ≤ 128 → zeros n ≡ at - 1 - n % 64 → bits ≡ n * 8
+    → o ≡ sets (replicate 128 0) 0 s → sets (set o (n % 64) 128) at (bytesOf 8 bits) ≡ filled 128 (s ++ padding n)
+unfolding padding
+ends s o n at {bits} l h k z b e =
+    let c : bits ≡ 8 * n = omega arith in
+    let f : o ≡ s ++ replicate (128 - n % 64) 0 = e ∙ stored 128 s (omega arith) ∙ ap (λ (i : ℕ). s ++ replicate (128 - i) 0) l in
+    rw (f, c, z) (ended-at s (bytesOf 8 (8 * n)) (n % 64) at l h k (length-bytesOf 8 (8 * n)))
+
+-- the same, from the call that writes the length
+pub ends-written : (s o t : List ℕ) (n at bits : ℕ) → length s ≡ n % 64 → n % 64 < at → at + 8 ≤ 128 → zeros n ≡ at - 1 - n % 64 → bits ≡ n * 8
+    → o ≡ sets (replicate 128 0) 0 s → t ≡ numberWritten 8 (set o (n % 64) 128) at bits → t ≡ filled 128 (s ++ padding n)
+ends-written s o t n at bits l h k z b e w =
+    let m : length (set o (n % 64) 128) ≡ 128 = length-set o (n % 64) 128 ∙ ap length e ∙ length-sets (replicate 128 0) 0 s ∙ length-replicate {A = ℕ} 128 0 in
+    let f : fits 8 (set o (n % 64) 128) at ≡ true = le-leb (at + 8) (length (set o (n % 64) 128)) (omega arith) in
+    w ∙ ap (λ (x : Bool). cond x (sets (set o (n % 64) 128) at (bytesOf 8 bits)) (set o (n % 64) 128)) f ∙ ends s o n at l h k z b e

@@ -1,6 +1,0 @@
-pub mod Keys
-pub mod Rules
-pub mod Reading
-pub mod Exact
-pub mod Hashes
-pub mod Noted

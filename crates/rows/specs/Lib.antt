@@ -1,9 +1,0 @@
-pub mod Said
-pub mod Replies
-pub mod Torrents
-pub mod Mapping
-pub mod Frames
-pub mod Files
-pub mod Writers
-pub mod Peers
-pub mod Hashing

@@ -1,4 +1,0 @@
-pub mod Passes
-pub mod Ways
-pub mod Looking
-pub mod Determined

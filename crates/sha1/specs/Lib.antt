@@ -1,5 +1,0 @@
-pub mod Sha1
-pub mod Rounds
-pub mod Digest
-pub mod Parts
-pub mod Example

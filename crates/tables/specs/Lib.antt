@@ -1,9 +1,0 @@
-pub mod Counting
-pub mod Rows
-pub mod Seats
-pub mod Tables
-pub mod Replies
-pub mod Frames
-pub mod Seating
-pub mod Looks
-pub mod Step

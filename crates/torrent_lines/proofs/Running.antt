@@ -1,0 +1,116 @@
+-- Runs of bytes one after the other, and loops that put them. Assumes nothing.
+use mathlib.Core.Path.{_≡_, refl, sym, ap, _∙_}
+use mathlib.Core.Bool.{Bool, true, false, not}
+use mathlib.Core.List.{List, [], _∷_, _++_, map, append-assoc}
+use Prim.Native.Nat.{ℕ, _+_, _*_, _/_, _%_, _<_, _≤_}
+use native.Mathlib.Omega.{arith}
+use native.Mathlib.Numerals.{add-one}
+use borrow.Author.Tests.{lt-ltb, le-ltb, le-leb, lt-leb}
+use lib.Dec.{eqb}
+use lib.ListN.{length, getD, drop, length-append, drop-of-length-le}
+use lib.Seq.{sets, set-out, drop-cons}
+use Rattle.refusal.proofs.Places.{sets-append}
+use Rattle.bencode_scalar.specs.Written.{decimal, decimalIn}
+use Rattle.bencode_writer.specs.Put.{Ran}
+use Rattle.bencode_writer.proofs.Decimals.{length-most}
+use Rattle.torrent_lines.specs.Lines.{plain, hexDigit, escapedByte, escaped, slashed, filesWord, bytesWord, piecesWord, refusedWord, atWord}
+
+-- a byte past the output is counted and not stored
+pub ran-out : (b at : ℕ) (o : List ℕ) → length o ≤ at → Ran (b ∷ []) at o (at + 1) o
+ran-out b at o h = record { place = refl; out = sym (set-out o at b h) }
+
+-- ---- what is left to put
+
+-- all the bytes were to be put at a place of o; p now has them but for those left, which go to `to`
+pub record Going (all : List ℕ) (at : ℕ) (o : List ℕ) (left : List ℕ) (to : ℕ) (p : List ℕ) : Type 0 where
+  pub place : to + length left ≡ at + length all
+  pub same : sets p to left ≡ sets o at all
+
+module _ (all : List ℕ) (at : ℕ) (o : List ℕ) where
+  pub going-start : Going all at o all at o
+  going-start = record { place = refl; same = refl }
+
+  module _ {left : List ℕ} {to : ℕ} {p : List ℕ} (g : Going all at o left to p) where
+    pub going-more : (w x : List ℕ) → left ≡ w ++ x → {r : ℕ} {e : List ℕ} → Ran w to p r e → Going all at o x r e
+    going-more w x i {r} {e} k = record {
+      place = omega (arith, g .place, k .place, length-append w x, ap length i);
+      same = ap (λ (n : ℕ). sets e n x) (k .place) ∙ ap (λ (l : List ℕ). sets l (to + length w) x) (k .out) ∙ sym (sets-append p to w x) ∙ ap (sets p to) (sym i) ∙ g .same;
+    }
+
+    pub going-end : left ≡ [] → Ran all at o to p
+    going-end e = record { place = omega (arith, g .place, ap length e); out = ap (sets p to) (sym e) ∙ g .same }
+
+    -- nothing is put past what there is
+    pub going-near : to ≤ at + length all
+    going-near = omega (arith, g .place)
+
+-- ---- bytes
+
+module _ (s : List ℕ) (i : ℕ) (h : i < length s) where
+  pub one-more : drop i s ≡ (getD s i 0 ∷ []) ++ drop (i + 1) s
+  one-more = drop-cons s i 0 h ∙ ap (λ (k : ℕ). getD s i 0 ∷ drop k s) (sym (add-one i))
+
+  pub escaped-more : escaped (drop i s) ≡ escapedByte (getD s i 0) ++ escaped (drop (i + 1) s)
+  unfolding escaped
+  escaped-more = ap escaped one-more
+
+pub none-left : (s : List ℕ) (i : ℕ) → length s ≤ i → drop i s ≡ []
+none-left s i h = drop-of-length-le s h
+
+pub escaped-none : (s : List ℕ) (i : ℕ) → length s ≤ i → escaped (drop i s) ≡ []
+unfolding escaped
+escaped-none s i h = ap escaped (drop-of-length-le s h)
+
+-- ---- escapes
+
+module _ (b : ℕ) where
+  pub plain-low : b < 33 → false ≡ plain b
+  plain-low h = rw (lt-leb 33 b h)
+
+  pub plain-high : 33 ≤ b → 126 < b → false ≡ plain b
+  plain-high l h = rw (le-leb 33 b l, lt-leb b 126 h)
+
+  pub plain-in : 33 ≤ b → b ≤ 126 → not (eqb b 37) ≡ plain b
+  plain-in l h = rw (le-leb 33 b l, le-leb b 126 h)
+
+  pub escape-plain : plain b ≡ true → b ∷ [] ≡ escapedByte b
+  escape-plain h = rw h
+
+  pub escape-other : (h l : ℕ) → h ≡ hexDigit (b / 16) → l ≡ hexDigit (b % 16) → plain b ≡ false → 37 ∷ h ∷ l ∷ [] ≡ escapedByte b
+  escape-other h l x y e = rw (x, y, e)
+
+pub hex-low : (n : ℕ) → n < 10 → 48 + n ≡ hexDigit n
+hex-low n h = rw (lt-ltb n 10 h)
+
+pub hex-high : (n : ℕ) → 10 ≤ n → 55 + n ≡ hexDigit n
+hex-high n h = rw (le-ltb n 10 h)
+
+-- at most three bytes for one
+byte-most : (b : ℕ) (t : Bool) → plain b ≡ t → length (escapedByte b) ≤ 3
+byte-most b true e = omega (arith, ap length (escape-plain b e))
+byte-most b false e = omega (arith, ap length (escape-other b (hexDigit (b / 16)) (hexDigit (b % 16)) refl refl e))
+
+pub escaped-most : (s : List ℕ) → length (escaped s) ≤ 3 * length s
+unfolding escaped
+escaped-most [] = omega arith
+escaped-most (b ∷ s) = omega (arith, length-append (escapedByte b) (escaped s), byte-most b (plain b) refl, escaped-most s)
+
+-- a number of 64 bits has 20 digits at most
+pub digits-most : (n : ℕ) → n < 18446744073709551616 → length (decimal n) ≤ 20
+digits-most n h = length-most 19 n (omega arith)
+
+-- ---- lines, as the code puts them together
+
+pub refused-joined : (n p : List ℕ) → refusedWord ++ ((n ++ atWord) ++ (p ++ (10 ∷ []))) ≡ refusedWord ++ (n ++ (atWord ++ (p ++ (10 ∷ []))))
+refused-joined n p = ap (λ (l : List ℕ). refusedWord ++ l) (append-assoc n atWord (p ++ (10 ∷ [])))
+
+pub first-joined : (e f t q l : List ℕ)
+    → e ++ (32 ∷ ((f ++ filesWord) ++ ((t ++ bytesWord) ++ ((q ++ piecesWord) ++ (l ++ (10 ∷ []))))))
+    ≡ e ++ (32 ∷ (f ++ (filesWord ++ (t ++ (bytesWord ++ (q ++ (piecesWord ++ (l ++ (10 ∷ [])))))))))
+first-joined e f t q l =
+    ap (λ (x : List ℕ). e ++ (32 ∷ x)) (append-assoc f filesWord ((t ++ bytesWord) ++ ((q ++ piecesWord) ++ (l ++ (10 ∷ []))))
+    ∙ ap (λ (x : List ℕ). f ++ (filesWord ++ x)) (append-assoc t bytesWord ((q ++ piecesWord) ++ (l ++ (10 ∷ []))) ∙ ap (λ (x : List ℕ). t ++ (bytesWord ++ x)) (append-assoc q piecesWord (l ++ (10 ∷ [])))))
+
+pub only-joined : (n name : List ℕ) → (48 ∷ 32 ∷ []) ++ ((n ++ (32 ∷ [])) ++ (escaped name ++ (10 ∷ []))) ≡ decimal 0 ++ (32 ∷ (n ++ (32 ∷ (slashed (map escaped (name ∷ [])) ++ (10 ∷ [])))))
+unfolding decimalIn slashed
+only-joined n name = ap (λ (x : List ℕ). 48 ∷ 32 ∷ x) (append-assoc n (32 ∷ []) (escaped name ++ (10 ∷ [])))

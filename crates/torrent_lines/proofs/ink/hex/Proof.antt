@@ -1,0 +1,24 @@
+-- `torrent_lines::ink::hex` meets its contract. Assumes nothing.
+use borrow.Author.Needs.{needs}
+use native.Mathlib.Omega.{arith}
+use Rattle.torrent_lines.proofs.Running.{hex-low, hex-high}
+use Rattle.torrent_lines.proofs.ink.hex.Statement.{statement}
+use Rattle.torrent_lines.proofs.ink.hex.Tie as tie
+
+add-result : tie.Need-add-result
+add-result c = search needs
+
+sub-result : tie.Need-sub-result
+sub-result c = search needs
+
+add-result-2 : tie.Need-add-result-2
+add-result-2 c = search needs
+
+returns : tie.Need-returns
+returns c = hex-low _ (omega arith)
+
+returns-2 : tie.Need-returns-2
+returns-2 c = omega (arith, hex-high (c .before .args .n) (omega arith))
+
+pub hex-spec : {M : Type 1} → statement M
+hex-spec = tie.close (tie.spec add-result sub-result add-result-2 returns returns-2)

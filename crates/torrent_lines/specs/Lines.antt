@@ -1,0 +1,170 @@
+-- Document 01's listing: the bytes printed for a text, from the value that the text is. Assumes nothing: these are definitions.
+use mathlib.Core.Bool.{Bool, cond, _&&_, not}
+use mathlib.Core.List.{List, [], _∷_, _++_, map}
+use Prim.Native.Nat.{ℕ, _+_, _/_, _%_}
+use lib.Dec.{ltb, leb, eqb}
+use lib.IntN.{pos, negsuc}
+use lib.ListN.{length}
+use Rattle.refusal.specs.Paper.{Outcome, taken, refused}
+use Rattle.refusal.specs.Numbers.{long}
+use Rattle.bencode_scalar.specs.Written.{decimal}
+use Rattle.bencode.specs.Value.{Value, Items, str, int, list, dict, none, item}
+use Rattle.bencode.specs.Decode.{decode}
+use Rattle.bencode_walk.specs.Lookup.{Under, nothing, under, lookup}
+use Rattle.torrent_blocks.specs.Rules.{piecesOf, sum}
+use Rattle.torrent_metainfo.specs.Keys.{infoKey, filesKey, lengthKey, nameKey, pathKey, pieceLengthKey}
+use Rattle.torrent_metainfo.specs.Rules.{torrentOf}
+use Rattle.torrent_metainfo.specs.declared.Torrent.{Torrent}
+
+-- ---- what a decoded torrent holds
+
+-- a string's bytes, a number, a list's items, the value under a dictionary's key; of another kind, nothing
+abbrev pub bytesIn : Value → List ℕ
+bytesIn (str bs) = bs
+bytesIn (int z) = []
+bytesIn (list vs) = []
+bytesIn (dict es) = []
+
+abbrev pub numberIn : Value → ℕ
+numberIn (str bs) = 0
+numberIn (int (pos n)) = n
+numberIn (int (negsuc n)) = 0
+numberIn (list vs) = 0
+numberIn (dict es) = 0
+
+abbrev pub itemsIn : Value → Items
+itemsIn (str bs) = none
+itemsIn (int z) = none
+itemsIn (list vs) = vs
+itemsIn (dict es) = none
+
+abbrev pub found : Under → Value
+found nothing = str []
+found (under p v) = v
+
+abbrev pub within : List ℕ → Value → Value
+within k (str bs) = str []
+within k (int z) = str []
+within k (list vs) = str []
+within k (dict es) = found (lookup 0 es k)
+
+-- a file: its length, and the elements of its path
+pub record Listed : Type 0 where
+  pub length : ℕ
+  pub path : List (List ℕ)
+
+unfoldable pub elementsIn : Items → List (List ℕ)
+elementsIn none = []
+elementsIn (item v vs) = bytesIn v ∷ elementsIn vs
+
+abbrev pub fileIn : Value → Listed
+fileIn v = record { length = numberIn (within lengthKey v); path = elementsIn (itemsIn (within pathKey v)) }
+
+unfoldable pub filesIn : Items → List Listed
+filesIn none = []
+filesIn (item v vs) = fileIn v ∷ filesIn vs
+
+-- the one file, whose path is its name
+abbrev pub onlyFile : Value → List Listed
+onlyFile info = record { length = numberIn (within lengthKey info); path = bytesIn (within nameKey info) ∷ [] } ∷ []
+
+-- the files of info, by what is under files
+abbrev pub filesBy : Value → Value → List Listed
+filesBy info (str bs) = onlyFile info
+filesBy info (int z) = onlyFile info
+filesBy info (list vs) = filesIn vs
+filesBy info (dict es) = onlyFile info
+
+abbrev pub filesOf : Value → List Listed
+filesOf info = filesBy info (within filesKey info)
+
+abbrev pub lengthsIn : List Listed → List ℕ
+lengthsIn fs = map (λ (f : Listed). f .length) fs
+
+-- ---- what is printed of it
+
+-- which bytes print as they are: 33 to 126, but not "%"
+abbrev pub plain : ℕ → Bool
+plain b = leb 33 b && (leb b 126 && not (eqb b 37))
+
+-- a hex digit, capital from ten on
+abbrev pub hexDigit : ℕ → ℕ
+hexDigit n = cond (ltb n 10) (48 + n) (55 + n)
+
+-- the others print as % and two hex digits
+abbrev pub escapedByte : ℕ → List ℕ
+escapedByte b = cond (plain b) (b ∷ []) (37 ∷ hexDigit (b / 16) ∷ hexDigit (b % 16) ∷ [])
+
+unfoldable pub escaped : List ℕ → List ℕ
+escaped [] = []
+escaped (b ∷ bs) = escapedByte b ++ escaped bs
+
+-- with "/" between each two
+unfoldable pub slashed : List (List ℕ) → List ℕ
+slashed [] = []
+slashed (x ∷ []) = x
+slashed (x ∷ y ∷ t) = x ++ (47 ∷ slashed (y ∷ t))
+
+-- offset, length and path of a file, and a line feed
+abbrev pub fileLine : ℕ → Listed → List ℕ
+fileLine o f = decimal o ++ (32 ∷ (decimal (f .length) ++ (32 ∷ (slashed (map escaped (f .path)) ++ (10 ∷ [])))))
+
+-- one line a file: each begins where those before it end
+unfoldable pub fileLines : ℕ → List Listed → List ℕ
+fileLines o [] = []
+fileLines o (f ∷ fs) = fileLine o f ++ fileLines (o + f .length) fs
+
+-- " files "
+abbrev pub filesWord : List ℕ
+filesWord = 32 ∷ 102 ∷ 105 ∷ 108 ∷ 101 ∷ 115 ∷ 32 ∷ []
+
+-- " bytes "
+abbrev pub bytesWord : List ℕ
+bytesWord = 32 ∷ 98 ∷ 121 ∷ 116 ∷ 101 ∷ 115 ∷ 32 ∷ []
+
+-- " pieces of "
+abbrev pub piecesWord : List ℕ
+piecesWord = 32 ∷ 112 ∷ 105 ∷ 101 ∷ 99 ∷ 101 ∷ 115 ∷ 32 ∷ 111 ∷ 102 ∷ 32 ∷ []
+
+-- name, files, total, pieces, piece length
+abbrev pub firstLine : List ℕ → ℕ → ℕ → ℕ → ℕ → List ℕ
+firstLine name files total pieces size =
+    escaped name ++ (32 ∷ (decimal files ++ (filesWord ++ (decimal total ++ (bytesWord ++ (decimal pieces ++ (piecesWord ++ (decimal size ++ (10 ∷ [])))))))))
+
+abbrev pub linesBy : List ℕ → ℕ → List Listed → List ℕ
+linesBy name size fs = firstLine name (length fs) (sum (lengthsIn fs)) (piecesOf (sum (lengthsIn fs)) size) size ++ fileLines 0 fs
+
+abbrev pub linesOf : Value → List ℕ
+linesOf info = linesBy (bytesIn (within nameKey info)) (numberIn (within pieceLengthKey info)) (filesOf info)
+
+-- "refused ", " at "
+abbrev pub refusedWord : List ℕ
+refusedWord = 114 ∷ 101 ∷ 102 ∷ 117 ∷ 115 ∷ 101 ∷ 100 ∷ 32 ∷ []
+
+abbrev pub atWord : List ℕ
+atWord = 32 ∷ 97 ∷ 116 ∷ 32 ∷ []
+
+abbrev pub refusedLine : ℕ → ℕ → List ℕ
+refusedLine number place = refusedWord ++ (decimal number ++ (atWord ++ (decimal place ++ (10 ∷ []))))
+
+-- ---- the listing
+
+-- the most bytes that a listing has: six for each byte of a text, since the name of a single file is printed twice
+abbrev pub mostPrinted : ℕ
+mostPrinted = 393216
+
+-- the most bytes of a text that is listed
+abbrev pub mostListed : ℕ
+mostListed = 65536
+
+-- of a value, which is a torrent or is refused as one; of a text, which is a value or is refused as one
+abbrev pub torrentLines : Value → Outcome Torrent → List ℕ
+torrentLines v (taken t) = linesOf (within infoKey v)
+torrentLines v (refused n p) = refusedLine n p
+
+abbrev pub valueLines : Outcome Value → List ℕ
+valueLines (taken v) = torrentLines v (torrentOf v)
+valueLines (refused n p) = refusedLine n p
+
+unfoldable pub listingOf : List ℕ → List ℕ
+listingOf s = let all : List ℕ = valueLines (decode s) in cond (ltb mostListed (length s)) (refusedLine long 0) all

@@ -1,0 +1,29 @@
+-- `torrent_metainfo::read` meets its contract. Assumes nothing.
+use borrow.Author.Needs.{needs}
+use Rattle.bencode.specs.Answers.{paper}
+use Rattle.torrent_metainfo.proofs.Informing.{read-with, read-not}
+use mathlib.Core.Path.{sym, ap, _∙_}
+use Rattle.torrent_metainfo.proofs.read.Statement.{statement}
+use Rattle.torrent_metainfo.proofs.read.Tie as tie
+
+check-requires : tie.Need-check-requires
+check-requires c κs = search needs
+
+enum-told : tie.Need-enum-told
+enum-told c = search needs
+
+top-requires : tie.Need-top-requires
+top-requires c κs = search needs
+
+enum-known-r : tie.Need-enum-known-r
+enum-known-r c = search needs
+
+returns : tie.Need-returns
+returns c = read-with (c .before .before .before .before .before .args .text .now) _ (ap paper (sym (c .before .enum-told .given .1)) ∙ c .before .before .before .check .ensures .0) _ (λ v f. c .top .ensures v f)
+
+returns-2 : tie.Need-returns-2
+returns-2 c = read-not (c .before .before .before .before .before .args .text .now) (c .before .r .given .0 .0 .number) (c .before .r .given .0 .0 .place) (ap paper (sym (c .before .r .given .1)) ∙ c .before .before .before .check .ensures .0)
+
+pub read-spec : {M : Type 1} → statement M
+read-spec =
+    tie.close (tie.spec check-requires enum-told top-requires enum-known-r returns returns-2)

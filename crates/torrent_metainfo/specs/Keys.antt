@@ -1,0 +1,69 @@
+-- The keys that torrents have, byte by byte, and what a search for one tells. Assumes nothing: these are definitions.
+-- From `Tells` on they serve inner contracts alone and need not be believed: `tells-needed` and `tells-place` of torrent_metainfo/proofs/Telling.antt tie them to Rules.antt.
+use mathlib.Core.Path.{_≡_}
+use mathlib.Core.List.{List, [], _∷_}
+use Prim.Native.Nat.{ℕ}
+use Rattle.bencode_walk.specs.Stands.{Stands}
+use Rattle.bencode_walk.specs.Lookup.{Under, nothing, under}
+use Rattle.bencode_walk.specs.declared.Sought.{Sought}
+use Rattle.bencode_walk.specs.declared.Sought.the-variants.{Found, Missing, Unread}
+use Rattle.torrent_metainfo.specs.declared.Listing.{Listing}
+use Rattle.torrent_metainfo.specs.declared.Listing.the-variants.{Are, None}
+
+-- announce
+abbrev pub announceKey : List ℕ
+announceKey = 97 ∷ 110 ∷ 110 ∷ 111 ∷ 117 ∷ 110 ∷ 99 ∷ 101 ∷ []
+
+-- info
+abbrev pub infoKey : List ℕ
+infoKey = 105 ∷ 110 ∷ 102 ∷ 111 ∷ []
+
+-- files
+abbrev pub filesKey : List ℕ
+filesKey = 102 ∷ 105 ∷ 108 ∷ 101 ∷ 115 ∷ []
+
+-- length
+abbrev pub lengthKey : List ℕ
+lengthKey = 108 ∷ 101 ∷ 110 ∷ 103 ∷ 116 ∷ 104 ∷ []
+
+-- name
+abbrev pub nameKey : List ℕ
+nameKey = 110 ∷ 97 ∷ 109 ∷ 101 ∷ []
+
+-- path
+abbrev pub pathKey : List ℕ
+pathKey = 112 ∷ 97 ∷ 116 ∷ 104 ∷ []
+
+-- piece length
+abbrev pub pieceLengthKey : List ℕ
+pieceLengthKey = 112 ∷ 105 ∷ 101 ∷ 99 ∷ 101 ∷ 32 ∷ 108 ∷ 101 ∷ 110 ∷ 103 ∷ 116 ∷ 104 ∷ []
+
+-- pieces
+abbrev pub piecesKey : List ℕ
+piecesKey = 112 ∷ 105 ∷ 101 ∷ 99 ∷ 101 ∷ 115 ∷ []
+
+-- a search tells of what is under its key: the place where the value stands, or that there is none
+abbrev pub Tells : List ℕ → ℕ → Under → Sought → Type 0
+Tells s d (under q v) (Found p r) = (r ≡ q) × Stands s d q v
+Tells s d (under q v) (Missing p) = ⊥
+Tells s d (under q v) (Unread r) = ⊥
+Tells s d nothing (Found p r) = ⊥
+Tells s d nothing (Missing p) = Unit
+Tells s d nothing (Unread r) = ⊥
+
+-- where a search stopped: a later key is sought from there on
+abbrev pub stopOf : Sought → ℕ
+stopOf (Found p q) = p
+stopOf (Missing p) = p
+stopOf (Unread r) = r .place
+
+-- the place of the value that was found
+abbrev pub placeFound : Sought → ℕ
+placeFound (Found p q) = q
+placeFound (Missing p) = 0
+placeFound (Unread r) = 0
+
+-- where the key after files is sought: past their list, if it was read
+abbrev pub pastOf : Sought → Listing → ℕ
+pastOf w (Are c q) = q
+pastOf w (None r) = stopOf w

@@ -1,4 +1,0 @@
-pub mod Torrent
-pub mod Exact
-pub mod Causes
-pub mod Example

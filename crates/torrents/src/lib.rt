@@ -1,1 +1,0 @@
-// What a torrent is, that exactly these are read, and when each refusal is given: definitions (specs/) and laws (proofs/) about `metainfo`'s outcome, and no code.

@@ -1,4 +1,0 @@
-pub mod Walk
-pub mod Stands
-pub mod Lookup
-pub mod Has

@@ -1,0 +1,31 @@
+-- `file_detail` meets its contract. Assumes nothing.
+use Rattle.wardrail_rows.specs.Files.{fileDetail}
+use Rattle.torrent_contents.specs.Files.{foundPaper}
+use Rattle.torrent_contents.specs.declared.Found.{Found}
+use mathlib.Core.Path.{sym, ap, _∙_}
+use borrow.Author.Needs.{needs}
+use Rattle.wardrail_rows.proofs.files.file_detail.Statement.{statement}
+use Rattle.wardrail_rows.proofs.files.file_detail.Tie as tie
+
+enum-known-f : tie.Need-enum-known-f
+enum-known-f c = search needs
+
+entry-words-requires : tie.Need-entry-words-requires
+entry-words-requires c κs = search needs
+
+enum-known-f-2 : tie.Need-enum-known-f-2
+enum-known-f-2 c = search needs
+
+four-requires : tie.Need-four-requires
+four-requires c κs = search needs
+
+returns : tie.Need-returns
+returns c = c .entry-words .ensures ∙ ap (λ (x : Found). fileDetail (foundPaper x)) (sym (c .before .before .f .given .1))
+
+returns-2 : tie.Need-returns-2
+returns-2 c = c .four .ensures ∙ ap (λ (x : Found). fileDetail (foundPaper x)) (sym (c .before .before .f2 .given .1))
+
+pub file-detail-spec : {M : Type 1} → statement M
+file-detail-spec =
+    tie.close
+    (tie.spec enum-known-f entry-words-requires enum-known-f-2 four-requires returns returns-2)

@@ -1,0 +1,30 @@
+-- `hash_detail` meets its contract. Assumes nothing.
+use Rattle.wardrail_rows.specs.Files.{partDetail}
+use Rattle.torrent_contents.specs.Pieces.{hashPaper}
+use Rattle.torrent_contents.specs.declared.Hash.{Hash}
+use mathlib.Core.Path.{sym, ap, _∙_}
+use borrow.Author.Needs.{needs}
+use Rattle.wardrail_rows.proofs.files.hash_detail.Statement.{statement}
+use Rattle.wardrail_rows.proofs.files.hash_detail.Tie as tie
+
+enum-known-h : tie.Need-enum-known-h
+enum-known-h c = search needs
+
+two-requires : tie.Need-two-requires
+two-requires c κs = search needs
+
+enum-known-h-2 : tie.Need-enum-known-h-2
+enum-known-h-2 c = search needs
+
+two-requires-2 : tie.Need-two-requires-2
+two-requires-2 c κs = search needs
+
+returns : tie.Need-returns
+returns c = c .two .ensures ∙ ap (λ (x : Hash). partDetail (hashPaper x)) (sym (c .before .before .h .given .1))
+
+returns-2 : tie.Need-returns-2
+returns-2 c = c .two2 .ensures ∙ ap (λ (x : Hash). partDetail (hashPaper x)) (sym (c .before .before .h2 .given .1))
+
+pub hash-detail-spec : {M : Type 1} → statement M
+hash-detail-spec =
+    tie.close (tie.spec enum-known-h two-requires enum-known-h-2 two-requires-2 returns returns-2)

@@ -1,0 +1,61 @@
+-- `frame_detail` meets its contract. Assumes nothing.
+use Rattle.wardrail_rows.specs.Frames.{frameDetail}
+use Rattle.peer_wire.specs.Frames.{paper}
+use Rattle.peer_wire.specs.declared.Read.{Read}
+use mathlib.Core.Path.{sym, ap, _∙_}
+use borrow.Author.Needs.{needs}
+use Rattle.wardrail_rows.proofs.frames.frame_detail.Statement.{statement}
+use Rattle.wardrail_rows.proofs.frames.frame_detail.Tie as tie
+
+enum-told : tie.Need-enum-told
+enum-told c = search needs
+
+eight-requires : tie.Need-eight-requires
+eight-requires c κs = search needs
+
+enum-known-read : tie.Need-enum-known-read
+enum-known-read c = search needs
+
+eight-requires-2 : tie.Need-eight-requires-2
+eight-requires-2 c κs = search needs
+
+enum-known-read-2 : tie.Need-enum-known-read-2
+enum-known-read-2 c = search needs
+
+message-words-requires : tie.Need-message-words-requires
+message-words-requires c κs = search needs
+
+enum-known-read-3 : tie.Need-enum-known-read-3
+enum-known-read-3 c = search needs
+
+eight-requires-3 : tie.Need-eight-requires-3
+eight-requires-3 c κs = search needs
+
+returns : tie.Need-returns
+returns c = c .eight .ensures ∙ ap (λ (x : Read). frameDetail (paper x)) (sym (c .before .enum-told .given .1))
+
+returns-2 : tie.Need-returns-2
+returns-2 c = c .eight2 .ensures ∙ ap (λ (x : Read). frameDetail (paper x)) (sym (c .before .before .read .given .1))
+
+returns-3 : tie.Need-returns-3
+returns-3 c = c .message-words .ensures ∙ ap (λ (x : Read). frameDetail (paper x)) (sym (c .before .before .read2 .given .1))
+
+returns-4 : tie.Need-returns-4
+returns-4 c = c .eight3 .ensures ∙ ap (λ (x : Read). frameDetail (paper x)) (sym (c .before .before .read3 .given .1))
+
+pub frame-detail-spec : {M : Type 1} → statement M
+frame-detail-spec =
+    tie.close
+    (tie.spec
+    enum-told
+    eight-requires
+    enum-known-read
+    eight-requires-2
+    enum-known-read-2
+    message-words-requires
+    enum-known-read-3
+    eight-requires-3
+    returns
+    returns-2
+    returns-3
+    returns-4)

@@ -1,0 +1,137 @@
+-- `message_words` meets its contract. Assumes nothing.
+use Rattle.wardrail_rows.specs.Frames.{messageWords}
+use Rattle.peer_wire.specs.Frames.{message}
+use Rattle.peer_wire.specs.declared.Frame.{Frame}
+use mathlib.Core.Path.{sym, ap, _∙_}
+use borrow.Author.Needs.{needs}
+use Rattle.wardrail_rows.proofs.frames.message_words.Statement.{statement}
+use Rattle.wardrail_rows.proofs.frames.message_words.Tie as tie
+
+enum-told : tie.Need-enum-told
+enum-told c = search needs
+
+plain-requires : tie.Need-plain-requires
+plain-requires c κs = search needs
+
+enum-told-2 : tie.Need-enum-told-2
+enum-told-2 c = search needs
+
+plain-requires-2 : tie.Need-plain-requires-2
+plain-requires-2 c κs = search needs
+
+enum-told-3 : tie.Need-enum-told-3
+enum-told-3 c = search needs
+
+plain-requires-3 : tie.Need-plain-requires-3
+plain-requires-3 c κs = search needs
+
+enum-told-4 : tie.Need-enum-told-4
+enum-told-4 c = search needs
+
+plain-requires-4 : tie.Need-plain-requires-4
+plain-requires-4 c κs = search needs
+
+enum-known-f : tie.Need-enum-known-f
+enum-known-f c = search needs
+
+cast-eight : tie.Need-cast-eight
+cast-eight c = search needs
+
+eight-requires : tie.Need-eight-requires
+eight-requires c κs = search needs
+
+enum-known-f-2 : tie.Need-enum-known-f-2
+enum-known-f-2 c = search needs
+
+carrying-requires : tie.Need-carrying-requires
+carrying-requires c κs = search needs
+
+enum-known-f-3 : tie.Need-enum-known-f-3
+enum-known-f-3 c = search needs
+
+asking-requires : tie.Need-asking-requires
+asking-requires c κs = search needs
+
+enum-known-f-4 : tie.Need-enum-known-f-4
+enum-known-f-4 c = search needs
+
+carrying-requires-2 : tie.Need-carrying-requires-2
+carrying-requires-2 c κs = search needs
+
+enum-known-f-5 : tie.Need-enum-known-f-5
+enum-known-f-5 c = search needs
+
+asking-requires-2 : tie.Need-asking-requires-2
+asking-requires-2 c κs = search needs
+
+enum-known-f-6 : tie.Need-enum-known-f-6
+enum-known-f-6 c = search needs
+
+carrying-requires-3 : tie.Need-carrying-requires-3
+carrying-requires-3 c κs = search needs
+
+returns : tie.Need-returns
+returns c = c .plain .ensures ∙ ap (λ (x : Frame). messageWords (c .before .before .before .args .used) (message x)) (sym (c .before .enum-told .given .1))
+
+returns-2 : tie.Need-returns-2
+returns-2 c = c .plain2 .ensures ∙ ap (λ (x : Frame). messageWords (c .before .before .before .args .used) (message x)) (sym (c .before .enum-told2 .given .1))
+
+returns-3 : tie.Need-returns-3
+returns-3 c = c .plain3 .ensures ∙ ap (λ (x : Frame). messageWords (c .before .before .before .args .used) (message x)) (sym (c .before .enum-told3 .given .1))
+
+returns-4 : tie.Need-returns-4
+returns-4 c = c .plain4 .ensures ∙ ap (λ (x : Frame). messageWords (c .before .before .before .args .used) (message x)) (sym (c .before .enum-told4 .given .1))
+
+returns-5 : tie.Need-returns-5
+returns-5 c = c .eight .ensures ∙ ap (λ (x : Frame). messageWords (c .before .before .before .before .args .used) (message x)) (sym (c .before .before .f .given .1))
+
+returns-6 : tie.Need-returns-6
+returns-6 c = c .carrying .ensures ∙ ap (λ (x : Frame). messageWords (c .before .before .before .before .args .used) (message x)) (sym (c .before .before .f2 .given .1))
+
+returns-7 : tie.Need-returns-7
+returns-7 c = c .asking .ensures ∙ ap (λ (x : Frame). messageWords (c .before .before .before .before .args .used) (message x)) (sym (c .before .before .f3 .given .1))
+
+returns-8 : tie.Need-returns-8
+returns-8 c = c .carrying2 .ensures ∙ ap (λ (x : Frame). messageWords (c .before .before .before .before .args .used) (message x)) (sym (c .before .before .f4 .given .1))
+
+returns-9 : tie.Need-returns-9
+returns-9 c = c .asking2 .ensures ∙ ap (λ (x : Frame). messageWords (c .before .before .before .before .args .used) (message x)) (sym (c .before .before .f5 .given .1))
+
+returns-10 : tie.Need-returns-10
+returns-10 c = c .carrying3 .ensures ∙ ap (λ (x : Frame). messageWords (c .before .before .before .before .args .used) (message x)) (sym (c .before .before .f6 .given .1))
+
+pub message-words-spec : {M : Type 1} → statement M
+message-words-spec =
+    tie.close
+    (tie.spec
+    enum-told
+    plain-requires
+    enum-told-2
+    plain-requires-2
+    enum-told-3
+    plain-requires-3
+    enum-told-4
+    plain-requires-4
+    enum-known-f
+    cast-eight
+    eight-requires
+    enum-known-f-2
+    carrying-requires
+    enum-known-f-3
+    asking-requires
+    enum-known-f-4
+    carrying-requires-2
+    enum-known-f-5
+    asking-requires-2
+    enum-known-f-6
+    carrying-requires-3
+    returns
+    returns-2
+    returns-3
+    returns-4
+    returns-5
+    returns-6
+    returns-7
+    returns-8
+    returns-9
+    returns-10)

@@ -1,0 +1,49 @@
+-- `shake_detail` meets its contract. Assumes nothing.
+use Rattle.wardrail_rows.specs.Frames.{shakeDetail}
+use Rattle.peer_wire.specs.Handshake.{paper}
+use Rattle.peer_wire.specs.declared.Greeting.{Greeting}
+use mathlib.Core.Path.{sym, ap, _∙_}
+use borrow.Author.Needs.{needs}
+use Rattle.wardrail_rows.proofs.frames.shake_detail.Statement.{statement}
+use Rattle.wardrail_rows.proofs.frames.shake_detail.Tie as tie
+
+enum-told : tie.Need-enum-told
+enum-told c = search needs
+
+six-requires : tie.Need-six-requires
+six-requires c κs = search needs
+
+enum-known-g : tie.Need-enum-known-g
+enum-known-g c = search needs
+
+six-requires-2 : tie.Need-six-requires-2
+six-requires-2 c κs = search needs
+
+enum-known-g-2 : tie.Need-enum-known-g-2
+enum-known-g-2 c = search needs
+
+six-requires-3 : tie.Need-six-requires-3
+six-requires-3 c κs = search needs
+
+returns : tie.Need-returns
+returns c = c .six .ensures ∙ ap (λ (x : Greeting). shakeDetail (paper x)) (sym (c .before .enum-told .given .1))
+
+returns-2 : tie.Need-returns-2
+returns-2 c = c .six2 .ensures ∙ ap (λ (x : Greeting). shakeDetail (paper x)) (sym (c .before .before .g .given .1))
+
+returns-3 : tie.Need-returns-3
+returns-3 c = c .six3 .ensures ∙ ap (λ (x : Greeting). shakeDetail (paper x)) (sym (c .before .before .g2 .given .1))
+
+pub shake-detail-spec : {M : Type 1} → statement M
+shake-detail-spec =
+    tie.close
+    (tie.spec
+    enum-told
+    six-requires
+    enum-known-g
+    six-requires-2
+    enum-known-g-2
+    six-requires-3
+    returns
+    returns-2
+    returns-3)

@@ -1,0 +1,10 @@
+-- The definitions, a file for each subject.
+pub mod Said
+pub mod Replies
+pub mod Torrents
+pub mod Mapping
+pub mod Frames
+pub mod Files
+pub mod Writers
+pub mod Peers
+pub mod Hashing

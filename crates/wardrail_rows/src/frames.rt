@@ -1,0 +1,110 @@
+// What frames and handshakes are as numbers.
+ghost use mathlib.Core.Path.{_≡_};
+ghost use Rattle.peer_wire.specs.Frames.{paper as framePaper, message};
+ghost use Rattle.peer_wire.specs.Handshake.{paper as shakePaper};
+ghost use Rattle.wardrail_rows.specs.Said.{numberOf};
+ghost use Rattle.wardrail_rows.specs.Frames.{row, messageWords, frameDetail, shakeDetail};
+use crate::row::eight;
+use crate::row::six;
+use peer_wire::Frame;
+use peer_wire::Greeting;
+use peer_wire::Read;
+use refusal::Part;
+
+// The number of a frame that was read: 0 for a wait too.
+pub fn frame_number(read: Read) -> u64
+    ensures { λ r. ⌜ r ≡ numberOf (framePaper read) ⌝ }
+{
+    match read {
+        Read::Wait => 0,
+        Read::Keepalive(_) => 0,
+        Read::Whole(_, _) => 0,
+        Read::Refused(x) => x.number as u64,
+    }
+}
+
+// 0 for a wait, 1 for a keepalive or 2 for another frame, the bytes it used, its id and its fields; or the refusal's place.
+pub fn frame_detail(read: Read) -> [u64; 8]
+    ensures { λ r. ⌜ r ≡ frameDetail (framePaper read) ⌝ }
+{
+    match read {
+        Read::Wait => eight(0, 0, 0, 0, 0, 0, 0, 0),
+        Read::Keepalive(used) => eight(1, used as u64, 0, 0, 0, 0, 0, 0),
+        Read::Whole(f, used) => message_words(f, used as u64),
+        Read::Refused(x) => eight(x.place as u64, 0, 0, 0, 0, 0, 0, 0),
+    }
+}
+
+// A frame that is no keepalive: what it does not have is 0.
+fn message_words(f: Frame, used: u64) -> [u64; 8]
+    ensures { λ r. ⌜ r ≡ messageWords used (message f) ⌝ }
+{
+    match f {
+        Frame::Choke => plain(used, 0),
+        Frame::Unchoke => plain(used, 1),
+        Frame::Interested => plain(used, 2),
+        Frame::NotInterested => plain(used, 3),
+        Frame::Have(piece) => eight(2, used, 4, piece as u64, 0, 0, 0, 0),
+        Frame::Bitfield(bits) => carrying(used, 5, 0, 0, bits),
+        Frame::Request(piece, begin, length) => asking(used, 6, piece, begin, length),
+        Frame::Piece(piece, begin, block) => carrying(used, 7, piece, begin, block),
+        Frame::Cancel(piece, begin, length) => asking(used, 8, piece, begin, length),
+        Frame::Other(id, payload) => carrying(used, id, 0, 0, payload),
+    }
+}
+
+fn plain(used: u64, id: u64) -> [u64; 8]
+    ensures { λ r. ⌜ r ≡ row 2 used id 0 0 0 0 0 ⌝ }
+{
+    eight(2, used, id, 0, 0, 0, 0, 0)
+}
+
+fn asking(used: u64, id: u64, piece: u32, begin: u32, length: u32) -> [u64; 8]
+    ensures { λ r. ⌜ r ≡ row 2 used id piece begin length 0 0 ⌝ }
+{
+    eight(2, used, id, piece as u64, begin as u64, length as u64, 0, 0)
+}
+
+fn carrying(used: u64, id: u8, piece: u32, begin: u32, x: Part) -> [u64; 8]
+    ensures { λ r. ⌜ r ≡ row 2 used id piece begin 0 (x .from) (x .len) ⌝ }
+{
+    eight(
+        2,
+        used,
+        id as u64,
+        piece as u64,
+        begin as u64,
+        0,
+        x.from as u64,
+        x.len as u64,
+    )
+}
+
+// The number of a handshake that was read: 0 for a wait too.
+pub fn shake_number(g: Greeting) -> u64
+    ensures { λ r. ⌜ r ≡ numberOf (shakePaper g) ⌝ }
+{
+    match g {
+        Greeting::Await => 0,
+        Greeting::Hello(_, _, _) => 0,
+        Greeting::Unwelcome(r) => r.number as u64,
+    }
+}
+
+// 0 for a wait or else 1, the bytes it used, and first byte and length of the free bytes and of the peer id; or the refusal's place.
+pub fn shake_detail(g: Greeting) -> [u64; 6]
+    ensures { λ r. ⌜ r ≡ shakeDetail (shakePaper g) ⌝ }
+{
+    match g {
+        Greeting::Await => six(0, 0, 0, 0, 0, 0),
+        Greeting::Hello(free, peer, used) => six(
+            1,
+            used as u64,
+            free.from as u64,
+            free.len as u64,
+            peer.from as u64,
+            peer.len as u64,
+        ),
+        Greeting::Unwelcome(r) => six(r.place as u64, 0, 0, 0, 0, 0),
+    }
+}

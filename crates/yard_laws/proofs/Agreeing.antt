@@ -1,0 +1,179 @@
+-- Tables that agree with a history, and that they still do after a call that is an event at one seat. Assumes nothing.
+use mathlib.Core.Path.{_≡_, sym, ap, ap₂, _∙_, subst}
+use mathlib.Core.Logic.{_≢_}
+use mathlib.Core.Bool.{Bool, true, _&&_}
+use mathlib.Core.List.{List, _∷_}
+use Prim.Native.Nat.{ℕ, _+_, _<_}
+use native.Mathlib.Omega.{arith}
+use lib.Dec.{eqb}
+use lib.ListN.{length, getD, set, length-set}
+use lib.Seq.{getD-set-same, getD-set-other, set-getD}
+use Rattle.refusal.specs.Paper.{taken}
+use Rattle.refusal.proofs.Cases.{same-or}
+use Rattle.yard_tables.specs.Counting.{bit, count}
+use Rattle.yard_tables.specs.Rows.{width, hasIn}
+use Rattle.yard_tables.specs.Seats.{cleared, counted, holding}
+use Rattle.yard_tables.specs.Tables.{Yard, Around, Turn, Out, around, yardOf, sizesFit}
+use Rattle.yard_tables.specs.declared.Head.{Head}
+use Rattle.yard_tables.specs.declared.Seat.{Seat}
+use Rattle.yard_tables.proofs.Counts.{count-ext, count-change}
+use Rattle.yard_laws.specs.History.{Entry, History, Event, nothing, event, seated, announced, fresh, weAreChoking, weAreInterested, theyAreChoking, theyAreInterested, pieces, Sizes, sizesSet, sizesWith, seatedBy, announcedBy, freshBy, chokingBy, wantingBy, chokedBy, wantedBy}
+use Rattle.yard_laws.specs.Says.{hasPiece, held, loaded, recordOf, holders, takenSeats, completeSeats, headOf}
+
+-- the tables y of n seats agree with the history h
+pub record Agrees (n : ℕ) (h : History) (y : Yard) : Type 0 where
+  pub seats-len : length (y .seats) ≡ n
+  pub fits : sizesFit (y .head) n (length (y .rows)) (length (y .holders)) ≡ true
+  pub head-is : y .head ≡ headOf n h
+  pub seat-is : (i : ℕ) → getD (y .seats) i cleared ≡ recordOf h i
+  pub row-is : (i p : ℕ) → i < n → p < pieces h → hasIn (width (pieces h)) (y .rows) i p ≡ hasPiece h i p
+  pub holders-is : (p : ℕ) → p < pieces h → getD (y .holders) p 0 ≡ holders n h p
+
+-- ---- what an event makes of seat i, by the history before it
+
+module _ (v : Event) (h : History) (i : ℕ) where
+  abbrev pub hasThen : ℕ → Bool
+  hasThen p = seatedBy v (seated h i) && announcedBy v p (announced h i p)
+
+  abbrev pub heldThen : ℕ
+  heldThen = count (pieces h) hasThen
+
+  abbrev pub loadedThen : Bool
+  loadedThen = seatedBy v (seated h i) && eqb heldThen (pieces h)
+
+  abbrev pub recordThen : Seat
+  recordThen = record {
+    taken = seatedBy v (seated h i);
+    fresh = freshBy v (fresh h i);
+    «am_choking» = chokingBy v (weAreChoking h i);
+    «am_interested» = wantingBy v (weAreInterested h i);
+    «peer_choking» = chokedBy v (theyAreChoking h i);
+    «peer_interested» = wantedBy v (theyAreInterested h i);
+    held = heldThen;
+  }
+
+-- the entry e is the event v at seat i, nothing at the others, and no start
+pub record One (e : Entry) (i : ℕ) (v : Event) : Type 0 where
+  pub here : event i e ≡ v
+  pub others : (j : ℕ) → j ≢ i → event j e ≡ nothing
+  pub sizes-same : (z : Sizes) → sizesWith e z ≡ z
+
+abbrev headBy : Sizes → ℕ → ℕ → Head
+headBy z t c = record { pieces = z .pieces; «piece_length» = z .pieceLength; «last_length» = z .lastLength; taken = t; complete = c }
+
+-- the sizes stay, so the pieces do
+module _ (h : History) (e : Entry) (same : (z : Sizes) → sizesWith e z ≡ z) where
+  pub pieces-same : pieces (e ∷ h) ≡ pieces h
+  pieces-same = ap (λ (z : Sizes). z .pieces) (same (sizesSet h))
+
+  module _ (i : ℕ) (v : Event) (is : event i e ≡ v) where
+    pub seated-then : seated (e ∷ h) i ≡ seatedBy v (seated h i)
+    seated-then = rw is
+
+    pub has-then : (p : ℕ) → hasPiece (e ∷ h) i p ≡ hasThen v h i p
+    has-then p = rw is
+
+    held-then : held (e ∷ h) i ≡ heldThen v h i
+    held-then =
+        ap (λ (m : ℕ). count m (hasPiece (e ∷ h) i)) pieces-same
+        ∙ count-ext (hasPiece (e ∷ h) i) (hasThen v h i) (pieces h) (λ p q. has-then p)
+
+    pub loaded-then : loaded (e ∷ h) i ≡ loadedThen v h i
+    loaded-then =
+        ap (λ (b : Bool). b && eqb (held (e ∷ h) i) (pieces (e ∷ h))) seated-then
+        ∙ ap (λ (m : ℕ). seatedBy v (seated h i) && eqb m (pieces (e ∷ h))) held-then
+        ∙ ap (λ (m : ℕ). seatedBy v (seated h i) && eqb (heldThen v h i) m) pieces-same
+
+    pub record-then : recordOf (e ∷ h) i ≡ recordThen v h i
+    record-then = ap (λ (k : ℕ). holding k (recordOf (e ∷ h) i)) held-then ∙ rw is
+
+-- ---- a call that changes one seat: the counts go with what the seat has
+
+module _ (n : ℕ) (h : History) (y : Yard) (agrees : Agrees n h y) where
+  -- the seat i taken out, as the history says it is
+  abbrev pub at : ℕ → Around
+  at i = around (headOf n h) (recordOf h i) (y .rows) (y .holders)
+
+  abbrev pub putBack : ℕ → Turn → Out
+  putBack i t = record { answer = t .answer; yard = record { head = t .after .head; seats = set (y .seats) i (t .after .seat); rows = t .after .rows; holders = t .after .holders } }
+
+  pub record Becomes (v : Event) (i : ℕ) (x : Around) : Type 0 where
+    pub head-by : x .head ≡ counted (x .head .taken) (x .head .complete) (headOf n h)
+    pub taken-by : x .head .taken + bit (seated h i) ≡ takenSeats n h + bit (seatedBy v (seated h i))
+    pub complete-by : x .head .complete + bit (loaded h i) ≡ completeSeats n h + bit (loadedThen v h i)
+    pub seat-by : x .seat ≡ recordThen v h i
+    pub rows-len : length (x .rows) ≡ length (y .rows)
+    pub row-here : (p : ℕ) → p < pieces h → hasIn (width (pieces h)) (x .rows) i p ≡ hasThen v h i p
+    pub row-other : (j p : ℕ) → j ≢ i → p < pieces h → hasIn (width (pieces h)) (x .rows) j p ≡ hasIn (width (pieces h)) (y .rows) j p
+    pub holders-len : length (x .holders) ≡ length (y .holders)
+    pub holders-by : (p : ℕ) → p < pieces h → getD (x .holders) p 0 + bit (hasPiece h i p) ≡ holders n h p + bit (hasThen v h i p)
+
+  -- the same sizes, whatever is counted
+  pub counted-fits : (t c : ℕ) → sizesFit (counted t c (headOf n h)) n (length (y .rows)) (length (y .holders)) ≡ true
+  unfolding sizesFit
+  counted-fits t c = ap (λ (k : Head). sizesFit k n (length (y .rows)) (length (y .holders))) (sym (agrees .head-is)) ∙ agrees .fits
+
+  sized-head : (e : Entry) → ((z : Sizes) → sizesWith e z ≡ z) → (t c : ℕ) → t ≡ takenSeats n (e ∷ h) → c ≡ completeSeats n (e ∷ h)
+      → counted t c (headOf n h) ≡ headOf n (e ∷ h)
+  sized-head e same t c p q =
+      ap (λ (z : Sizes). headBy z t c) (sym (same (sizesSet h)))
+      ∙ ap (λ (k : ℕ). headBy (sizesSet (e ∷ h)) k c) p
+      ∙ ap (λ (k : ℕ). headBy (sizesSet (e ∷ h)) (takenSeats n (e ∷ h)) k) q
+
+  module _ (e : Entry) (i : ℕ) (v : Event) (l : i < n) (one : One e i v) where
+    taken-then : takenSeats n (e ∷ h) + bit (seated h i) ≡ takenSeats n h + bit (seatedBy v (seated h i))
+    taken-then =
+        let a = count-change (seated h) (seated (e ∷ h)) n i l (λ j q d. seated-then h e (one .sizes-same) j nothing (one .others j d)) in
+        omega (arith, a, ap bit (seated-then h e (one .sizes-same) i v (one .here)))
+
+    complete-then : completeSeats n (e ∷ h) + bit (loaded h i) ≡ completeSeats n h + bit (loadedThen v h i)
+    complete-then =
+        let a = count-change (loaded h) (loaded (e ∷ h)) n i l (λ j q d. loaded-then h e (one .sizes-same) j nothing (one .others j d)) in
+        omega (arith, a, ap bit (loaded-then h e (one .sizes-same) i v (one .here)))
+
+    holders-then : (p : ℕ) → holders n (e ∷ h) p + bit (hasPiece h i p) ≡ holders n h p + bit (hasThen v h i p)
+    holders-then p =
+        let a = count-change (λ j. hasPiece h j p) (λ j. hasPiece (e ∷ h) j p) n i l (λ j q d. has-then h e (one .sizes-same) j nothing (one .others j d) p) in
+        omega (arith, a, ap bit (has-then h e (one .sizes-same) i v (one .here) p))
+
+    pub change-agrees : (x : Around) → Becomes v i x → Agrees n (e ∷ h) (yardOf (x .head) (set (y .seats) i (x .seat)) (x .rows) (x .holders))
+    change-agrees x b =
+        let a : x .head .taken ≡ takenSeats n (e ∷ h) = omega (arith, b .taken-by, taken-then) in
+        let c : x .head .complete ≡ completeSeats n (e ∷ h) = omega (arith, b .complete-by, complete-then) in
+        record {
+          seats-len = length-set (y .seats) i _ ∙ agrees .seats-len;
+          fits = ap (λ (k : Head). sizesFit k n (length (x .rows)) (length (x .holders))) (b .head-by)
+              ∙ ap₂ (λ (r s : ℕ). sizesFit (counted (x .head .taken) (x .head .complete) (headOf n h)) n r s) (b .rows-len) (b .holders-len)
+              ∙ counted-fits (x .head .taken) (x .head .complete);
+          head-is = b .head-by ∙ sized-head e (one .sizes-same) (x .head .taken) (x .head .complete) a c;
+          seat-is = λ j. same-or j i
+              (λ q. rw q (getD-set-same (y .seats) i _ cleared (omega (arith, agrees .seats-len)) ∙ b .seat-by ∙ sym (record-then h e (one .sizes-same) i v (one .here))))
+              (λ d. getD-set-other (y .seats) i j _ cleared d ∙ agrees .seat-is j ∙ sym (record-then h e (one .sizes-same) j nothing (one .others j d)));
+          row-is = rw (pieces-same h e (one .sizes-same)) (λ j p q m. same-or j i
+              (λ r. rw r (b .row-here p m ∙ sym (has-then h e (one .sizes-same) i v (one .here) p)))
+              (λ d. b .row-other j p d m ∙ agrees .row-is j p q m ∙ sym (has-then h e (one .sizes-same) j nothing (one .others j d) p)));
+          holders-is = rw (pieces-same h e (one .sizes-same)) (λ p m. omega (arith, b .holders-by p m, holders-then p));
+        }
+
+  -- a call that means nothing for any seat
+  module _ (e : Entry) (none : (j : ℕ) → event j e ≡ nothing) (same : (z : Sizes) → sizesWith e z ≡ z) where
+    pub quiet-agrees : Agrees n (e ∷ h) y
+    quiet-agrees = record {
+      seats-len = agrees .seats-len;
+      fits = agrees .fits;
+      head-is = agrees .head-is
+          ∙ sized-head e same (takenSeats n h) (completeSeats n h)
+          (count-ext (seated h) (seated (e ∷ h)) n (λ j l. sym (seated-then h e same j nothing (none j))))
+          (count-ext (loaded h) (loaded (e ∷ h)) n (λ j l. sym (loaded-then h e same j nothing (none j))));
+      seat-is = λ j. agrees .seat-is j ∙ sym (record-then h e same j nothing (none j));
+      row-is = rw (pieces-same h e same) (λ j p l m. agrees .row-is j p l m ∙ sym (has-then h e same j nothing (none j) p));
+      holders-is = rw (pieces-same h e same) (λ p m. agrees .holders-is p m
+          ∙ count-ext (λ j. hasPiece h j p) (λ j. hasPiece (e ∷ h) j p) n (λ j l. sym (has-then h e same j nothing (none j) p)));
+    }
+
+    -- and the seat is put back as it was
+    pub quiet-back : (i : ℕ) → Agrees n (e ∷ h) (yardOf (headOf n h) (set (y .seats) i (recordOf h i)) (y .rows) (y .holders))
+    quiet-back i = subst (Agrees n (e ∷ h))
+        (ap (λ (k : Head). yardOf k (y .seats) (y .rows) (y .holders)) (agrees .head-is)
+        ∙ ap (λ (l : List Seat). yardOf (headOf n h) l (y .rows) (y .holders)) (sym (ap (set (y .seats) i) (sym (agrees .seat-is i)) ∙ set-getD (y .seats) i cleared)))
+        quiet-agrees

@@ -1,0 +1,107 @@
+-- The missing list by the history: who stands on it, in which order, and how a page goes on. Assumes nothing.
+use mathlib.Core.Path.{_≡_, refl, sym, ap, _∙_}
+use mathlib.Core.Logic.{_⊎_, inl, inr}
+use mathlib.Core.Bool.{Bool, true, false, cond}
+use mathlib.Core.List.{List, [], _∷_, _++_, List·Memᴰ, List·Memᴰ·head, List·Memᴰ·tail, List·Memᴰ·not-nil, List·Memᴰ·cases-cons}
+use Prim.Native.Nat.{ℕ, zero, suc, _+_, _-_, _≤_, _<_, min}
+use native.Mathlib.Omega.{arith}
+use lib.ListN.{length, drop, length-take, take-append-drop}
+use Rattle.refusal.proofs.Cases.{by-test, same-or, cannot}
+use Rattle.yard_tables.specs.Looks.{firstOr}
+use Rattle.yard_laws.specs.History.{History}
+use Rattle.yard_laws.specs.Says.{lacking, those, missingFrom, pageLines, pageOf, Ascending, none, one}
+
+-- ---- those of some numbers that have f
+
+weaken : (k : ℕ) (l : List ℕ) → Ascending (suc k) l → Ascending k l
+weaken k l (none j) = none k
+weaken k l (one j a r h s) = one k a r (omega arith) s
+
+module _ (f : ℕ → Bool) where
+  those-ascend : (k m : ℕ) → Ascending k (those f k m)
+  unfolding those
+  those-ascend k zero = none k
+  those-ascend k (suc m) = by-test (Ascending k) (f k)
+      (λ e. one k k (those f (suc k) m) (omega arith) (those-ascend (suc k) m))
+      (λ e. weaken k (those f (suc k) m) (those-ascend (suc k) m))
+
+  -- who stands there has f, and who has f stands there
+  those-have : (j k m : ℕ) → List·Memᴰ j (those f k m) → (k ≤ j) × (j < k + m) × (f j ≡ true)
+  unfolding those
+  those-have j k zero i = absurd (List·Memᴰ·not-nil i)
+  those-have j k (suc m) i = by-test (λ (l : List ℕ). List·Memᴰ j l → (k ≤ j) × (j < k + suc m) × (f j ≡ true)) (f k)
+      (λ e d. here e (List·Memᴰ·cases-cons d) (those-have j (suc k) m))
+      (λ e d. later (those-have j (suc k) m d))
+      i
+    where
+      later : (suc k ≤ j) × (j < suc k + m) × (f j ≡ true) → (k ≤ j) × (j < k + suc m) × (f j ≡ true)
+      later (a, b, c) = (omega arith, omega arith, c)
+
+      here : f k ≡ true → (j ≡ k) ⊎ List·Memᴰ j (those f (suc k) m) → (List·Memᴰ j (those f (suc k) m) → (suc k ≤ j) × (j < suc k + m) × (f j ≡ true))
+          → (k ≤ j) × (j < k + suc m) × (f j ≡ true)
+      here e (inl q) r = (omega arith, omega arith, ap f q ∙ e)
+      here e (inr d) r = later (r d)
+
+  having-there : (j k m : ℕ) → k ≤ j → j < k + m → f j ≡ true → List·Memᴰ j (those f k m)
+  unfolding those
+  having-there j k zero a b e = absurd (omega arith)
+  having-there j k (suc m) a b e = same-or j k
+      (λ q. by-test (List·Memᴰ j) (f k) (λ t. List·Memᴰ·head q) (λ t. cannot _ t (ap f (sym q) ∙ e)))
+      (λ d. by-test (List·Memᴰ j) (f k)
+      (λ t. List·Memᴰ·tail (having-there j (suc k) m (omega arith) (omega arith) e))
+      (λ t. having-there j (suc k) m (omega arith) (omega arith) e))
+
+  -- what is left after so many of them are those from the next one on
+  module _ (n : ℕ) where
+    abbrev nextOf : List ℕ → ℕ
+    nextOf l = firstOr n l
+
+    Rest : List ℕ → Type 0
+    Rest l = l ≡ those f (nextOf l) (n - nextOf l)
+
+    rest-none : Rest []
+    unfolding Rest those
+    rest-none = let e : n - n ≡ 0 = omega arith in rw e
+
+    rest-those : (k m : ℕ) → k + m ≡ n → Rest (those f k m)
+    unfolding Rest those
+    rest-those k zero e = let q : n - n ≡ 0 = omega arith in rw q
+    rest-those k (suc m) e = go (f k) refl (rest-those (suc k) m (omega arith))
+      where
+        go : (b : Bool) → f k ≡ b → Rest (those f (suc k) m) → Rest (cond b (k ∷ those f (suc k) m) (those f (suc k) m))
+        go true q r = let d : n - k ≡ suc m = omega arith in rw (d, q)
+        go false q r = r
+
+    rest-drop : (j k m : ℕ) → k + m ≡ n → Rest (drop j (those f k m))
+    unfolding those
+    rest-drop zero k m e = rest-those k m e
+    rest-drop (suc j) k zero e = rest-none
+    rest-drop (suc j) k (suc m) e = by-test (λ (l : List ℕ). Rest (drop (suc j) l)) (f k)
+        (λ q. rest-drop j (suc k) m (omega arith))
+        (λ q. rest-drop (suc j) (suc k) m (omega arith))
+
+    rest-is : (j k m : ℕ) → k + m ≡ n → drop j (those f k m) ≡ those f (nextOf (drop j (those f k m))) (n - nextOf (drop j (those f k m)))
+    unfolding Rest
+    rest-is j k m e = rest-drop j k m e
+
+-- ---- the missing list
+
+module _ (n : ℕ) (h : History) (first : ℕ) (l : first ≤ n) where
+  -- a seat is on it exactly if it is not before the first seat and its truck lacks a piece
+  pub listed-lacks : (j : ℕ) → List·Memᴰ j (missingFrom n h first) → (first ≤ j) × (j < n) × (lacking h j ≡ true)
+  listed-lacks j i = let t = those-have (lacking h) j first (n - first) i in (t .0, omega (arith, t .1), t .2)
+
+  pub lacking-listed : (j : ℕ) → first ≤ j → j < n → lacking h j ≡ true → List·Memᴰ j (missingFrom n h first)
+  lacking-listed j a b e = having-there (lacking h) j first (n - first) a (omega arith) e
+
+  pub list-ascends : Ascending first (missingFrom n h first)
+  list-ascends = those-ascend (lacking h) first (n - first)
+
+  -- a page has as many lines as fit, and the list goes on from its next seat
+  pub lines-fit : (space : ℕ) → pageOf n h first space .written ≡ min space (length (missingFrom n h first))
+  lines-fit space = length-take space (missingFrom n h first)
+
+  pub page-goes-on : (space : ℕ) → missingFrom n h first ≡ pageLines n h first space ++ missingFrom n h (pageOf n h first space .next)
+  page-goes-on space =
+      sym (take-append-drop space (missingFrom n h first))
+      ∙ ap (λ (r : List ℕ). pageLines n h first space ++ r) (rest-is (lacking h) n space first (n - first) (omega arith))

@@ -1,0 +1,131 @@
+-- An accepted start leaves an empty yard, whatever was in the tables; and which further start is accepted. Assumes nothing.
+use mathlib.Core.Path.{_≡_, refl, sym, ap, ap₂, _∙_, subst}
+use mathlib.Core.Bool.{Bool, true, false, cond, and-eq-true-iff}
+use mathlib.Core.List.{List, _∷_}
+use Prim.Native.Nat.{ℕ, zero, suc, _*_}
+use native.Mathlib.Omega.{arith}
+use borrow.Author.Tests.{eq-eqb, eqb-true, le-leb, leb-true}
+use lib.Dec.{eqb, leb}
+use lib.ListN.{length, getD, replicate, length-replicate, getD-replicate}
+use Rattle.refusal.specs.Paper.{taken, refused}
+use Rattle.refusal.specs.Numbers.{sizes}
+use Rattle.refusal.specs.Limits.{mostPieces, mostSeats}
+use Rattle.refusal.proofs.Cases.{cannot, both-true, same-test}
+use Rattle.torrent_blocks.specs.Rules.{pieceLength}
+use Rattle.torrent_blocks.proofs.Legal.{is-piece-length, piece-length-is}
+use Rattle.yard_tables.specs.Rows.{width}
+use Rattle.yard_tables.specs.Seats.{cleared, holding}
+use Rattle.yard_tables.specs.Tables.{Yard, done, sizesFit}
+use Rattle.yard_tables.specs.Seating.{emptied, startOf}
+use Rattle.yard_tables.specs.Step.{start}
+use Rattle.yard_tables.proofs.Counts.{count-none}
+use Rattle.yard_tables.proofs.Rows.{blank}
+use Rattle.yard_tables.proofs.Sizing.{Fitting, fitting}
+use Rattle.yard_laws.specs.History.{History, entry, event, pieces, sizesWith, seated}
+use Rattle.yard_laws.specs.Says.{hasPiece, held, loaded, holders, headOf}
+use Rattle.yard_laws.specs.Expected.{no, startFits}
+use Rattle.yard_laws.specs.Run.{SizesFit}
+use Rattle.yard_laws.proofs.Agreeing.{Agrees, quiet-agrees, counted-fits}
+use Rattle.yard_laws.proofs.Calls.{Kept}
+
+getD-same : {A : Type 0} (n j : ℕ) (a : A) → getD (replicate n a) j a ≡ a
+getD-same zero j a = refl
+getD-same (suc n) zero a = refl
+getD-same (suc n) (suc j) a = getD-same n j a
+
+-- the sizes of a start fit the tables y
+abbrev pub fitsFor : ℕ → ℕ → ℕ → Yard → Bool
+fitsFor p l k y = sizesFit (emptied p l k y .head) (length (y .seats)) (length (y .rows)) (length (y .holders))
+
+pub empty-agrees : (h : History) (y : Yard) (p l k : ℕ) (w : List ℕ) → fitsFor p l k y ≡ true
+    → Agrees (length (y .seats)) (entry (start p l k) (taken done) w ∷ h) (emptied p l k y)
+unfolding event sizesWith
+empty-agrees h y p l k w ok =
+    let n : ℕ = length (y .seats) in
+    let now : History = entry (start p l k) (taken done) w ∷ h in
+    let f : Fitting (emptied p l k y .head) n (length (y .rows)) (length (y .holders)) = fitting (emptied p l k y .head) n (length (y .rows)) (length (y .holders)) ok in
+    let none : (i : ℕ) → held now i ≡ 0 = λ i. count-none (hasPiece now i) p (λ q m. refl) in
+    record {
+      seats-len = length-replicate n cleared;
+      fits = ap₂ (λ (r s : ℕ). sizesFit (emptied p l k y .head) n r s) (length-replicate (length (y .rows)) 0) (length-replicate (length (y .holders)) 0) ∙ ok;
+      head-is = ap₂ (λ (t c : ℕ). record { pieces = p; «piece_length» = l; «last_length» = k; taken = t; complete = c })
+          (sym (count-none (seated now) n (λ i m. refl))) (sym (count-none (loaded now) n (λ i m. refl)));
+      seat-is = λ i. getD-same n i cleared ∙ ap (λ (m : ℕ). holding m cleared) (sym (none i));
+      row-is = λ i q m r. blank (width p) (length (y .rows)) i q;
+      holders-is = λ q m. getD-replicate (length (y .holders)) q 0 0 (omega (arith, f .counts)) ∙ sym (count-none (λ i. hasPiece now i q) n (λ i r. refl));
+    }
+
+-- ---- a further start
+
+-- the sizes fit exactly if they are legal and the tables have them
+pub sized-fits : (p l k : ℕ) (y : Yard) → SizesFit p l k y → fitsFor p l k y ≡ true
+unfolding sizesFit
+sized-fits p l k y s =
+    both-true _ _ (le-leb 1 p (s .some-pieces))
+    (both-true _ _ (le-leb p mostPieces (s .few-pieces))
+    (both-true _ _ (le-leb 1 (length (y .seats)) (s .some-seats))
+    (both-true _ _ (le-leb (length (y .seats)) mostSeats (s .few-seats))
+    (both-true _ _ (is-piece-length l (s .piece-length))
+    (both-true _ _ (le-leb 1 k (s .some-last))
+    (both-true _ _ (le-leb k l (s .last-within))
+    (both-true _ _ (eq-eqb (length (y .rows)) (length (y .seats) * width p) (s .rows-fit))
+    (both-true _ _ (eq-eqb (length (y .holders)) p (s .holders-fit)) refl))))))))
+
+pub fits-sized : (p l k : ℕ) (y : Yard) → fitsFor p l k y ≡ true → SizesFit p l k y
+fits-sized p l k y e =
+    let f : Fitting (emptied p l k y .head) (length (y .seats)) (length (y .rows)) (length (y .holders)) =
+    fitting (emptied p l k y .head) (length (y .seats)) (length (y .rows)) (length (y .holders)) e in
+    record {
+      some-pieces = f .some;
+      few-pieces = f .few;
+      some-seats = f .seat;
+      few-seats = f .seats;
+      piece-length = f .length;
+      some-last = f .last;
+      last-within = f .within;
+      rows-fit = f .row;
+      holders-fit = f .counts;
+    }
+
+-- what holds of both answers of two tests that agree
+by-both : {A B : Type 0} (Q : A → B → Type 0) (t u : Bool) {x y : A} {e f : B} → t ≡ u → (t ≡ true → Q x e) → (t ≡ false → Q y f) → Q (cond t x y) (cond u e f)
+by-both Q true true p f g = f refl
+by-both Q true false p f g = cannot true p refl
+by-both Q false true p f g = cannot false refl p
+by-both Q false false p f g = g refl
+
+module _ (n : ℕ) (h : History) (y : Yard) (agrees : Agrees n h y) (p l k : ℕ) where
+  fits-now : Fitting (headOf n h) n (length (y .rows)) (length (y .holders))
+  fits-now = fitting (headOf n h) n (length (y .rows)) (length (y .holders)) (counted-fits n h y agrees (headOf n h .taken) (headOf n h .complete))
+
+  fits-then : fitsFor p l k y ≡ true → startFits h p l k ≡ true
+  fits-then e =
+      let f : SizesFit p l k y = fits-sized p l k y e in
+      both-true (eqb p (pieces h)) _ (eq-eqb p (pieces h) (omega (arith, f .holders-fit, fits-now .counts)))
+      (both-true (pieceLength l) _ (is-piece-length l (f .piece-length))
+      (both-true (leb 1 k) (leb k l) (le-leb 1 k (f .some-last)) (le-leb k l (f .last-within))))
+
+  then-fits : startFits h p l k ≡ true → fitsFor p l k y ≡ true
+  then-fits e =
+      let a = and-eq-true-iff (eqb p (pieces h)) _ .0 e in
+      let b = and-eq-true-iff (pieceLength l) _ .0 (a .1) in
+      let c = and-eq-true-iff (leb 1 k) (leb k l) .0 (b .1) in
+      let q : p ≡ pieces h = eqb-true p (pieces h) (a .0) in
+      let m : length (y .seats) ≡ n = agrees .seats-len in
+      sized-fits p l k y record {
+        some-pieces = omega (arith, fits-now .some);
+        few-pieces = omega (arith, fits-now .few);
+        some-seats = omega (arith, fits-now .seat);
+        few-seats = omega (arith, fits-now .seats);
+        piece-length = piece-length-is l (b .0);
+        some-last = leb-true 1 k (c .0);
+        last-within = leb-true k l (c .1);
+        rows-fit = fits-now .row ∙ ap₂ (λ (a b : ℕ). a * width b) (sym m) (sym q);
+        holders-fit = fits-now .counts ∙ sym q;
+      }
+
+  pub start-kept : (w : List ℕ) → Kept n h y agrees (start p l k) w (startOf p l k y) (cond (startFits h p l k) (taken done) (no sizes))
+  unfolding startOf event sizesWith
+  start-kept w = by-both (Kept n h y agrees (start p l k) w) (fitsFor p l k y) (startFits h p l k) (same-test _ _ fits-then then-fits)
+      (λ e. (refl, subst (λ (m : ℕ). Agrees m (entry (start p l k) (taken done) w ∷ h) (emptied p l k y)) (agrees .seats-len) (empty-agrees h y p l k w e)))
+      (λ e. (refl, quiet-agrees n h y agrees (entry (start p l k) (refused sizes 0) w) (λ j. refl) (λ z. refl)))

@@ -1,0 +1,75 @@
+-- A run of calls on tables that are handed on untouched, and what is right after it. Assumes nothing: these are definitions.
+use mathlib.Core.Path.{_≡_}
+use mathlib.Core.List.{List, [], _∷_}
+use Prim.Native.Nat.{ℕ, _*_, _≤_, _<_}
+use lib.ListN.{length, getD}
+use Rattle.refusal.specs.Paper.{taken}
+use Rattle.refusal.specs.Limits.{mostPieces, mostSeats}
+use Rattle.torrent_blocks.specs.Rules.{PieceLength}
+use Rattle.yard_tables.specs.Rows.{width, hasIn}
+use Rattle.yard_tables.specs.Seats.{cleared}
+use Rattle.yard_tables.specs.Tables.{Yard, done}
+use Rattle.yard_tables.specs.Step.{Call, start, step, written}
+use Rattle.yard_laws.specs.History.{Entry, History, entry, pieces, sizesSet}
+use Rattle.yard_laws.specs.Expected.{answer, output}
+use Rattle.yard_laws.specs.Says.{hasPiece, recordOf, holders, takenSeats, completeSeats}
+
+-- the history so far, and the tables
+pub record State : Type 0 where
+  pub past : History
+  pub yard : Yard
+
+-- one call more: its answer is the yard's own, and so are the tables that it leaves
+unfoldable pub next : Call → State → State
+next c s = record { past = entry c (step c (s .yard) .answer) (written c (s .yard)) ∷ s .past; yard = step c (s .yard) .yard }
+
+-- calls one after the other
+unfoldable pub run : List Call → State → State
+run [] s = s
+run (c ∷ cs) s = run cs (next c s)
+
+-- a start of these sizes is accepted for the tables y, whatever is in them
+abbrev pub Accepted : ℕ → ℕ → ℕ → Yard → Type 0
+Accepted p l k y = step (start p l k) y .answer ≡ taken done
+
+-- that is: the sizes are legal, and the lent tables have them
+pub record SizesFit (p l k : ℕ) (y : Yard) : Type 0 where
+  pub some-pieces : 1 ≤ p
+  pub few-pieces : p ≤ mostPieces
+  pub some-seats : 1 ≤ length (y .seats)
+  pub few-seats : length (y .seats) ≤ mostSeats
+  pub piece-length : PieceLength l
+  pub some-last : 1 ≤ k
+  pub last-within : k ≤ l
+  pub rows-fit : length (y .rows) ≡ length (y .seats) * width p
+  pub holders-fit : length (y .holders) ≡ p
+
+-- the start, and then the calls
+abbrev pub after : ℕ → ℕ → ℕ → Yard → List Call → State
+after p l k y cs = run cs (next (start p l k) (record { past = []; yard = y }))
+
+-- the calls of a history before the calls cs, the first call first
+abbrev pub calls : History → List Call → List Call
+calls [] cs = cs
+calls (e ∷ h) cs = calls h (e .call ∷ cs)
+
+-- after the start, each answer of a history, and what was written, is the one that the history before it says
+pub data Answered (n : ℕ) : History → Type 0 where
+  started : (e : Entry) → Answered n (e ∷ [])
+  and-then : (e : Entry) (h : History) → Answered n h → e .answer ≡ answer n h (e .call) → e .output ≡ output n h (e .call) → Answered n (e ∷ h)
+
+-- the tables of n seats are what the history says, and no count passes what it could reach
+pub record Right (n : ℕ) (h : History) (y : Yard) : Type 0 where
+  pub seats-same : length (y .seats) ≡ n
+  pub holders-right : (p : ℕ) → p < pieces h → getD (y .holders) p 0 ≡ holders n h p
+  pub taken-right : y .head .taken ≡ takenSeats n h
+  pub complete-right : y .head .complete ≡ completeSeats n h
+  pub seat-right : (i : ℕ) → i < n → getD (y .seats) i cleared ≡ recordOf h i
+  pub row-right : (i p : ℕ) → i < n → p < pieces h → hasIn (width (pieces h)) (y .rows) i p ≡ hasPiece h i p
+  pub pieces-right : y .head .pieces ≡ pieces h
+  pub piece-length-right : y .head .«piece_length» ≡ sizesSet h .pieceLength
+  pub last-length-right : y .head .«last_length» ≡ sizesSet h .lastLength
+  pub holders-top : (p : ℕ) → p < pieces h → getD (y .holders) p 0 ≤ n
+  pub held-top : (i : ℕ) → i < n → getD (y .seats) i cleared .held ≤ pieces h
+  pub taken-top : y .head .taken ≤ n
+  pub complete-top : y .head .complete ≤ n

@@ -1,0 +1,33 @@
+-- What a contract here permits is one answer, and one content of what is lent. Assumes nothing.
+use mathlib.Core.Path.{_≡_, sym, _∙_}
+use mathlib.Core.Bool.{Bool, cond}
+use mathlib.Core.List.{List}
+use Prim.Native.Nat.{ℕ}
+use lib.ListN.{length, getD, set, replicate}
+use lib.Seq.{sets}
+use Rattle.yard_tables.specs.Seats.{cleared}
+use Rattle.yard_tables.specs.Seating.{lowestFree}
+use Rattle.yard_tables.specs.Looks.{pageOf, linesOf}
+use Rattle.yard_tables.specs.declared.Seat.{Seat}
+use Rattle.yard_tables.specs.declared.Page.{Page}
+use Rattle.yard_scans.specs.declared.Asked.{Asked}
+use Rattle.yard_scans.specs.Pages.{asLines}
+
+module _ (seats : List Seat) where
+  pub get-determined : (i : ℕ) (r t : Seat) → r ≡ getD seats i cleared → t ≡ getD seats i cleared → r ≡ t
+  get-determined i r t e f = e ∙ sym f
+
+  pub set-determined : (i : ℕ) (s : Seat) (a b : List Seat) → a ≡ set seats i s → b ≡ set seats i s → a ≡ b
+  set-determined i s a b e f = e ∙ sym f
+
+  pub lowest-determined : (r t : ℕ) → r ≡ lowestFree seats → t ≡ lowestFree seats → r ≡ t
+  lowest-determined r t e f = e ∙ sym f
+
+  pub clear-determined : (on : Bool) (a b : List Seat) → a ≡ cond on (replicate (length seats) cleared) seats → b ≡ cond on (replicate (length seats) cleared) seats → a ≡ b
+  clear-determined on a b e f = e ∙ sym f
+
+  pub list-determined : (x : Asked) (page : List ℕ) (r t : Page) (a b : List ℕ)
+      → (r ≡ pageOf (x .pieces) (x .first) (x .lines) seats) × (a ≡ sets page 0 (asLines (linesOf (x .pieces) (x .first) (x .lines) seats)))
+      → (t ≡ pageOf (x .pieces) (x .first) (x .lines) seats) × (b ≡ sets page 0 (asLines (linesOf (x .pieces) (x .first) (x .lines) seats)))
+      → (r ≡ t) × (a ≡ b)
+  list-determined x page r t a b (e, f) (g, h) = (e ∙ sym g, f ∙ sym h)

@@ -1,0 +1,78 @@
+-- Frames that speak of a block, by the tests that the code makes. Assumes nothing.
+use mathlib.Core.Path.{_≡_, refl, sym, ap, _∙_}
+use mathlib.Core.Bool.{Bool, true, false, not, cond, _&&_, true≢false}
+use mathlib.Core.List.{List}
+use Prim.Native.Nat.{ℕ, _+_, _≤_, _<_}
+use native.Mathlib.Omega.{arith}
+use borrow.Author.Tests.{le-leb, lt-leb, eq-eqb, ne-eqb}
+use lib.Dec.{eqb, ltb, leb}
+use Rattle.refusal.specs.Limits.{longestBlock}
+use Rattle.refusal.specs.Numbers.{beyond, outside}
+use Rattle.refusal.specs.Paper.{Outcome, taken}
+use Rattle.refusal.proofs.Cases.{pick-yes, pick-no}
+use Rattle.yard_tables.specs.Seats.{spoken}
+use Rattle.yard_tables.specs.Tables.{Said, serve, dropped, around, turn, paper, refuse, says}
+use Rattle.yard_tables.specs.Frames.{pieceSize, blockFits, blockOf, passed, requested}
+use Rattle.yard_tables.specs.declared.Head.{Head}
+use Rattle.yard_tables.specs.declared.Seat.{Seat}
+use Rattle.yard_tables.specs.declared.Answer.{Answer}
+use Rattle.yard_tables.specs.declared.Stepped.{Stepped}
+use Rattle.yard_tables.specs.Replies.{stepped, refusing, blockStep}
+
+module _ (h : Head) (p : ℕ) where
+  pub size-last : {a b r : ℕ} → a ≡ p → b ≡ h .pieces → a + 1 ≡ b → r ≡ h .«last_length» → r ≡ pieceSize h p
+  size-last ea eb e er = pick-yes (h .«piece_length») (eqb (p + 1) (h .pieces)) (eq-eqb (p + 1) (h .pieces) (omega arith)) er
+
+  pub size-other : {a b r : ℕ} → a ≡ p → b ≡ h .pieces → (a + 1 ≡ b → ⊥) → r ≡ h .«piece_length» → r ≡ pieceSize h p
+  size-other ea eb f er = pick-no (h .«last_length») (eqb (p + 1) (h .pieces)) (ne-eqb (p + 1) (h .pieces) (λ e. f (omega arith))) er
+
+  module _ (begin len : ℕ) where
+    pub fits-none : len < 1 → false ≡ blockFits h p begin len
+    fits-none l = let e : leb 1 len ≡ false = lt-leb 1 len l in rw e
+
+    pub fits-long : 1 ≤ len → longestBlock < len → false ≡ blockFits h p begin len
+    fits-long a l =
+        let e : leb 1 len ≡ true = le-leb 1 len a in
+        let f : leb len longestBlock ≡ false = lt-leb len longestBlock l in
+        rw (e, f)
+
+    pub fits-ends : {b z : ℕ} → 1 ≤ len → len ≤ longestBlock → b ≡ begin → z ≡ pieceSize h p → leb (b + len) z ≡ blockFits h p begin len
+    fits-ends a l eb ez =
+        let e : leb 1 len ≡ true = le-leb 1 len a in
+        let f : leb len longestBlock ≡ true = le-leb len longestBlock l in
+        rw (e, f, eb, ez)
+
+-- a step over a block, by what the block's frame is to get
+pub block-said : (h : Head) (s : Seat) (p begin len : ℕ) (a : Answer) (said : Said) (fits : Bool) (r : Stepped) (rows holders : List ℕ)
+    → fits ≡ blockFits h p begin len → paper a ≡ taken said → r ≡ blockStep h s p fits a → turn r rows holders ≡ blockOf p begin len said (around h s rows holders)
+unfolding blockOf
+block-said h s p begin len a said fits r rows holders ef ea er =
+    ap (λ (x : Stepped). turn x rows holders) er ∙ go (ltb p (h .pieces)) fits ∙ ap (λ (b : Bool). cond (ltb p (h .pieces)) (cond b (says said (passed (around h s rows holders))) (refuse outside (around h s rows holders))) (refuse beyond (around h s rows holders))) ef
+  where
+    go : (b c : Bool) → turn (cond b (cond c (stepped h (spoken s) a) (refusing h s outside)) (refusing h s beyond)) rows holders
+        ≡ cond b (cond c (says said (passed (around h s rows holders))) (refuse outside (around h s rows holders))) (refuse beyond (around h s rows holders))
+    go true true = ap (λ (o : Outcome Said). record { answer = o; after = around h (spoken s) rows holders }) ea
+    go true false = refl
+    go false c = refl
+
+-- a request
+module _ (used : ℕ) (s : Seat) where
+  no-and : (a b : Bool) → a ≡ true → (not a && b) ≡ false
+  no-and true b e = refl
+  no-and false b e = absurd (true≢false (sym e))
+
+  and-no : (a b : Bool) → b ≡ false → (a && b) ≡ false
+  and-no true b e = e
+  and-no false b e = refl
+
+  both : (a b : Bool) → a ≡ false → b ≡ true → (not a && b) ≡ true
+  both a b e f = rw (e, f)
+
+  pub asked-choking : s .«am_choking» ≡ true → _≡_ {A = Outcome Said} (taken (dropped used)) (taken (requested used s))
+  asked-choking e = ap {B = Outcome Said} (λ x. taken x) (pick-no (serve used) (not (s .«am_choking») && s .«peer_interested») (no-and (s .«am_choking») (s .«peer_interested») e) refl)
+
+  pub asked-served : s .«am_choking» ≡ false → s .«peer_interested» ≡ true → _≡_ {A = Outcome Said} (taken (serve used)) (taken (requested used s))
+  asked-served e f = ap {B = Outcome Said} (λ x. taken x) (pick-yes (dropped used) (not (s .«am_choking») && s .«peer_interested») (both (s .«am_choking») (s .«peer_interested») e f) refl)
+
+  pub asked-idle : s .«peer_interested» ≡ false → _≡_ {A = Outcome Said} (taken (dropped used)) (taken (requested used s))
+  asked-idle f = ap {B = Outcome Said} (λ x. taken x) (pick-no (serve used) (not (s .«am_choking») && s .«peer_interested») (and-no (not (s .«am_choking»)) (s .«peer_interested») f) refl)

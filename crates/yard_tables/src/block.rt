@@ -1,0 +1,68 @@
+// Frames that speak of a block.
+ghost use mathlib.Core.Path.{_≡_};
+ghost use Rattle.refusal.specs.Paper.{taken};
+ghost use Rattle.yard_tables.specs.Tables.{paper};
+ghost use Rattle.yard_tables.specs.Frames.{pieceSize, blockFits, requested};
+ghost use Rattle.yard_tables.specs.Replies.{blockStep};
+use crate::Answer;
+use crate::Head;
+use crate::Seat;
+use crate::Stepped;
+use crate::reply;
+use crate::sizes::wide;
+use refusal::limit;
+use refusal::number;
+
+// A block of piece p that fits or not; a is the answer where it does. The head's lengths are looked at by who calls, so that
+// LLVM keeps the numbers of the head that is handed on apart.
+pub fn block_step(h: Head, s: Seat, p: u32, fits: bool, a: Answer) -> Stepped
+    ensures { λ r. ⌜ r ≡ blockStep h s p fits a ⌝ }
+{
+    if h.pieces <= p {
+        return reply::refused(h, s, number::BEYOND);
+    }
+    if !fits {
+        return reply::refused(h, s, number::OUTSIDE);
+    }
+    Stepped {
+        head: h,
+        seat: reply::spoken(s),
+        answer: a,
+    }
+}
+
+// Serve exactly if we don't choke and they are interested.
+pub fn asked(s: Seat, used: usize) -> Answer
+    ensures { λ r. ⌜ paper r ≡ taken (requested used s) ⌝ }
+{
+    if s.am_choking {
+        return Answer::Dropped(used);
+    }
+    if s.peer_interested {
+        return Answer::Serve(used);
+    }
+    Answer::Dropped(used)
+}
+
+// A block has 1 to 16,384 bytes and ends within its piece.
+pub fn lies_within(h: Head, p: u32, begin: u32, len: usize) -> bool
+    ensures { λ r. ⌜ r ≡ blockFits h p begin len ⌝ }
+{
+    if len < 1 {
+        return false;
+    }
+    if limit::BLOCK < len {
+        return false;
+    }
+    wide(begin) + len <= size_of(h, p)
+}
+
+// The last piece may be short.
+fn size_of(h: Head, p: u32) -> usize
+    ensures { λ r. ⌜ r ≡ pieceSize h p ⌝ }
+{
+    if wide(p) + 1 == wide(h.pieces) {
+        return wide(h.last_length);
+    }
+    wide(h.piece_length)
+}
