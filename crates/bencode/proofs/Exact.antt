@@ -18,7 +18,7 @@ use Rattle.bencode.specs.Decode.{valueFrom, wholeOf, decode}
 use Rattle.bencode.specs.Answers.{paper, checkOf, stepOf}
 use Rattle.bencode.specs.Exact.{Fine, Exactly}
 use Rattle.bencode.specs.declared.Cursor.{Cursor}
-use Rattle.bencode.specs.declared.Step.the-variants.{Past, Bad}
+use Rattle.bencode.specs.declared.Step.the-variants.{Past, Refused as Bad}
 use Rattle.bencode.specs.declared.Checked.{Checked}
 use Rattle.bencode.specs.declared.Checked.the-variants.{Taken, Refused}
 use Rattle.bencode.proofs.Sound.{Took, value-sound}

@@ -15,9 +15,9 @@ use Rattle.refusal.proofs.Cases.{no-way}
 use Rattle.bencode_scalar.specs.Written.{decimal, writtenString, inRange}
 use Rattle.bencode_scalar.specs.Reading.{Got, got, bad, andThen, mapGot, isDigit, stringOf, stringAt, integerOf, integerAt}
 use Rattle.bencode_scalar.specs.Answers.{textOf, integerIs}
-use Rattle.bencode_scalar.specs.declared.Text.the-variants.{Whole, Broken}
+use Rattle.bencode_scalar.specs.declared.Text.the-variants.{Whole, Refused as Broken}
 use Rattle.bencode_scalar.specs.declared.Int.{Int}
-use Rattle.bencode_scalar.specs.declared.Int.the-variants.{Is, Large, Unread}
+use Rattle.bencode_scalar.specs.declared.Int.the-variants.{Is, Large, Refused as Unread}
 use Rattle.bencode_scalar.proofs.Forms.{at-head, at-byte}
 use Rattle.bencode_scalar.proofs.Sound.{Holds, At as Stood, at-left, IntP, integer-at-sound}
 use Rattle.bencode.specs.Value.{Value, Items, Entries, str, int, list, dict, item, entry, count, Prev, start, last, follows}
@@ -26,9 +26,9 @@ use Rattle.bencode.specs.Answers.{stepOf, prevOf, keyIs}
 use Rattle.bencode.specs.declared.Cursor.{Cursor}
 use Rattle.bencode.specs.declared.Key.{Key}
 use Rattle.bencode.specs.declared.Found.{Found}
-use Rattle.bencode.specs.declared.Found.the-variants.{At, Not}
+use Rattle.bencode.specs.declared.Found.the-variants.{At, Refused as Not}
 use Rattle.bencode.specs.declared.Step.{Step}
-use Rattle.bencode.specs.declared.Step.the-variants.{Past, Bad}
+use Rattle.bencode.specs.declared.Step.the-variants.{Past, Refused as Bad}
 use Rattle.bencode.proofs.Sound.{Took, value-sound, KeyP, key-sound}
 use Rattle.bencode.proofs.Complete.{encode-pos, kind-digit}
 

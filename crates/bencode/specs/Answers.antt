@@ -9,10 +9,10 @@ use Rattle.bencode_scalar.specs.Reading.{Got, got, bad}
 use Rattle.bencode.specs.Value.{Prev, start, last, count}
 use Rattle.bencode.specs.Decode.{decode}
 use Rattle.bencode.specs.declared.Step.{Step}
-use Rattle.bencode.specs.declared.Step.the-variants.{Past, Bad}
+use Rattle.bencode.specs.declared.Step.the-variants.{Past, Refused as Bad}
 use Rattle.bencode.specs.declared.Key.{Key}
 use Rattle.bencode.specs.declared.Found.{Found}
-use Rattle.bencode.specs.declared.Found.the-variants.{At, Not}
+use Rattle.bencode.specs.declared.Found.the-variants.{At, Refused as Not}
 use Rattle.bencode.specs.declared.Checked.{Checked}
 use Rattle.bencode.specs.declared.Checked.the-variants.{Taken, Refused}
 

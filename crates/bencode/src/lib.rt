@@ -28,7 +28,7 @@ pub struct Cursor {
 // What reading one value comes to: the cursor past it, or the refusal.
 pub enum Step {
     Past(Cursor),
-    Bad(Refusal),
+    Refused(Refusal),
 }
 
 // Whether a text is one value that keeps the limits.
@@ -47,7 +47,7 @@ pub fn check(text: &[u8]) -> Checked
             }
             Checked::Taken(c.count)
         }
-        Step::Bad(r) => Checked::Refused(r),
+        Step::Refused(r) => Checked::Refused(r),
     }
 }
 
@@ -101,7 +101,7 @@ fn list(text: &[u8], c: Cursor, levels: usize) -> Step
                 at = next.at;
                 count = next.count;
             }
-            Step::Bad(r) => return Step::Bad(r),
+            Step::Refused(r) => return Step::Refused(r),
         }
     }
     bad(number::CUT, text.len())
@@ -138,10 +138,10 @@ fn dictionary(text: &[u8], c: Cursor, levels: usize) -> Step
                             size,
                         };
                     }
-                    Step::Bad(r) => return Step::Bad(r),
+                    Step::Refused(r) => return Step::Refused(r),
                 }
             }
-            Found::Not(r) => return Step::Bad(r),
+            Found::Refused(r) => return Step::Refused(r),
         }
     }
     bad(number::CUT, text.len())
@@ -157,7 +157,7 @@ struct Key {
 // A key by its bytes in the text.
 enum Found {
     At(usize, usize),
-    Not(Refusal),
+    Refused(Refusal),
 }
 
 // The key that begins at `at`, to come after the one before.
@@ -179,7 +179,7 @@ fn next_key(text: &[u8], at: usize, count: usize, before: Key) -> Found
                 }
                 return not(number::ORDER, at);
             }
-            Text::Broken(r) => return Found::Not(r),
+            Text::Refused(r) => return Found::Refused(r),
         }
     }
     not(number::BYTE, at)
@@ -206,7 +206,7 @@ fn integer(text: &[u8], at: usize, count: usize) -> Step
     match bencode_scalar::integer(text, at) {
         Int::Is(_, next) => passed(next, count),
         Int::Large(_) => bad(number::INTEGER, at),
-        Int::Unread(r) => Step::Bad(r),
+        Int::Refused(r) => Step::Refused(r),
     }
 }
 
@@ -217,7 +217,7 @@ fn string(text: &[u8], at: usize, count: usize) -> Step
 {
     match bencode_scalar::string(text, at) {
         Text::Whole(from, size) => passed(from + size, count),
-        Text::Broken(r) => Step::Bad(r),
+        Text::Refused(r) => Step::Refused(r),
     }
 }
 
@@ -227,7 +227,7 @@ fn same(s: Step) -> Step
 {
     match s {
         Step::Past(c) => passed(c.at, c.count),
-        Step::Bad(r) => bad(r.number, r.place),
+        Step::Refused(r) => bad(r.number, r.place),
     }
 }
 
@@ -250,7 +250,7 @@ fn begins(b: u8) -> bool
 fn refused(number: u8, place: usize) -> Checked
     ensures { λ r. ⌜ r ≡ Checked.Refused (record { number = number; place = place }) ⌝ }
 {
-    Checked::Refused(Refusal { number, place })
+    Checked::Refused(refusal::refuse(number, place))
 }
 
 fn passed(at: usize, count: usize) -> Step
@@ -260,13 +260,13 @@ fn passed(at: usize, count: usize) -> Step
 }
 
 fn bad(number: u8, place: usize) -> Step
-    ensures { λ r. ⌜ r ≡ Step.Bad (record { number = number; place = place }) ⌝ }
+    ensures { λ r. ⌜ r ≡ Step.Refused (record { number = number; place = place }) ⌝ }
 {
-    Step::Bad(Refusal { number, place })
+    Step::Refused(refusal::refuse(number, place))
 }
 
 fn not(number: u8, place: usize) -> Found
-    ensures { λ r. ⌜ r ≡ Found.Not (record { number = number; place = place }) ⌝ }
+    ensures { λ r. ⌜ r ≡ Found.Refused (record { number = number; place = place }) ⌝ }
 {
-    Found::Not(Refusal { number, place })
+    Found::Refused(refusal::refuse(number, place))
 }

@@ -7,13 +7,13 @@ use Rattle.refusal.specs.declared.Part.{Part}
 pub use Rattle.bencode_walk.proofs.Determined.{sought-determined}
 use Rattle.bencode_fields.specs.Looks.{stringPaper, naturalPaper, numberPaper, insidePaper}
 use Rattle.bencode_fields.specs.declared.Bytes.{Bytes}
-use Rattle.bencode_fields.specs.declared.Bytes.the-variants.{Are, Unread}
+use Rattle.bencode_fields.specs.declared.Bytes.the-variants.{Are, Refused as Unread}
 use Rattle.bencode_fields.specs.declared.Natural.{Natural}
-use Rattle.bencode_fields.specs.declared.Natural.the-variants.{Is, Not}
+use Rattle.bencode_fields.specs.declared.Natural.the-variants.{Is, Refused as Not}
 use Rattle.bencode_fields.specs.declared.Number.{Number}
-use Rattle.bencode_fields.specs.declared.Number.the-variants.{Is as IsTo, Not as NotOne}
+use Rattle.bencode_fields.specs.declared.Number.the-variants.{Is as IsTo, Refused as NotOne}
 use Rattle.bencode_fields.specs.declared.Inside.{Inside}
-use Rattle.bencode_fields.specs.declared.Inside.the-variants.{At, None}
+use Rattle.bencode_fields.specs.declared.Inside.the-variants.{At, Refused as None}
 
 -- the way back
 abbrev bytesAs : Outcome Part → Bytes

@@ -14,25 +14,25 @@ use refusal::number;
 // A string's bytes.
 pub enum Bytes {
     Are(Part),
-    Unread(Refusal),
+    Refused(Refusal),
 }
 
 // A number from 0 on, or the refusal.
 pub enum Natural {
     Is(u64),
-    Not(Refusal),
+    Refused(Refusal),
 }
 
 // A number and the place past it.
 pub enum Number {
     Is(u64, usize),
-    Not(Refusal),
+    Refused(Refusal),
 }
 
 // The place of the first item of a list, or of the first key of a dictionary; or of the e.
 pub enum Inside {
     At(usize),
-    None(Refusal),
+    Refused(Refusal),
 }
 
 // The string at a place; another kind of value is refused by 10 there.
@@ -41,7 +41,7 @@ pub fn string_at(text: &[u8], at: usize) -> Bytes
 {
     match bencode_walk::look(text, at) {
         Seen::String(bytes, _) => Bytes::Are(bytes),
-        Seen::Refused(r) => Bytes::Unread(r),
+        Seen::Refused(r) => Bytes::Refused(r),
         Seen::Integer(_, _) => no_string(at),
         Seen::Long(_, _) => no_string(at),
         Seen::List(_) => no_string(at),
@@ -56,7 +56,7 @@ pub fn natural_at(text: &[u8], at: usize, most: u64) -> Natural
 {
     match number_at(text, at, most) {
         Number::Is(n, _) => Natural::Is(n),
-        Number::Not(r) => Natural::Not(r),
+        Number::Refused(r) => Natural::Refused(r),
     }
 }
 
@@ -67,7 +67,7 @@ pub fn number_at(text: &[u8], at: usize, most: u64) -> Number
     match bencode_walk::look(text, at) {
         Seen::Integer(z, past) => within(z, most, at, past),
         Seen::Long(_, _) => no_number(number::RANGE, at),
-        Seen::Refused(r) => Number::Not(r),
+        Seen::Refused(r) => Number::Refused(r),
         Seen::String(_, _) => no_number(number::KIND, at),
         Seen::List(_) => no_number(number::KIND, at),
         Seen::Dictionary(_) => no_number(number::KIND, at),
@@ -81,7 +81,7 @@ pub fn list_at(text: &[u8], at: usize) -> Inside
 {
     match bencode_walk::look(text, at) {
         Seen::List(first) => Inside::At(first),
-        Seen::Refused(r) => Inside::None(r),
+        Seen::Refused(r) => Inside::Refused(r),
         Seen::String(_, _) => nothing_inside(at),
         Seen::Integer(_, _) => nothing_inside(at),
         Seen::Long(_, _) => nothing_inside(at),
@@ -96,7 +96,7 @@ pub fn dictionary_at(text: &[u8], at: usize) -> Inside
 {
     match bencode_walk::look(text, at) {
         Seen::Dictionary(first) => Inside::At(first),
-        Seen::Refused(r) => Inside::None(r),
+        Seen::Refused(r) => Inside::Refused(r),
         Seen::String(_, _) => nothing_inside(at),
         Seen::Integer(_, _) => nothing_inside(at),
         Seen::Long(_, _) => nothing_inside(at),
@@ -112,7 +112,7 @@ pub fn string_under(text: &[u8], dictionary: usize, sought: Sought) -> Bytes
     match sought {
         Sought::Found(_, value) => string_at(text, value),
         Sought::Missing(_) => no_string(dictionary),
-        Sought::Unread(r) => Bytes::Unread(r),
+        Sought::Refused(r) => Bytes::Refused(r),
     }
 }
 
@@ -123,7 +123,7 @@ pub fn natural_under(text: &[u8], dictionary: usize, sought: Sought, most: u64) 
     match sought {
         Sought::Found(_, value) => natural_at(text, value, most),
         Sought::Missing(_) => no_natural(dictionary),
-        Sought::Unread(r) => Natural::Not(r),
+        Sought::Refused(r) => Natural::Refused(r),
     }
 }
 
@@ -134,7 +134,7 @@ pub fn list_under(text: &[u8], dictionary: usize, sought: Sought) -> Inside
     match sought {
         Sought::Found(_, value) => list_at(text, value),
         Sought::Missing(_) => nothing_inside(dictionary),
-        Sought::Unread(r) => Inside::None(r),
+        Sought::Refused(r) => Inside::Refused(r),
     }
 }
 
@@ -145,7 +145,7 @@ pub fn dictionary_under(text: &[u8], dictionary: usize, sought: Sought) -> Insid
     match sought {
         Sought::Found(_, value) => dictionary_at(text, value),
         Sought::Missing(_) => nothing_inside(dictionary),
-        Sought::Unread(r) => Inside::None(r),
+        Sought::Refused(r) => Inside::Refused(r),
     }
 }
 
@@ -156,7 +156,7 @@ pub fn seek_after(text: &[u8], sought: Sought, key: &[u8]) -> Sought
     match sought {
         Sought::Found(at, _) => bencode_walk::seek(text, at, key),
         Sought::Missing(at) => bencode_walk::seek(text, at, key),
-        Sought::Unread(r) => Sought::Unread(r),
+        Sought::Refused(r) => Sought::Refused(r),
     }
 }
 
@@ -175,34 +175,25 @@ fn within(z: i64, most: u64, at: usize, past: usize) -> Number
 }
 
 fn no_string(at: usize) -> Bytes
-    ensures { λ r. ⌜ r ≡ Bytes.Unread (record { number = kind; place = at }) ⌝ }
+    ensures { λ r. ⌜ r ≡ Bytes.Refused (record { number = kind; place = at }) ⌝ }
 {
-    Bytes::Unread(Refusal {
-        number: number::KIND,
-        place: at,
-    })
+    Bytes::Refused(refusal::refuse(number::KIND, at))
 }
 
 fn no_natural(at: usize) -> Natural
-    ensures { λ r. ⌜ r ≡ Natural.Not (record { number = kind; place = at }) ⌝ }
+    ensures { λ r. ⌜ r ≡ Natural.Refused (record { number = kind; place = at }) ⌝ }
 {
-    Natural::Not(Refusal {
-        number: number::KIND,
-        place: at,
-    })
+    Natural::Refused(refusal::refuse(number::KIND, at))
 }
 
 fn no_number(number: u8, at: usize) -> Number
-    ensures { λ r. ⌜ r ≡ Number.Not (record { number = number; place = at }) ⌝ }
+    ensures { λ r. ⌜ r ≡ Number.Refused (record { number = number; place = at }) ⌝ }
 {
-    Number::Not(Refusal { number, place: at })
+    Number::Refused(refusal::refuse(number, at))
 }
 
 fn nothing_inside(at: usize) -> Inside
-    ensures { λ r. ⌜ r ≡ Inside.None (record { number = kind; place = at }) ⌝ }
+    ensures { λ r. ⌜ r ≡ Inside.Refused (record { number = kind; place = at }) ⌝ }
 {
-    Inside::None(Refusal {
-        number: number::KIND,
-        place: at,
-    })
+    Inside::Refused(refusal::refuse(number::KIND, at))
 }

@@ -11,7 +11,7 @@ use Rattle.refusal.proofs.Cases.{no-way}
 use Rattle.bencode_scalar.specs.Reading.{bad, stringAt}
 use Rattle.bencode_scalar.specs.Answers.{textOf}
 use Rattle.bencode_scalar.specs.declared.Text.{Text}
-use Rattle.bencode_scalar.specs.declared.Text.the-variants.{Whole, Broken}
+use Rattle.bencode_scalar.specs.declared.Text.the-variants.{Whole, Refused}
 use Rattle.bencode_scalar.proofs.Sound.{Holds, at-left, TextP, string-at-sound}
 
 pub whole-inside : (s : List ℕ) (p a m : ℕ) → p ≤ length s → textOf s 0 (Whole a m) ≡ stringAt (length s) (drop p s) p 0 → a + m ≤ length s
@@ -41,9 +41,9 @@ module _ (s : List ℕ) (p : ℕ) where
       let h : m ≡ k = sym (sized a m x) ∙ ap length f ∙ sized b k y in
       let i : a ≡ b = omega arith in
       rw (h, i)
-  same (Whole a m) (Broken r) x y e = no-way (cc)
-  same (Broken r) (Whole b k) x y e = no-way (cc)
-  same (Broken r) (Broken q) x y e =
+  same (Whole a m) (Refused r) x y e = no-way (cc)
+  same (Refused r) (Whole b k) x y e = no-way (cc)
+  same (Refused r) (Refused q) x y e =
       let f : r .number ≡ q .number = cc in
       let g : r .place ≡ q .place = cc in
       rw (f, g)

@@ -7,9 +7,9 @@ use lib.ListN.{take, drop}
 use Rattle.bencode_scalar.specs.Written.{inRange}
 use Rattle.bencode_scalar.specs.Reading.{Got, got, bad}
 use Rattle.bencode_scalar.specs.declared.Text.{Text}
-use Rattle.bencode_scalar.specs.declared.Text.the-variants.{Whole, Broken}
+use Rattle.bencode_scalar.specs.declared.Text.the-variants.{Whole, Refused as Broken}
 use Rattle.bencode_scalar.specs.declared.Int.{Int}
-use Rattle.bencode_scalar.specs.declared.Int.the-variants.{Is, Large, Unread}
+use Rattle.bencode_scalar.specs.declared.Int.the-variants.{Is, Large, Refused as Unread}
 
 -- a string's answer, in a text s: m bytes at a
 abbrev pub textOf : List ℕ → ℕ → Text → Got (List ℕ)

@@ -14,14 +14,14 @@ use refusal::number;
 // A string: the place of its first byte and how many they are.
 pub enum Text {
     Whole(usize, usize),
-    Broken(Refusal),
+    Refused(Refusal),
 }
 
 // An integer and the place past it; one outside 64 bits has only that place.
 pub enum Int {
     Is(i64, usize),
     Large(usize),
-    Unread(Refusal),
+    Refused(Refusal),
 }
 
 // Whether a byte is a decimal digit.
@@ -94,15 +94,15 @@ pub fn precedes(a: &[u8], b: &[u8]) -> bool
 }
 
 fn broken(number: u8, place: usize) -> Text
-    ensures { λ r. ⌜ r ≡ Text.Broken (record { number = number; place = place }) ⌝ }
+    ensures { λ r. ⌜ r ≡ Text.Refused (record { number = number; place = place }) ⌝ }
 {
-    Text::Broken(Refusal { number, place })
+    Text::Refused(refusal::refuse(number, place))
 }
 
 fn unread(number: u8, place: usize) -> Int
-    ensures { λ r. ⌜ r ≡ Int.Unread (record { number = number; place = place }) ⌝ }
+    ensures { λ r. ⌜ r ≡ Int.Refused (record { number = number; place = place }) ⌝ }
 {
-    Int::Unread(Refusal { number, place })
+    Int::Refused(refusal::refuse(number, place))
 }
 
 // The string whose first digit stands at `at`.

@@ -8,11 +8,11 @@ use Rattle.bencode_walk.specs.Walk.{Head, string, integer, long, list, d
 use Rattle.bencode_walk.specs.declared.Seen.{Seen}
 use Rattle.bencode_walk.specs.declared.Seen.the-variants.{String, Integer, Long, List as ListSeen, Dictionary, End, Refused}
 use Rattle.bencode_walk.specs.declared.Next.{Next}
-use Rattle.bencode_walk.specs.declared.Next.the-variants.{Key, Close, Not}
+use Rattle.bencode_walk.specs.declared.Next.the-variants.{Key, Close, Refused as Not}
 use Rattle.bencode_walk.specs.declared.Sought.{Sought}
-use Rattle.bencode_walk.specs.declared.Sought.the-variants.{Found, Missing, Unread}
+use Rattle.bencode_walk.specs.declared.Sought.the-variants.{Found, Missing, Refused as Unread}
 use Rattle.bencode_walk.specs.declared.Past.{Past}
-use Rattle.bencode_walk.specs.declared.Past.the-variants.{To, Bad}
+use Rattle.bencode_walk.specs.declared.Past.the-variants.{To, Refused as Bad}
 
 -- the answer that the paper's words say
 abbrev seenAs : Outcome Head → Seen

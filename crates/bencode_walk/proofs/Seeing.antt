@@ -19,15 +19,15 @@ use Rattle.refusal.proofs.Cases.{no-way}
 use Rattle.bencode_scalar.specs.Written.{signed, inRange}
 use Rattle.bencode_scalar.specs.Reading.{Got, got, bad, onHead, stringAt, integerAt}
 use Rattle.bencode_scalar.specs.Answers.{textOf, integerIs}
-use Rattle.bencode_scalar.specs.declared.Text.the-variants.{Whole, Broken}
+use Rattle.bencode_scalar.specs.declared.Text.the-variants.{Whole, Refused as Broken}
 use Rattle.bencode_scalar.specs.declared.Int.{Int}
-use Rattle.bencode_scalar.specs.declared.Int.the-variants.{Is, Large, Unread}
+use Rattle.bencode_scalar.specs.declared.Int.the-variants.{Is, Large, Refused as Unread}
 use Rattle.bencode_scalar.proofs.Forms.{at-head, at-byte}
 use Rattle.bencode_scalar.proofs.Sound.{Holds, IntP, integer-at-sound}
 use Rattle.bencode.specs.Value.{Value}
 use Rattle.bencode.specs.Answers.{stepOf}
 use Rattle.bencode.specs.declared.Step.{Step}
-use Rattle.bencode.specs.declared.Step.the-variants.{Past as Passed, Bad as Failed}
+use Rattle.bencode.specs.declared.Step.the-variants.{Past as Passed, Refused as Failed}
 use Rattle.bencode_scalar.proofs.Determined.{whole-inside}
 use Rattle.bencode_walk.specs.Walk.{Head, string, integer, long, list, dictionary, end, stringHead, integerHead, stringSeen, integerSeen, lookAt, lookOf, pastOf}
 

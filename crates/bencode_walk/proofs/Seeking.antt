@@ -20,9 +20,9 @@ use Rattle.bencode.proofs.Complete.{encode-pos}
 use Rattle.bencode.specs.Value.{encode}
 use Rattle.bencode_scalar.proofs.Keys.{Comparing, comparing-less, comparing-greater, comparing-long, comparing-short}
 use Rattle.bencode_walk.specs.Walk.{Head, string, integer, long, list, dictionary, end, stringHead, integerHead, lookAt, lookOf, NextEntry, key, close, asEntry, entryPaper, entryOf, pastPaper, skipOf, found, missing, orderOf, seekBy, seekOf}
-use Rattle.bencode_walk.specs.declared.Next.the-variants.{Key, Close, Not}
+use Rattle.bencode_walk.specs.declared.Next.the-variants.{Key, Close, Refused as Not}
 use Rattle.bencode_walk.specs.declared.Order.the-variants.{Before, Same, After}
-use Rattle.bencode_walk.specs.declared.Past.the-variants.{To, Bad}
+use Rattle.bencode_walk.specs.declared.Past.the-variants.{To, Refused as Bad}
 use Rattle.bencode_walk.proofs.Standing.{room, skip-stands}
 
 -- what is seen ends further on, within the text

@@ -15,13 +15,13 @@ use Rattle.bencode.specs.Decode.{valueFrom}
 use Rattle.bencode_walk.specs.declared.Seen.{Seen}
 use Rattle.bencode_walk.specs.declared.Seen.the-variants.{String, Integer, Long, List as ListSeen, Dictionary, End, Refused}
 use Rattle.bencode_walk.specs.declared.Next.{Next}
-use Rattle.bencode_walk.specs.declared.Next.the-variants.{Key, Close, Not}
+use Rattle.bencode_walk.specs.declared.Next.the-variants.{Key, Close, Refused as Not}
 use Rattle.bencode_walk.specs.declared.Sought.{Sought}
-use Rattle.bencode_walk.specs.declared.Sought.the-variants.{Found, Missing, Unread}
+use Rattle.bencode_walk.specs.declared.Sought.the-variants.{Found, Missing, Refused as Unread}
 use Rattle.bencode_walk.specs.declared.Order.{Order}
 use Rattle.bencode_walk.specs.declared.Order.the-variants.{Before, Same, After}
 use Rattle.bencode_walk.specs.declared.Past.{Past}
-use Rattle.bencode_walk.specs.declared.Past.the-variants.{To, Bad}
+use Rattle.bencode_walk.specs.declared.Past.the-variants.{To, Refused as Bad}
 
 -- what can stand at a place; the last number is the place past it, or of the first thing in a list or dictionary
 pub data Head : Type 0 where

@@ -31,20 +31,20 @@ pub enum Seen {
 pub enum Next {
     Key(Part, usize),
     Close(usize),
-    Not(Refusal),
+    Refused(Refusal),
 }
 
 // Where a key was found, by the places of its entry and its value, or where it would stand.
 pub enum Sought {
     Found(usize, usize),
     Missing(usize),
-    Unread(Refusal),
+    Refused(Refusal),
 }
 
 // The place past a value.
 pub enum Past {
     To(usize),
-    Bad(Refusal),
+    Refused(Refusal),
 }
 
 // How one key stands to another.
@@ -84,7 +84,7 @@ pub fn entry(text: &[u8], at: usize) -> Next
     match look(text, at) {
         Seen::String(key, value) => Next::Key(key, value),
         Seen::End(past) => Next::Close(past),
-        Seen::Refused(r) => Next::Not(r),
+        Seen::Refused(r) => Next::Refused(r),
         Seen::Integer(_, _) => no_key(at),
         Seen::Long(_, _) => no_key(at),
         Seen::List(_) => no_key(at),
@@ -103,13 +103,13 @@ pub fn seek(text: &[u8], at: usize, key: &[u8]) -> Sought
             Next::Key(k, value) => match compare(bytes(text, k), key) {
                 Order::Before => match skip(text, value) {
                     Past::To(next) => p = next,
-                    Past::Bad(r) => return Sought::Unread(r),
+                    Past::Refused(r) => return Sought::Refused(r),
                 },
                 Order::Same => return Sought::Found(p, value),
                 Order::After => return Sought::Missing(p),
             },
             Next::Close(_) => return Sought::Missing(p),
-            Next::Not(r) => return Sought::Unread(r),
+            Next::Refused(r) => return Sought::Refused(r),
         }
     }
 }
@@ -120,7 +120,7 @@ pub fn skip(text: &[u8], at: usize) -> Past
 {
     match bencode::value(text, Cursor { at, count: 0 }, limit::LEVELS) {
         Step::Past(c) => Past::To(c.at),
-        Step::Bad(r) => Past::Bad(r),
+        Step::Refused(r) => Past::Refused(r),
     }
 }
 
@@ -141,7 +141,7 @@ fn string(text: &[u8], at: usize) -> Seen
 {
     match bencode_scalar::string(text, at) {
         Text::Whole(from, len) => Seen::String(Part { from, len }, from + len),
-        Text::Broken(r) => Seen::Refused(r),
+        Text::Refused(r) => Seen::Refused(r),
     }
 }
 
@@ -151,7 +151,7 @@ fn integer(text: &[u8], at: usize) -> Seen
     match bencode_scalar::integer(text, at) {
         Int::Is(z, next) => Seen::Integer(z, next),
         Int::Large(next) => long(at, next),
-        Int::Unread(r) => Seen::Refused(r),
+        Int::Refused(r) => Seen::Refused(r),
     }
 }
 
@@ -172,7 +172,7 @@ fn long(at: usize, next: usize) -> Seen
 fn refused(number: u8, place: usize) -> Seen
     ensures { λ r. ⌜ r ≡ Seen.Refused (record { number = number; place = place }) ⌝ }
 {
-    Seen::Refused(Refusal { number, place })
+    Seen::Refused(refusal::refuse(number, place))
 }
 
 // Two keys, by one pass over their bytes.
@@ -201,12 +201,9 @@ fn compare(a: &[u8], b: &[u8]) -> Order
 }
 
 fn no_key(at: usize) -> Next
-    ensures { λ r. ⌜ r ≡ Next.Not (record { number = 2; place = at }) ⌝ }
+    ensures { λ r. ⌜ r ≡ Next.Refused (record { number = 2; place = at }) ⌝ }
 {
-    Next::Not(Refusal {
-        number: number::BYTE,
-        place: at,
-    })
+    Next::Refused(refusal::refuse(number::BYTE, at))
 }
 
 fn least(a: usize, b: usize) -> usize

@@ -103,10 +103,7 @@ fn joined(out: &mut [u8], at: usize, before: &[u8], n: u64, mark: u8, after: &[u
 fn no_room() -> Put
     ensures { λ r. ⌜ r ≡ Put.Refused (record { number = room; place = 0 }) ⌝ }
 {
-    Put::Refused(Refusal {
-        number: number::ROOM,
-        place: 0,
-    })
+    Put::Refused(refusal::refuse(number::ROOM, 0))
 }
 
 // Whether n bytes from `at` on lie within len bytes. It subtracts, since `at + n` may not fit a usize.

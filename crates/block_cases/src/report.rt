@@ -27,7 +27,7 @@ pub fn block(lengths: &[u64], piece_length: u64, piece: u32, offset: u32, count:
 pub fn byte(lengths: &[u64], piece_length: u64, file: usize, offset: u64) {
     match torrent_blocks::byte(lengths, piece_length, file, offset) {
         Place::At(piece, place) => spot(piece, place),
-        Place::Nowhere(r) => refused(r.number, r.place),
+        Place::Refused(r) => refused(r.number, r.place),
     }
 }
 
@@ -35,7 +35,7 @@ pub fn byte(lengths: &[u64], piece_length: u64, file: usize, offset: u64) {
 pub fn size(lengths: &[u64], piece_length: u64, piece: u32) {
     match torrent_blocks::piece_size(lengths, piece_length, PieceNumber(piece)) {
         Size::Bytes(n) => word(n),
-        Size::Unknown(r) => refused(r.number, r.place),
+        Size::Refused(r) => refused(r.number, r.place),
     }
 }
 

@@ -15,7 +15,7 @@ use Rattle.hash_sha1.specs.Parts.{begun, addOf, finishOf}
 use Rattle.hash_sha1.specs.declared.Hashed.{Hashed}
 use Rattle.hash_sha1.specs.declared.Hashed.the-variants.{Written, Refused}
 use Rattle.hash_sha1.specs.declared.Agreement.{Agreement}
-use Rattle.hash_sha1.specs.declared.Agreement.the-variants.{Same, Other, Unhashed}
+use Rattle.hash_sha1.specs.declared.Agreement.the-variants.{Same, Other, Refused as Unhashed}
 use Rattle.hash_sha1.specs.declared.stream.Stream.{Stream}
 use Rattle.hash_sha1.proofs.Parts.{digest-whole, digest-over, finish-whole, finish-over, by-limit}
 use Rattle.hash_sha1.proofs.Same.{same-equal, same-refl}

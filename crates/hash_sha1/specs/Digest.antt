@@ -12,7 +12,7 @@ use Rattle.hash_sha1.specs.Sha1.{sha1}
 use Rattle.hash_sha1.specs.declared.Hashed.{Hashed}
 use Rattle.hash_sha1.specs.declared.Hashed.the-variants.{Written, Refused}
 use Rattle.hash_sha1.specs.declared.Agreement.{Agreement}
-use Rattle.hash_sha1.specs.declared.Agreement.the-variants.{Same, Other, Unhashed}
+use Rattle.hash_sha1.specs.declared.Agreement.the-variants.{Same, Other, Refused as Unhashed}
 
 -- the code's answers in document 01's words: that the digest is written, and whether it is the expected one
 abbrev pub paper : Hashed → Outcome (Unit {0})

@@ -18,7 +18,7 @@ pub enum Hashed {
 pub enum Agreement {
     Same,
     Other,
-    Unhashed(Refusal),
+    Refused(Refusal),
 }
 
 // Writes the digest of at most 16,777,216 bytes. A refusal leaves `out` as it was.
@@ -35,7 +35,7 @@ pub fn agrees(message: &[u8], expected: &[u8]) -> Agreement
     let mut found = [0u8; 20];
     match digest(message, &mut found) {
         Hashed::Written => compared(&found, expected),
-        Hashed::Refused(r) => Agreement::Unhashed(r),
+        Hashed::Refused(r) => Agreement::Refused(r),
     }
 }
 

@@ -136,8 +136,5 @@ fn too_long() -> Stream
 fn long() -> Hashed
     ensures { λ r. ⌜ r ≡ Hashed.Refused (record { number = long; place = 0 }) ⌝ }
 {
-    Hashed::Refused(Refusal {
-        number: number::LONG,
-        place: 0,
-    })
+    Hashed::Refused(refusal::refuse(number::LONG, 0))
 }

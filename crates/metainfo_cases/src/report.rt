@@ -74,7 +74,7 @@ fn hash(text: &[u8], n: u64) {
     }
     match torrent_contents::piece_hash(text, PieceNumber(n as u32)) {
         Hash::Stands(x) => part(x),
-        Hash::None(r) => refused(r.number, r.place),
+        Hash::Refused(r) => refused(r.number, r.place),
     }
 }
 
@@ -106,7 +106,7 @@ fn walk_files(text: &[u8], place: usize, count: usize) {
                 at = f.next;
                 n += 1;
             }
-            Filed::Not(r) => return refused(r.number, r.place),
+            Filed::Refused(r) => return refused(r.number, r.place),
         }
     }
     walked(text, place, at);
@@ -118,7 +118,7 @@ fn walked(text: &[u8], place: usize, at: usize) {
     labelled(b" to", at as u64);
     match torrent_metainfo::file_at(text, at) {
         Filed::Is(f) => number(f.length),
-        Filed::Not(r) => refused(r.number, r.place),
+        Filed::Refused(r) => refused(r.number, r.place),
     }
 }
 
@@ -126,7 +126,7 @@ fn file(text: &[u8], n: usize) {
     labelled(b";", n as u64);
     match torrent_contents::file(text, n) {
         Found::Is(e) => entry(text, e),
-        Found::Not(r) => refused(r.number, r.place),
+        Found::Refused(r) => refused(r.number, r.place),
     }
 }
 
@@ -153,7 +153,7 @@ fn path(text: &[u8], first: usize) {
                 n += 1;
             }
             Element::End(past) => return number(past as u64),
-            Element::Not(r) => return refused(r.number, r.place),
+            Element::Refused(r) => return refused(r.number, r.place),
         }
     }
 }

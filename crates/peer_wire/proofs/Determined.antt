@@ -13,7 +13,7 @@ use Rattle.peer_wire.specs.declared.Frame.the-variants.{Choke, Unchoke, 
 use Rattle.peer_wire.specs.declared.Read.{Read}
 use Rattle.peer_wire.specs.declared.Read.the-variants.{Wait, Keepalive, Whole, Refused}
 use Rattle.peer_wire.specs.declared.Greeting.{Greeting}
-use Rattle.peer_wire.specs.declared.Greeting.the-variants.{Await, Hello, Unwelcome}
+use Rattle.peer_wire.specs.declared.Greeting.the-variants.{Await, Hello, Refused as Unwelcome}
 
 -- the answer that the paper's words say
 abbrev foundAs : Message Part → ℕ → Read

@@ -8,7 +8,7 @@ use Rattle.refusal.specs.Numbers.{protocol, hash}
 use Rattle.refusal.specs.Paper.{Outcome, taken, refused, refusal}
 use Rattle.refusal.specs.declared.Part.{Part}
 use Rattle.peer_wire.specs.declared.Greeting.{Greeting}
-use Rattle.peer_wire.specs.declared.Greeting.the-variants.{Await, Hello, Unwelcome}
+use Rattle.peer_wire.specs.declared.Greeting.the-variants.{Await, Hello, Refused}
 
 -- 19, and "BitTorrent protocol"
 abbrev pub name : List ℕ
@@ -46,4 +46,4 @@ shakeOf info s =
 abbrev pub paper : Greeting → Outcome Shaken
 paper Await = taken wait
 paper (Hello free peer used) = taken (hello free peer used)
-paper (Unwelcome r) = refusal r
+paper (Refused r) = refusal r

@@ -47,7 +47,7 @@ pub enum Read {
 pub enum Greeting {
     Await,
     Hello(Part, Part, usize),
-    Unwelcome(Refusal),
+    Refused(Refusal),
 }
 
 // The frame at the start of the bytes.
@@ -194,11 +194,11 @@ fn hello() -> Greeting
 fn refused(number: u8) -> Read
     ensures { λ r. ⌜ r ≡ Read.Refused (record { number = number; place = 0 }) ⌝ }
 {
-    Read::Refused(Refusal { number, place: 0 })
+    Read::Refused(refusal::refuse(number, 0))
 }
 
 fn unwelcome(number: u8) -> Greeting
-    ensures { λ r. ⌜ r ≡ Greeting.Unwelcome (record { number = number; place = 0 }) ⌝ }
+    ensures { λ r. ⌜ r ≡ Greeting.Refused (record { number = number; place = 0 }) ⌝ }
 {
-    Greeting::Unwelcome(Refusal { number, place: 0 })
+    Greeting::Refused(refusal::refuse(number, 0))
 }

@@ -146,5 +146,5 @@ fn three(a: u32, b: u32, c: u32) -> [u8; 12]
 fn refused(number: u8) -> Put
     ensures { λ r. ⌜ r ≡ Put.Refused (record { number = number; place = 0 }) ⌝ }
 {
-    Put::Refused(Refusal { number, place: 0 })
+    Put::Refused(refusal::refuse(number, 0))
 }

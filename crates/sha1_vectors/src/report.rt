@@ -60,7 +60,7 @@ fn compare(out: &[u8; 20], count: usize) {
     match hash_sha1::agrees(b"abc", &expected[..count]) {
         Agreement::Same => say(b"same\n"),
         Agreement::Other => say(b"other\n"),
-        Agreement::Unhashed(r) => refused(r),
+        Agreement::Refused(r) => refused(r),
     }
 }
 

@@ -132,14 +132,11 @@ fn string_size(bytes: &[u8]) -> usize
 fn refused(number: u8) -> Sized
     ensures { λ r. ⌜ r ≡ Sized.Refused (record { number = number; place = 0 }) ⌝ }
 {
-    Sized::Refused(Refusal { number, place: 0 })
+    Sized::Refused(refusal::refuse(number, 0))
 }
 
 fn no_room() -> Put
     ensures { λ r. ⌜ r ≡ Put.Refused (record { number = room; place = 0 }) ⌝ }
 {
-    Put::Refused(Refusal {
-        number: number::ROOM,
-        place: 0,
-    })
+    Put::Refused(refusal::refuse(number::ROOM, 0))
 }

@@ -16,9 +16,9 @@ use Rattle.torrent_blocks.specs.Answers.{spot, partsPaper, placePaper, s
 use Rattle.torrent_blocks.specs.declared.Parts.{Parts}
 use Rattle.torrent_blocks.specs.declared.Parts.the-variants.{Refused}
 use Rattle.torrent_blocks.specs.declared.Place.{Place}
-use Rattle.torrent_blocks.specs.declared.Place.the-variants.{Nowhere}
+use Rattle.torrent_blocks.specs.declared.Place.the-variants.{Refused as Nowhere}
 use Rattle.torrent_blocks.specs.declared.Size.{Size}
-use Rattle.torrent_blocks.specs.declared.Size.the-variants.{Unknown}
+use Rattle.torrent_blocks.specs.declared.Size.the-variants.{Refused as Unknown}
 use Rattle.torrent_blocks.specs.declared.PieceNumber.{PieceNumber}
 use Rattle.torrent_blocks.specs.declared.PieceOffset.{PieceOffset}
 use Rattle.torrent_blocks.proofs.Legal.{tests-are, lawful-is, piece-bounds, few-pieces, starts-inside}

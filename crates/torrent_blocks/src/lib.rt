@@ -34,13 +34,13 @@ pub enum Parts {
 // Where a byte of a file falls, or why nowhere.
 pub enum Place {
     At(PieceNumber, PieceOffset),
-    Nowhere(Refusal),
+    Refused(Refusal),
 }
 
 // How many bytes a piece has, or why that is not known.
 pub enum Size {
     Bytes(u64),
-    Unknown(Refusal),
+    Refused(Refusal),
 }
 
 // The parts of the block of `count` bytes at an offset of a piece, three numbers each from the start of `out` on: file, offset in it, length.
@@ -334,17 +334,17 @@ fn smaller(a: u64, b: u64) -> u64
 fn no_parts(number: u8) -> Parts
     ensures { λ r. ⌜ r ≡ Parts.Refused (record { number = number; place = 0 }) ⌝ }
 {
-    Parts::Refused(Refusal { number, place: 0 })
+    Parts::Refused(refusal::refuse(number, 0))
 }
 
 fn nowhere(number: u8) -> Place
-    ensures { λ r. ⌜ r ≡ Place.Nowhere (record { number = number; place = 0 }) ⌝ }
+    ensures { λ r. ⌜ r ≡ Place.Refused (record { number = number; place = 0 }) ⌝ }
 {
-    Place::Nowhere(Refusal { number, place: 0 })
+    Place::Refused(refusal::refuse(number, 0))
 }
 
 fn unknown(number: u8) -> Size
-    ensures { λ r. ⌜ r ≡ Size.Unknown (record { number = number; place = 0 }) ⌝ }
+    ensures { λ r. ⌜ r ≡ Size.Refused (record { number = number; place = 0 }) ⌝ }
 {
-    Size::Unknown(Refusal { number, place: 0 })
+    Size::Refused(refusal::refuse(number, 0))
 }

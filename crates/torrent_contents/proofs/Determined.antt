@@ -7,11 +7,11 @@ use Rattle.refusal.specs.Paper.{Outcome, taken, refused}
 use Rattle.refusal.specs.declared.Part.{Part}
 use Rattle.torrent_contents.specs.declared.Entry.{Entry}
 use Rattle.torrent_contents.specs.declared.Found.{Found}
-use Rattle.torrent_contents.specs.declared.Found.the-variants.{Is, Not}
+use Rattle.torrent_contents.specs.declared.Found.the-variants.{Is, Refused as Not}
 use Rattle.torrent_contents.specs.declared.Element.{Element}
-use Rattle.torrent_contents.specs.declared.Element.the-variants.{Is as ElementIs, End, Not as NoElement}
+use Rattle.torrent_contents.specs.declared.Element.the-variants.{Is as ElementIs, End, Refused as NoElement}
 use Rattle.torrent_contents.specs.declared.Hash.{Hash}
-use Rattle.torrent_contents.specs.declared.Hash.the-variants.{Stands, None}
+use Rattle.torrent_contents.specs.declared.Hash.the-variants.{Stands, Refused as None}
 use Rattle.torrent_contents.specs.declared.Checked.{Checked}
 use Rattle.torrent_contents.specs.declared.Checked.the-variants.{Yes, No, Refused}
 use Rattle.torrent_contents.specs.Files.{foundPaper, entryOf}

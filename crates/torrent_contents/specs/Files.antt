@@ -14,11 +14,11 @@ use Rattle.torrent_metainfo.specs.declared.File.{File}
 use Rattle.torrent_metainfo.specs.declared.Torrent.{Torrent}
 use Rattle.torrent_contents.specs.declared.Entry.{Entry}
 use Rattle.torrent_contents.specs.declared.Found.{Found}
-use Rattle.torrent_contents.specs.declared.Found.the-variants.{Is, Not}
+use Rattle.torrent_contents.specs.declared.Found.the-variants.{Is, Refused}
 
 abbrev pub foundPaper : Found → Outcome Entry
 foundPaper (Is e) = taken e
-foundPaper (Not r) = refusal r
+foundPaper (Refused r) = refusal r
 
 -- what is under a key of the value at p, where it is a dictionary
 abbrev pub inside : ℕ → Value → List ℕ → Under

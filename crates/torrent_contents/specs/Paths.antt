@@ -9,7 +9,7 @@ use Rattle.refusal.specs.declared.Part.{Part}
 use Rattle.bencode_walk.specs.Walk.{Head, string, integer, long, list, dictionary, end, lookOf}
 use Rattle.torrent_metainfo.specs.Rules.{goodName}
 use Rattle.torrent_contents.specs.declared.Element.{Element}
-use Rattle.torrent_contents.specs.declared.Element.the-variants.{Is, End, Not}
+use Rattle.torrent_contents.specs.declared.Element.the-variants.{Is, End, Refused}
 
 -- an element and the place of the next; or the end of the path, and the place past it
 pub data PathStep : Type 0 where
@@ -19,7 +19,7 @@ pub data PathStep : Type 0 where
 abbrev pub elementPaper : Element → Outcome PathStep
 elementPaper (Is x q) = taken (element x q)
 elementPaper (End q) = taken (done q)
-elementPaper (Not r) = refusal r
+elementPaper (Refused r) = refusal r
 
 -- a string that may be a name, else 13; or the end; another kind is 10
 abbrev pub elementIn : List ℕ → ℕ → Head → Outcome PathStep

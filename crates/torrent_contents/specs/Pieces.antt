@@ -15,7 +15,7 @@ use Rattle.hash_sha1.specs.Digest.{same}
 use Rattle.torrent_metainfo.specs.Reading.{readOf}
 use Rattle.torrent_metainfo.specs.declared.Torrent.{Torrent}
 use Rattle.torrent_contents.specs.declared.Hash.{Hash}
-use Rattle.torrent_contents.specs.declared.Hash.the-variants.{Stands, None}
+use Rattle.torrent_contents.specs.declared.Hash.the-variants.{Stands, Refused as None}
 use Rattle.torrent_contents.specs.declared.Checked.{Checked}
 use Rattle.torrent_contents.specs.declared.Checked.the-variants.{Yes, No, Refused}
 

@@ -49,7 +49,7 @@ fn nth(text: &[u8], first: usize, number: usize) -> Found
                 left -= 1;
                 passed = rules::with_file(passed, f.length);
             }
-            Filed::Not(r) => return Found::Not(r),
+            Filed::Refused(r) => return Found::Refused(r),
         }
     }
 }
@@ -80,10 +80,7 @@ fn only(t: Torrent) -> Found
 }
 
 fn no_file() -> Found
-    ensures { λ r. ⌜ r ≡ Found.Not (record { number = beyond; place = 0 }) ⌝ }
+    ensures { λ r. ⌜ r ≡ Found.Refused (record { number = beyond; place = 0 }) ⌝ }
 {
-    Found::Not(Refusal {
-        number: number::BEYOND,
-        place: 0,
-    })
+    Found::Refused(refusal::refuse(number::BEYOND, 0))
 }

@@ -27,20 +27,20 @@ pub struct Entry {
 // A file by its number, or the refusal.
 pub enum Found {
     Is(Entry),
-    Not(Refusal),
+    Refused(Refusal),
 }
 
 // An element of a path and the place of the next, or the place past the path.
 pub enum Element {
     Is(Part, usize),
     End(usize),
-    Not(Refusal),
+    Refused(Refusal),
 }
 
 // Where the 20 bytes of a piece's hash stand.
 pub enum Hash {
     Stands(Part),
-    None(Refusal),
+    Refused(Refusal),
 }
 
 // Whether a piece's digest is the torrent's, or why that is not known.
@@ -56,7 +56,7 @@ pub fn file(text: &[u8], number: usize) -> Found
 {
     match torrent_metainfo::read(text) {
         Reading::Read(t) => files::numbered(text, t, number),
-        Reading::Refused(r) => Found::Not(r),
+        Reading::Refused(r) => Found::Refused(r),
     }
 }
 
@@ -72,7 +72,7 @@ pub fn element_at(text: &[u8], at: usize) -> Element
             no_element(number::NAME, at)
         }
         Seen::End(past) => Element::End(past),
-        Seen::Refused(r) => Element::Not(r),
+        Seen::Refused(r) => Element::Refused(r),
         Seen::Integer(_, _) => no_element(number::KIND, at),
         Seen::Long(_, _) => no_element(number::KIND, at),
         Seen::List(_) => no_element(number::KIND, at),
@@ -86,7 +86,7 @@ pub fn piece_hash(text: &[u8], piece: PieceNumber) -> Hash
 {
     match torrent_metainfo::read(text) {
         Reading::Read(t) => pieces::hash(t, piece),
-        Reading::Refused(r) => Hash::None(r),
+        Reading::Refused(r) => Hash::Refused(r),
     }
 }
 
@@ -101,7 +101,7 @@ pub fn check_piece(text: &[u8], piece: PieceNumber, bytes: &[u8]) -> Checked
 }
 
 fn no_element(number: u8, place: usize) -> Element
-    ensures { λ r. ⌜ r ≡ Element.Not (record { number = number; place = place }) ⌝ }
+    ensures { λ r. ⌜ r ≡ Element.Refused (record { number = number; place = place }) ⌝ }
 {
-    Element::Not(Refusal { number, place })
+    Element::Refused(refusal::refuse(number, place))
 }

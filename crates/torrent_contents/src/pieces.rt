@@ -46,7 +46,7 @@ pub fn check(text: &[u8], t: Torrent, piece: PieceNumber, bytes: &[u8]) -> Check
             }
             refused(number::OUTSIDE)
         }
-        Hash::None(r) => Checked::Refused(r),
+        Hash::Refused(r) => Checked::Refused(r),
     }
 }
 
@@ -72,21 +72,18 @@ fn agrees(bytes: &[u8], hash: &[u8]) -> Checked
     match hash_sha1::agrees(bytes, hash) {
         Agreement::Same => Checked::Yes,
         Agreement::Other => Checked::No,
-        Agreement::Unhashed(r) => Checked::Refused(r),
+        Agreement::Refused(r) => Checked::Refused(r),
     }
 }
 
 fn no_hash() -> Hash
-    ensures { λ r. ⌜ r ≡ Hash.None (record { number = beyond; place = 0 }) ⌝ }
+    ensures { λ r. ⌜ r ≡ Hash.Refused (record { number = beyond; place = 0 }) ⌝ }
 {
-    Hash::None(Refusal {
-        number: number::BEYOND,
-        place: 0,
-    })
+    Hash::Refused(refusal::refuse(number::BEYOND, 0))
 }
 
 fn refused(number: u8) -> Checked
     ensures { λ r. ⌜ r ≡ Checked.Refused (record { number = number; place = 0 }) ⌝ }
 {
-    Checked::Refused(Refusal { number, place: 0 })
+    Checked::Refused(refusal::refuse(number, 0))
 }

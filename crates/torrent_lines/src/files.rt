@@ -27,7 +27,7 @@ pub fn many(text: &[u8], first: usize, out: &mut [u8], at: usize) -> usize
                 offset += f.length;
                 p = f.next;
             }
-            Filed::Not(_) => return to,
+            Filed::Refused(_) => return to,
         }
     }
 }
@@ -59,7 +59,7 @@ fn path(text: &[u8], first: usize, out: &mut [u8], at: usize) -> usize
                 mark = b'/';
                 p = past(part);
             }
-            Bytes::Unread(_) => return to,
+            Bytes::Refused(_) => return to,
         }
     }
 }

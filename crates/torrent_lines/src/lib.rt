@@ -112,8 +112,5 @@ fn only_file(name: &[u8], total: u64, out: &mut [u8], at: usize) -> usize
 fn no_room() -> Put
     ensures { λ r. ⌜ r ≡ Put.Refused (record { number = room; place = 0 }) ⌝ }
 {
-    Put::Refused(Refusal {
-        number: number::ROOM,
-        place: 0,
-    })
+    Put::Refused(refusal::refuse(number::ROOM, 0))
 }

@@ -13,7 +13,7 @@ use Rattle.bencode_walk.specs.Walk.{Hit, found, missing, seekPaper, key, close,
 use Rattle.bencode_walk.specs.Stands.{StandEntries}
 use Rattle.bencode_walk.specs.Lookup.{Under, nothing, under, lookup}
 use Rattle.bencode_walk.specs.declared.Sought.{Sought}
-use Rattle.bencode_walk.specs.declared.Sought.the-variants.{Found, Missing, Unread}
+use Rattle.bencode_walk.specs.declared.Sought.the-variants.{Found, Missing, Refused as Unread}
 use Rattle.bencode_walk.proofs.Standing.{entries-end, entries-next, skip-past}
 use Rattle.bencode_walk.proofs.Seeking.{key-further, skip-further}
 use Rattle.bencode_walk.proofs.Finding.{soughtOf, placeOf, seek-stands, entry-length, beyond}
@@ -27,7 +27,7 @@ use Rattle.torrent_metainfo.specs.Reading.{listedTo, listingPaper, files
 use Rattle.torrent_metainfo.specs.Noted.{Goes, Noted}
 use Rattle.torrent_metainfo.specs.declared.Content.{Content}
 use Rattle.torrent_metainfo.specs.declared.Listing.{Listing}
-use Rattle.torrent_metainfo.specs.declared.Listing.the-variants.{Are, None}
+use Rattle.torrent_metainfo.specs.declared.Listing.the-variants.{Are, Refused as None}
 use Rattle.torrent_metainfo.proofs.Naming.{no-way}
 use Rattle.torrent_metainfo.proofs.Telling.{Told, tell, tell-first, tell-second}
 

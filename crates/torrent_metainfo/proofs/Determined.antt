@@ -11,7 +11,7 @@ use Rattle.torrent_metainfo.specs.declared.File.{File}
 use Rattle.torrent_metainfo.specs.declared.Reading.{Reading}
 use Rattle.torrent_metainfo.specs.declared.Reading.the-variants.{Read, Refused}
 use Rattle.torrent_metainfo.specs.declared.Filed.{Filed}
-use Rattle.torrent_metainfo.specs.declared.Filed.the-variants.{Is, Not}
+use Rattle.torrent_metainfo.specs.declared.Filed.the-variants.{Is, Refused as Not}
 use Rattle.bencode_walk.proofs.Determined.{bytes-determined}
 use Rattle.torrent_metainfo.specs.Reading.{paper, readOf, filePaper, fileAt, announceIn, nameIn}
 

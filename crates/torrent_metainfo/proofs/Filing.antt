@@ -21,7 +21,7 @@ use Rattle.bencode_walk.specs.Walk.{seekPaper, skipOf, pastOf}
 use Rattle.bencode_walk.specs.Stands.{Stands, StandItems, StandEntries}
 use Rattle.bencode_walk.specs.Lookup.{Under, nothing, under, lookup}
 use Rattle.bencode_walk.specs.declared.Sought.{Sought}
-use Rattle.bencode_walk.specs.declared.Sought.the-variants.{Found, Missing, Unread}
+use Rattle.bencode_walk.specs.declared.Sought.the-variants.{Found, Missing, Refused}
 use Rattle.bencode_walk.proofs.Standing.{list-stands, dictionary-stands, items-next, room, keeps-more, closes-none, closes-item}
 use Rattle.bencode_walk.proofs.Finding.{beyond}
 use Rattle.bencode_fields.specs.Looks.{endingAt, numberOf, listOf, dictionaryOf, soughtFrom}
@@ -96,7 +96,7 @@ module _ (s : List ℕ) (d p : ℕ) (levels : d ≤ 32) where
         let n = entered v t in
         stop-file v n 10 p (tells-missing s (n .deep) p (naturalAt longestFile) (lookup (p + 1) (n .entries) lengthKey) w i (n .length) f)
 
-    pub file-unread : {B : Type 0} (v : Value) → Stands s d p v → {r : _} → w ≡ Unread r → B
+    pub file-unread : {B : Type 0} (v : Value) → Stands s d p v → {r : _} → w ≡ Refused r → B
     file-unread v t f = let n = entered v t in tells-read s (n .deep) (lookup (p + 1) (n .entries) lengthKey) w (n .length) f
 
     module _ (i q : ℕ) (f : w ≡ Found i q) where
@@ -142,7 +142,7 @@ module _ (s : List ℕ) (d from : ℕ) (before : Prev) (es : Entries) (levels : 
   pub rest-missing : (i : ℕ) → w ≡ Missing i → refused 10 at ≡ onPath (must at (lookup from es pathKey) pathAt)
   rest-missing i f = ap onPath (tells-missing s d at pathAt (lookup from es pathKey) w i path-told f)
 
-  pub rest-unread : {B : Type 0} {r : _} → w ≡ Unread r → B
+  pub rest-unread : {B : Type 0} {r : _} → w ≡ Refused r → B
   rest-unread f = tells-read s d (lookup from es pathKey) w path-told f
 
   module _ (i q : ℕ) (f : w ≡ Found i q) where

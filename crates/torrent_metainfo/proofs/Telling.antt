@@ -10,7 +10,7 @@ use Rattle.bencode_walk.specs.Walk.{Hit, found, missing, seekPaper}
 use Rattle.bencode_walk.specs.Stands.{Stands, StandEntries}
 use Rattle.bencode_walk.specs.Lookup.{Under, nothing, under, lookup}
 use Rattle.bencode_walk.specs.declared.Sought.{Sought}
-use Rattle.bencode_walk.specs.declared.Sought.the-variants.{Found, Missing, Unread}
+use Rattle.bencode_walk.specs.declared.Sought.the-variants.{Found, Missing, Refused}
 use Rattle.bencode_walk.proofs.Finding.{Says, it-is, it-is-not, found-stands, placeOf}
 use Rattle.bencode_fields.specs.Looks.{needed, soughtFrom}
 use Rattle.bencode_fields.specs.Values.{must}
@@ -28,56 +28,56 @@ module _ {A : Type 0} (s : List ℕ) (d D : ℕ) (f : ℕ → Value → Outcome 
       let b : Stands s d r v = (rw a at (t .1)) in
       h v b ∙ ap (λ (x : ℕ). f x v) (sym a)
   tells-found (under q v) (Missing i) p r t e o h = absurd t
-  tells-found (under q v) (Unread i) p r t e o h = absurd t
+  tells-found (under q v) (Refused i) p r t e o h = absurd t
   tells-found nothing (Found i j) p r t e o h = absurd t
   tells-found nothing (Missing i) p r t e o h = no-way (cc)
-  tells-found nothing (Unread i) p r t e o h = absurd t
+  tells-found nothing (Refused i) p r t e o h = absurd t
 
   pub tells-missing : (u : Under) (w : Sought) (p : ℕ) → Tells s d u w → w ≡ Missing p → refused 10 D ≡ must D u f
   tells-missing (under q v) (Found i j) p t e = no-way (cc)
   tells-missing (under q v) (Missing i) p t e = absurd t
-  tells-missing (under q v) (Unread i) p t e = absurd t
+  tells-missing (under q v) (Refused i) p t e = absurd t
   tells-missing nothing (Found i j) p t e = absurd t
   tells-missing nothing (Missing i) p t e = refl
-  tells-missing nothing (Unread i) p t e = absurd t
+  tells-missing nothing (Refused i) p t e = absurd t
 
   pub tells-needed : (u : Under) (w : Sought) → Tells s d u w → (g : ℕ → Outcome A) → ((q : ℕ) (v : Value) → Stands s d q v → g q ≡ f q v) → needed D (seekPaper w) g ≡ must D u f
   tells-needed (under q v) (Found i j) t g h = ap g (t .0) ∙ h q v (t .1)
   tells-needed (under q v) (Missing i) t g h = absurd t
-  tells-needed (under q v) (Unread i) t g h = absurd t
+  tells-needed (under q v) (Refused i) t g h = absurd t
   tells-needed nothing (Found i j) t g h = absurd t
   tells-needed nothing (Missing i) t g h = refl
-  tells-needed nothing (Unread i) t g h = absurd t
+  tells-needed nothing (Refused i) t g h = absurd t
 
 module _ (s : List ℕ) (d : ℕ) where
-  pub tells-read : {B : Type 0} (u : Under) (w : Sought) → Tells s d u w → {r : _} → w ≡ Unread r → B
+  pub tells-read : {B : Type 0} (u : Under) (w : Sought) → Tells s d u w → {r : _} → w ≡ Refused r → B
   tells-read (under q v) (Found i j) t e = no-way (cc)
   tells-read (under q v) (Missing i) t e = absurd t
-  tells-read (under q v) (Unread i) t e = absurd t
+  tells-read (under q v) (Refused i) t e = absurd t
   tells-read nothing (Found i j) t e = absurd t
   tells-read nothing (Missing i) t e = no-way (cc)
-  tells-read nothing (Unread i) t e = absurd t
+  tells-read nothing (Refused i) t e = absurd t
 
   pub tells-place : (u : Under) (w : Sought) → Tells s d u w → placeFound w ≡ placeUnder u
   tells-place (under q v) (Found i j) t = t .0
   tells-place (under q v) (Missing i) t = absurd t
-  tells-place (under q v) (Unread i) t = absurd t
+  tells-place (under q v) (Refused i) t = absurd t
   tells-place nothing (Found i j) t = absurd t
   tells-place nothing (Missing i) t = refl
-  tells-place nothing (Unread i) t = absurd t
+  tells-place nothing (Refused i) t = absurd t
 
   pub tells-stands : (q : ℕ) (v : Value) (w : Sought) → Tells s d (under q v) w → Stands s d q v
   tells-stands q v (Found i j) t = t .1
   tells-stands q v (Missing i) t = absurd t
-  tells-stands q v (Unread i) t = absurd t
+  tells-stands q v (Refused i) t = absurd t
 
   by-hit : (u : Under) (h : Hit) → Says u h → ((q : ℕ) (v : Value) → u ≡ under q v → Stands s d q v) → (w : Sought) → seekPaper w ≡ taken h → Tells s d u w × (placeOf h ≡ stopOf w)
   by-hit u h (it-is p q v) t (Found i j) e = ((cc, t q v refl), cc)
   by-hit u h (it-is p q v) t (Missing i) e = no-way (cc)
-  by-hit u h (it-is p q v) t (Unread i) e = no-way (cc)
+  by-hit u h (it-is p q v) t (Refused i) e = no-way (cc)
   by-hit u h (it-is-not p) t (Found i j) e = no-way (cc)
   by-hit u h (it-is-not p) t (Missing i) e = (tt, cc)
-  by-hit u h (it-is-not p) t (Unread i) e = no-way (cc)
+  by-hit u h (it-is-not p) t (Refused i) e = no-way (cc)
 
   module _ (levels : d ≤ 32) (p : ℕ) (before : Prev) (es : Entries) (t : StandEntries s d p before es) where
     -- one search in a row of them

@@ -6,9 +6,9 @@ use Prim.Native.Nat.{ℕ}
 use Rattle.bencode_walk.specs.Stands.{Stands}
 use Rattle.bencode_walk.specs.Lookup.{Under, nothing, under}
 use Rattle.bencode_walk.specs.declared.Sought.{Sought}
-use Rattle.bencode_walk.specs.declared.Sought.the-variants.{Found, Missing, Unread}
+use Rattle.bencode_walk.specs.declared.Sought.the-variants.{Found, Missing, Refused as Unread}
 use Rattle.torrent_metainfo.specs.declared.Listing.{Listing}
-use Rattle.torrent_metainfo.specs.declared.Listing.the-variants.{Are, None}
+use Rattle.torrent_metainfo.specs.declared.Listing.the-variants.{Are, Refused as None}
 
 -- announce
 abbrev pub announceKey : List ℕ

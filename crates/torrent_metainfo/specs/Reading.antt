@@ -15,14 +15,14 @@ use Rattle.bencode_fields.specs.Values.{listAt}
 use Rattle.torrent_metainfo.specs.Rules.{fileOf, lengthsOf, torrentOf}
 use Rattle.torrent_metainfo.specs.declared.File.{File}
 use Rattle.torrent_metainfo.specs.declared.Filed.{Filed}
-use Rattle.torrent_metainfo.specs.declared.Filed.the-variants.{Is, Not}
+use Rattle.torrent_metainfo.specs.declared.Filed.the-variants.{Is, Refused as Not}
 use Rattle.torrent_metainfo.specs.declared.Content.{Content}
 use Rattle.torrent_metainfo.specs.declared.Contents.{Contents}
-use Rattle.torrent_metainfo.specs.declared.Contents.the-variants.{Are, None}
+use Rattle.torrent_metainfo.specs.declared.Contents.the-variants.{Are, Refused as None}
 use Rattle.torrent_metainfo.specs.declared.Listing.{Listing}
-use Rattle.torrent_metainfo.specs.declared.Listing.the-variants.{Are as AreTo, None as NoList}
+use Rattle.torrent_metainfo.specs.declared.Listing.the-variants.{Are as AreTo, Refused as NoList}
 use Rattle.torrent_metainfo.specs.declared.Path.{Path}
-use Rattle.torrent_metainfo.specs.declared.Path.the-variants.{Is as IsTo, Not as NoPath}
+use Rattle.torrent_metainfo.specs.declared.Path.the-variants.{Is as IsTo, Refused as NoPath}
 use Rattle.torrent_metainfo.specs.declared.Torrent.{Torrent}
 use Rattle.torrent_metainfo.specs.declared.Reading.{Reading}
 use Rattle.torrent_metainfo.specs.declared.Reading.the-variants.{Read, Refused}

@@ -45,12 +45,12 @@ pub fn file(text: &[u8], at: usize) -> Filed
                 limit::FILE as u64,
             ) {
                 Number::Is(length, past) => with_path(text, at, length, past),
-                Number::Not(r) => Filed::Not(r),
+                Number::Refused(r) => Filed::Refused(r),
             },
             Sought::Missing(_) => no_file(at),
-            Sought::Unread(r) => Filed::Not(r),
+            Sought::Refused(r) => Filed::Refused(r),
         },
-        Inside::None(r) => Filed::Not(r),
+        Inside::Refused(r) => Filed::Refused(r),
     }
 }
 
@@ -61,10 +61,10 @@ fn with_path(text: &[u8], at: usize, size: u64, from: usize) -> Filed
     match bencode_walk::seek(text, from, b"path") {
         Sought::Found(_, value) => match names::path_at(text, value) {
             Path::Is(first, past) => closed(size, first, keys::close(text, past)),
-            Path::Not(r) => Filed::Not(r),
+            Path::Refused(r) => Filed::Refused(r),
         },
         Sought::Missing(_) => no_file(at),
-        Sought::Unread(r) => Filed::Not(r),
+        Sought::Refused(r) => Filed::Refused(r),
     }
 }
 
@@ -77,7 +77,7 @@ fn closed(size: u64, path: usize, past: Past) -> Filed
             path,
             next,
         }),
-        Past::Bad(r) => Filed::Not(r),
+        Past::Refused(r) => Filed::Refused(r),
     }
 }
 
@@ -89,13 +89,13 @@ pub fn content(text: &[u8], info: usize, length: Sought, files: Sought, listed: 
         Sought::Found(_, at) => match files {
             Sought::Found(_, _) => no_content(info),
             Sought::Missing(_) => one(text, at),
-            Sought::Unread(r) => Contents::None(r),
+            Sought::Refused(r) => Contents::Refused(r),
         },
         Sought::Missing(_) => match listed {
             Listing::Are(c, _) => Contents::Are(c),
-            Listing::None(r) => Contents::None(r),
+            Listing::Refused(r) => Contents::Refused(r),
         },
-        Sought::Unread(r) => Contents::None(r),
+        Sought::Refused(r) => Contents::Refused(r),
     }
 }
 
@@ -106,7 +106,7 @@ pub fn under(text: &[u8], info: usize, files: Sought) -> Listing
     match files {
         Sought::Found(_, at) => many(text, at),
         Sought::Missing(_) => no_list(number::KIND, info),
-        Sought::Unread(r) => Listing::None(r),
+        Sought::Refused(r) => Listing::Refused(r),
     }
 }
 
@@ -120,7 +120,7 @@ fn one(text: &[u8], at: usize) -> Contents
             files: 1,
             total: n,
         }),
-        Natural::Not(r) => Contents::None(r),
+        Natural::Refused(r) => Contents::Refused(r),
     }
 }
 
@@ -129,7 +129,7 @@ fn many(text: &[u8], at: usize) -> Listing
 {
     match bencode_fields::list_at(text, at) {
         Inside::At(first) => listed(text, at, first),
-        Inside::None(r) => Listing::None(r),
+        Inside::Refused(r) => Listing::Refused(r),
     }
 }
 
@@ -151,7 +151,7 @@ fn listed(text: &[u8], place: usize, first: usize) -> Listing
                 files += 1;
                 total = rules::with_file(total, f.length);
             }
-            Filed::Not(r) => return Listing::None(r),
+            Filed::Refused(r) => return Listing::Refused(r),
         }
     }
     no_list(number::CUT, text.len())
@@ -172,25 +172,19 @@ fn many_files(place: usize, files: usize, total: Total, past: usize) -> Listing
 }
 
 fn no_list(number: u8, at: usize) -> Listing
-    ensures { λ r. ⌜ r ≡ Listing.None (record { number = number; place = at }) ⌝ }
+    ensures { λ r. ⌜ r ≡ Listing.Refused (record { number = number; place = at }) ⌝ }
 {
-    Listing::None(Refusal { number, place: at })
+    Listing::Refused(refusal::refuse(number, at))
 }
 
 fn no_content(info: usize) -> Contents
-    ensures { λ r. ⌜ r ≡ Contents.None (record { number = kind; place = info }) ⌝ }
+    ensures { λ r. ⌜ r ≡ Contents.Refused (record { number = kind; place = info }) ⌝ }
 {
-    Contents::None(Refusal {
-        number: number::KIND,
-        place: info,
-    })
+    Contents::Refused(refusal::refuse(number::KIND, info))
 }
 
 fn no_file(at: usize) -> Filed
-    ensures { λ r. ⌜ r ≡ Filed.Not (record { number = kind; place = at }) ⌝ }
+    ensures { λ r. ⌜ r ≡ Filed.Refused (record { number = kind; place = at }) ⌝ }
 {
-    Filed::Not(Refusal {
-        number: number::KIND,
-        place: at,
-    })
+    Filed::Refused(refusal::refuse(number::KIND, at))
 }

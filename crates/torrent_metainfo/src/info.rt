@@ -53,15 +53,15 @@ pub fn read(text: &[u8], announce: Part, at: usize, first: usize) -> Reading
                             n,
                             c,
                         ),
-                        Past::Bad(r) => Reading::Refused(r),
+                        Past::Refused(r) => Reading::Refused(r),
                     },
-                    Contents::None(r) => Reading::Refused(r),
+                    Contents::Refused(r) => Reading::Refused(r),
                 },
-                Bytes::Unread(r) => Reading::Refused(r),
+                Bytes::Refused(r) => Reading::Refused(r),
             },
-            Natural::Not(r) => Reading::Refused(r),
+            Natural::Refused(r) => Reading::Refused(r),
         },
-        Bytes::Unread(r) => Reading::Refused(r),
+        Bytes::Refused(r) => Reading::Refused(r),
     }
 }
 
@@ -83,7 +83,7 @@ fn name_under(text: &[u8], dictionary: usize, sought: Sought) -> Bytes
     match sought {
         Sought::Found(_, at) => names::name_at(text, at),
         Sought::Missing(_) => no_name(dictionary),
-        Sought::Unread(r) => Bytes::Unread(r),
+        Sought::Refused(r) => Bytes::Refused(r),
     }
 }
 
@@ -97,7 +97,7 @@ fn piece_length_under(text: &[u8], dictionary: usize, sought: Sought) -> Natural
             }
             no_length(keys::value(sought))
         }
-        Natural::Not(r) => Natural::Not(r),
+        Natural::Refused(r) => Natural::Refused(r),
     }
 }
 
@@ -135,25 +135,19 @@ fn sized(
 }
 
 fn no_name(at: usize) -> Bytes
-    ensures { λ r. ⌜ r ≡ Bytes.Unread (record { number = kind; place = at }) ⌝ }
+    ensures { λ r. ⌜ r ≡ Bytes.Refused (record { number = kind; place = at }) ⌝ }
 {
-    Bytes::Unread(Refusal {
-        number: number::KIND,
-        place: at,
-    })
+    Bytes::Refused(refusal::refuse(number::KIND, at))
 }
 
 fn no_length(at: usize) -> Natural
-    ensures { λ r. ⌜ r ≡ Natural.Not (record { number = range; place = at }) ⌝ }
+    ensures { λ r. ⌜ r ≡ Natural.Refused (record { number = range; place = at }) ⌝ }
 {
-    Natural::Not(Refusal {
-        number: number::RANGE,
-        place: at,
-    })
+    Natural::Refused(refusal::refuse(number::RANGE, at))
 }
 
 fn refused(number: u8, place: usize) -> Reading
     ensures { λ r. ⌜ r ≡ Reading.Refused (record { number = number; place = place }) ⌝ }
 {
-    Reading::Refused(Refusal { number, place })
+    Reading::Refused(refusal::refuse(number, place))
 }

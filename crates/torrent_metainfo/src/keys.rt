@@ -22,7 +22,7 @@ pub fn stop(sought: Sought) -> usize
     match sought {
         Sought::Found(at, _) => at,
         Sought::Missing(at) => at,
-        Sought::Unread(r) => r.place,
+        Sought::Refused(r) => r.place,
     }
 }
 
@@ -33,7 +33,7 @@ pub fn value(sought: Sought) -> usize
     match sought {
         Sought::Found(_, at) => at,
         Sought::Missing(_) => 0,
-        Sought::Unread(_) => 0,
+        Sought::Refused(_) => 0,
     }
 }
 
@@ -66,10 +66,10 @@ pub fn close(text: &[u8], from: usize) -> Past
         match bencode_walk::entry(text, p) {
             Next::Key(_, value) => match bencode_walk::skip(text, value) {
                 Past::To(next) => p = next,
-                Past::Bad(r) => return Past::Bad(r),
+                Past::Refused(r) => return Past::Refused(r),
             },
             Next::Close(past) => return Past::To(past),
-            Next::Not(r) => return Past::Bad(r),
+            Next::Refused(r) => return Past::Refused(r),
         }
     }
 }
@@ -80,6 +80,6 @@ fn past(files: Sought, listed: Listing) -> usize
 {
     match listed {
         Listing::Are(_, past) => past,
-        Listing::None(_) => stop(files),
+        Listing::Refused(_) => stop(files),
     }
 }

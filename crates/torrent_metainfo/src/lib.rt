@@ -60,24 +60,24 @@ pub enum Reading {
 // A file that was read, or the refusal.
 pub enum Filed {
     Is(File),
-    Not(Refusal),
+    Refused(Refusal),
 }
 
 enum Contents {
     Are(Content),
-    None(Refusal),
+    Refused(Refusal),
 }
 
 // The content by its files, and the place past their list.
 enum Listing {
     Are(Content, usize),
-    None(Refusal),
+    Refused(Refusal),
 }
 
 // The place of a path's first element, and the place past the path.
 enum Path {
     Is(usize, usize),
-    Not(Refusal),
+    Refused(Refusal),
 }
 
 // What was found of info's keys; `listed` is what the files are.
@@ -140,7 +140,7 @@ pub fn file_at(text: &[u8], at: usize) -> Filed
 {
     match bencode_walk::skip(text, at) {
         Past::To(_) => files::file(text, at),
-        Past::Bad(r) => Filed::Not(r),
+        Past::Refused(r) => Filed::Refused(r),
     }
 }
 
@@ -174,7 +174,7 @@ fn top(text: &[u8]) -> Reading
 {
     match bencode_fields::dictionary_at(text, 0) {
         Inside::At(first) => announced(text, first),
-        Inside::None(r) => Reading::Refused(r),
+        Inside::Refused(r) => Reading::Refused(r),
     }
 }
 
@@ -187,8 +187,8 @@ fn announced(text: &[u8], first: usize) -> Reading
     match bencode_fields::string_under(text, 0, announce) {
         Bytes::Are(a) => match bencode_fields::dictionary_under(text, 0, info) {
             Inside::At(inside) => info::read(text, a, keys::value(info), inside),
-            Inside::None(r) => Reading::Refused(r),
+            Inside::Refused(r) => Reading::Refused(r),
         },
-        Bytes::Unread(r) => Reading::Refused(r),
+        Bytes::Refused(r) => Reading::Refused(r),
     }
 }

@@ -27,7 +27,7 @@ pub fn name_at(text: &[u8], at: usize) -> Bytes
             }
             bad_name(at)
         }
-        Bytes::Unread(r) => Bytes::Unread(r),
+        Bytes::Refused(r) => Bytes::Refused(r),
     }
 }
 
@@ -42,10 +42,10 @@ pub fn path_at(text: &[u8], at: usize) -> Path
             }
             match elements(text, first) {
                 Inside::At(past) => Path::Is(first, past),
-                Inside::None(r) => Path::Not(r),
+                Inside::Refused(r) => Path::Refused(r),
             }
         }
-        Inside::None(r) => Path::Not(r),
+        Inside::Refused(r) => Path::Refused(r),
     }
 }
 
@@ -74,7 +74,7 @@ fn elements(text: &[u8], first: usize) -> Inside
                 }
             }
             Seen::End(past) => return Inside::At(past),
-            Seen::Refused(r) => return Inside::None(r),
+            Seen::Refused(r) => return Inside::Refused(r),
             Seen::Integer(_, _) => return bad_element(number::KIND, p),
             Seen::Long(_, _) => return bad_element(number::KIND, p),
             Seen::List(_) => return bad_element(number::KIND, p),
@@ -127,25 +127,19 @@ fn is_clean(name: &[u8]) -> bool
 }
 
 fn bad_name(at: usize) -> Bytes
-    ensures { λ r. ⌜ r ≡ Bytes.Unread (record { number = 13; place = at }) ⌝ }
+    ensures { λ r. ⌜ r ≡ Bytes.Refused (record { number = 13; place = at }) ⌝ }
 {
-    Bytes::Unread(Refusal {
-        number: number::NAME,
-        place: at,
-    })
+    Bytes::Refused(refusal::refuse(number::NAME, at))
 }
 
 fn no_path(at: usize) -> Path
-    ensures { λ r. ⌜ r ≡ Path.Not (record { number = 13; place = at }) ⌝ }
+    ensures { λ r. ⌜ r ≡ Path.Refused (record { number = 13; place = at }) ⌝ }
 {
-    Path::Not(Refusal {
-        number: number::NAME,
-        place: at,
-    })
+    Path::Refused(refusal::refuse(number::NAME, at))
 }
 
 fn bad_element(number: u8, at: usize) -> Inside
-    ensures { λ r. ⌜ r ≡ Inside.None (record { number = number; place = at }) ⌝ }
+    ensures { λ r. ⌜ r ≡ Inside.Refused (record { number = number; place = at }) ⌝ }
 {
-    Inside::None(Refusal { number, place: at })
+    Inside::Refused(refusal::refuse(number, at))
 }

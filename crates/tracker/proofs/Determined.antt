@@ -11,11 +11,11 @@ use Rattle.tracker.specs.declared.Reply.the-variants.{Failure, Compact, 
 use Rattle.tracker.specs.declared.Found.{Found}
 use Rattle.tracker.specs.declared.Found.the-variants.{Packed, Listed, Refused as NoPeer}
 use Rattle.tracker.specs.declared.compact.Packing.{Packing}
-use Rattle.tracker.specs.declared.compact.Packing.the-variants.{Is as PackedIs, Not as PackedNot}
+use Rattle.tracker.specs.declared.compact.Packing.the-variants.{Is as PackedIs, Refused as PackedNot}
 use Rattle.tracker.specs.declared.listed.Listing.{Listing as Listings}
-use Rattle.tracker.specs.declared.listed.Listing.the-variants.{Is, Not}
+use Rattle.tracker.specs.declared.listed.Listing.the-variants.{Is, Refused as Not}
 use Rattle.tracker.specs.declared.listed.Counted.{Counted}
-use Rattle.tracker.specs.declared.listed.Counted.the-variants.{Of, Bad}
+use Rattle.tracker.specs.declared.listed.Counted.the-variants.{Of, Refused as Bad}
 
 abbrev refusalAs : ℕ → ℕ → Refusal
 refusalAs n p = record { number = n; place = p }

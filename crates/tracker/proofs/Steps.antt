@@ -16,17 +16,17 @@ use Rattle.bencode.specs.Decode.{closes}
 use Rattle.bencode_walk.specs.Walk.{Hit, seekPaper, skipOf, pastPaper, lookOf, lookAt}
 use Rattle.bencode_scalar.specs.Reading.{onHead}
 use Rattle.bencode_walk.specs.declared.Sought.{Sought}
-use Rattle.bencode_walk.specs.declared.Past.the-variants.{To, Bad}
+use Rattle.bencode_walk.specs.declared.Past.the-variants.{To, Refused as Bad}
 use Rattle.bencode_fields.specs.Looks.{stringPaper, naturalPaper, stringOf, naturalOf, dictionaryOf, dictionaryIn, needed, soughtFrom, soughtAfter}
 use Rattle.bencode_fields.specs.declared.Bytes.{Bytes}
-use Rattle.bencode_fields.specs.declared.Bytes.the-variants.{Are, Unread}
+use Rattle.bencode_fields.specs.declared.Bytes.the-variants.{Are, Refused as Unread}
 use Rattle.bencode_fields.specs.declared.Natural.{Natural}
-use Rattle.bencode_fields.specs.declared.Natural.the-variants.{Is as Number, Not as NoNumber}
+use Rattle.bencode_fields.specs.declared.Natural.the-variants.{Is as Number, Refused as NoNumber}
 use Rattle.tracker.specs.Keys.{interval, peers, ip, peerId, port}
 use Rattle.tracker.specs.Entries.{PeerEntry, packed, listed, PeerStep, idLength, idOf, sixAt, packedAt, pastPeer, peerFrom, peerBy, listedPaper, listedAt, countFrom, nthAt}
 use Rattle.tracker.specs.Reply.{compact}
 use Rattle.tracker.specs.Reading.{compactOf, peersOf, answeredOf}
-use Rattle.tracker.specs.declared.listed.Listing.the-variants.{Is, Not}
+use Rattle.tracker.specs.declared.listed.Listing.the-variants.{Is, Refused as Not}
 use Rattle.tracker.specs.declared.listed.Listed.{Listed}
 
 -- a call's answer r, known to be w, goes on as its outcome does

@@ -15,12 +15,12 @@ use Rattle.bencode_fields.specs.Looks.{stringOf, naturalOf, dictionaryOf, neede
 use Rattle.tracker.specs.Keys.{ip, peerId, port}
 use Rattle.tracker.specs.declared.compact.Packed.{Packed}
 use Rattle.tracker.specs.declared.compact.Packing.{Packing}
-use Rattle.tracker.specs.declared.compact.Packing.the-variants.{Is as PackedIs, Not as PackedNot}
+use Rattle.tracker.specs.declared.compact.Packing.the-variants.{Is as PackedIs, Refused as PackedNot}
 use Rattle.tracker.specs.declared.listed.Listed.{Listed}
 use Rattle.tracker.specs.declared.listed.Listing.{Listing}
-use Rattle.tracker.specs.declared.listed.Listing.the-variants.{Is, Not}
+use Rattle.tracker.specs.declared.listed.Listing.the-variants.{Is, Refused as Not}
 use Rattle.tracker.specs.declared.listed.Counted.{Counted}
-use Rattle.tracker.specs.declared.listed.Counted.the-variants.{Of, Bad}
+use Rattle.tracker.specs.declared.listed.Counted.the-variants.{Of, Refused as Bad}
 
 -- an entry of six bytes, or a dictionary's peer id, ip and port
 pub data PeerEntry : Type 0 where

@@ -18,7 +18,7 @@ pub struct Packed {
 // An entry and the place past it.
 pub enum Packing {
     Is(Packed, usize),
-    Not(Refusal),
+    Refused(Refusal),
 }
 
 // The entry that begins at a place.
@@ -65,10 +65,7 @@ fn port(high: u8, low: u8) -> u64
 }
 
 fn cut(place: usize) -> Packing
-    ensures { λ r. ⌜ r ≡ Packing.Not (record { number = 1; place = place }) ⌝ }
+    ensures { λ r. ⌜ r ≡ Packing.Refused (record { number = 1; place = place }) ⌝ }
 {
-    Packing::Not(Refusal {
-        number: number::CUT,
-        place,
-    })
+    Packing::Refused(refusal::refuse(number::CUT, place))
 }

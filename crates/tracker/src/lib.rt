@@ -88,7 +88,7 @@ fn whole(text: &[u8]) -> Reply
 {
     match bencode_fields::dictionary_at(text, 0) {
         Inside::At(first) => top(text, first),
-        Inside::None(r) => Reply::Refused(r),
+        Inside::Refused(r) => Reply::Refused(r),
     }
 }
 
@@ -99,7 +99,7 @@ fn top(text: &[u8], first: usize) -> Reply
     match bencode_walk::seek(text, first, b"failure reason") {
         Sought::Found(_, value) => failure(text, value),
         Sought::Missing(at) => answered(text, at),
-        Sought::Unread(r) => Reply::Refused(r),
+        Sought::Refused(r) => Reply::Refused(r),
     }
 }
 
@@ -108,7 +108,7 @@ fn failure(text: &[u8], at: usize) -> Reply
 {
     match bencode_fields::string_at(text, at) {
         Bytes::Are(reason) => Reply::Failure(reason),
-        Bytes::Unread(r) => Reply::Refused(r),
+        Bytes::Refused(r) => Reply::Refused(r),
     }
 }
 
@@ -121,9 +121,9 @@ fn answered(text: &[u8], at: usize) -> Reply
         Natural::Is(interval) => match peers {
             Sought::Found(_, value) => peers_at(text, value, interval),
             Sought::Missing(_) => refused(number::KIND, 0),
-            Sought::Unread(r) => Reply::Refused(r),
+            Sought::Refused(r) => Reply::Refused(r),
         },
-        Natural::Not(r) => Reply::Refused(r),
+        Natural::Refused(r) => Reply::Refused(r),
     }
 }
 
@@ -164,7 +164,7 @@ fn listed_peers(text: &[u8], first: usize, interval: u64) -> Reply
             count,
             first,
         }),
-        Counted::Bad(r) => Reply::Refused(r),
+        Counted::Refused(r) => Reply::Refused(r),
     }
 }
 
@@ -176,7 +176,7 @@ fn packed_peer(text: &[u8], p: Peers, n: usize) -> Found
     }
     match compact::nth(text, p.first, n) {
         Packing::Is(x, _) => Found::Packed(x),
-        Packing::Not(r) => Found::Refused(r),
+        Packing::Refused(r) => Found::Refused(r),
     }
 }
 
@@ -188,21 +188,18 @@ fn listed_peer(text: &[u8], p: Peers, n: usize) -> Found
     }
     match listed::nth(text, p.first, n) {
         Listing::Is(x, _) => Found::Listed(x),
-        Listing::Not(r) => Found::Refused(r),
+        Listing::Refused(r) => Found::Refused(r),
     }
 }
 
 fn refused(number: u8, place: usize) -> Reply
     ensures { λ r. ⌜ r ≡ Reply.Refused (record { number = number; place = place }) ⌝ }
 {
-    Reply::Refused(Refusal { number, place })
+    Reply::Refused(refusal::refuse(number, place))
 }
 
 fn no_peer() -> Found
     ensures { λ r. ⌜ r ≡ Found.Refused (record { number = beyond; place = 0 }) ⌝ }
 {
-    Found::Refused(Refusal {
-        number: number::BEYOND,
-        place: 0,
-    })
+    Found::Refused(refusal::refuse(number::BEYOND, 0))
 }

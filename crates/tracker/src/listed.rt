@@ -26,13 +26,13 @@ pub struct Listed {
 // An entry and the place past it.
 pub enum Listing {
     Is(Listed, usize),
-    Not(Refusal),
+    Refused(Refusal),
 }
 
 // How many entries a list has.
 pub enum Counted {
     Of(usize),
-    Bad(Refusal),
+    Refused(Refusal),
 }
 
 // The entry whose dictionary stands at a place.
@@ -41,7 +41,7 @@ pub fn listed_at(text: &[u8], at: usize) -> Listing
 {
     match bencode_fields::dictionary_at(text, at) {
         Inside::At(first) => peer_in(text, at, first),
-        Inside::None(r) => Listing::Not(r),
+        Inside::Refused(r) => Listing::Refused(r),
     }
 }
 
@@ -60,7 +60,7 @@ pub fn count(text: &[u8], first: usize) -> Counted
                 at = next;
                 n += 1;
             }
-            Listing::Not(r) => return Counted::Bad(r),
+            Listing::Refused(r) => return Counted::Refused(r),
         }
     }
     uncounted(text.len())
@@ -78,7 +78,7 @@ pub fn nth(text: &[u8], first: usize, n: usize) -> Listing
                 at = next;
                 left -= 1;
             }
-            Past::Bad(r) => return Listing::Not(r),
+            Past::Refused(r) => return Listing::Refused(r),
         }
     }
     listed_at(text, at)
@@ -100,11 +100,11 @@ fn peer_in(text: &[u8], at: usize, first: usize) -> Listing
                 limit::PORT as u64,
             ) {
                 Natural::Is(port) => past(text, at, Listed { id, ip, port }),
-                Natural::Not(r) => Listing::Not(r),
+                Natural::Refused(r) => Listing::Refused(r),
             },
-            Bytes::Unread(r) => Listing::Not(r),
+            Bytes::Refused(r) => Listing::Refused(r),
         },
-        Bytes::Unread(r) => Listing::Not(r),
+        Bytes::Refused(r) => Listing::Refused(r),
     }
 }
 
@@ -113,7 +113,7 @@ fn past(text: &[u8], at: usize, peer: Listed) -> Listing
 {
     match bencode_walk::skip(text, at) {
         Past::To(next) => Listing::Is(peer, next),
-        Past::Bad(r) => Listing::Not(r),
+        Past::Refused(r) => Listing::Refused(r),
     }
 }
 
@@ -123,7 +123,7 @@ fn id_under(text: &[u8], dictionary: usize, sought: Sought) -> Bytes
     match sought {
         Sought::Found(_, value) => id_at(text, value),
         Sought::Missing(_) => unread(number::KIND, dictionary),
-        Sought::Unread(r) => Bytes::Unread(r),
+        Sought::Refused(r) => Bytes::Refused(r),
     }
 }
 
@@ -137,21 +137,18 @@ fn id_at(text: &[u8], at: usize) -> Bytes
             }
             unread(number::PEER, at)
         }
-        Bytes::Unread(r) => Bytes::Unread(r),
+        Bytes::Refused(r) => Bytes::Refused(r),
     }
 }
 
 fn unread(number: u8, place: usize) -> Bytes
-    ensures { λ r. ⌜ r ≡ Bytes.Unread (record { number = number; place = place }) ⌝ }
+    ensures { λ r. ⌜ r ≡ Bytes.Refused (record { number = number; place = place }) ⌝ }
 {
-    Bytes::Unread(Refusal { number, place })
+    Bytes::Refused(refusal::refuse(number, place))
 }
 
 fn uncounted(place: usize) -> Counted
-    ensures { λ r. ⌜ r ≡ Counted.Bad (record { number = 1; place = place }) ⌝ }
+    ensures { λ r. ⌜ r ≡ Counted.Refused (record { number = 1; place = place }) ⌝ }
 {
-    Counted::Bad(Refusal {
-        number: number::CUT,
-        place,
-    })
+    Counted::Refused(refusal::refuse(number::CUT, place))
 }

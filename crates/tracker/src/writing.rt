@@ -51,5 +51,5 @@ fn put_all(out: &mut [u8], interval: u64, peers: &[u8]) -> usize
 fn refused(number: u8) -> Put
     ensures { λ r. ⌜ r ≡ Put.Refused (record { number = number; place = 0 }) ⌝ }
 {
-    Put::Refused(Refusal { number, place: 0 })
+    Put::Refused(refusal::refuse(number, 0))
 }

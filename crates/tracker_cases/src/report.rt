@@ -63,7 +63,7 @@ fn walk_packed(text: &[u8], first: usize, count: usize) {
                 at = next;
                 n += 1;
             }
-            Packing::Not(r) => return refused(r.number, r.place),
+            Packing::Refused(r) => return refused(r.number, r.place),
         }
     }
     walked(first, at);
@@ -78,7 +78,7 @@ fn walk_listed(text: &[u8], first: usize, count: usize) {
                 at = next;
                 n += 1;
             }
-            Listing::Not(r) => return refused(r.number, r.place),
+            Listing::Refused(r) => return refused(r.number, r.place),
         }
     }
     walked(first, at);

@@ -25,7 +25,7 @@ pub fn file_number(f: Found) -> u64
 {
     match f {
         Found::Is(_) => 0,
-        Found::Not(r) => r.number as u64,
+        Found::Refused(r) => r.number as u64,
     }
 }
 
@@ -35,7 +35,7 @@ pub fn file_detail(f: Found) -> [u64; 4]
 {
     match f {
         Found::Is(e) => entry_words(e),
-        Found::Not(r) => four(r.place as u64, 0, 0, 0),
+        Found::Refused(r) => four(r.place as u64, 0, 0, 0),
     }
 }
 
@@ -51,7 +51,7 @@ pub fn filed_number(f: Filed) -> u64
 {
     match f {
         Filed::Is(_) => 0,
-        Filed::Not(r) => r.number as u64,
+        Filed::Refused(r) => r.number as u64,
     }
 }
 
@@ -61,7 +61,7 @@ pub fn filed_detail(f: Filed) -> [u64; 3]
 {
     match f {
         Filed::Is(x) => three(x.length, x.path as u64, x.next as u64),
-        Filed::Not(r) => three(r.place as u64, 0, 0),
+        Filed::Refused(r) => three(r.place as u64, 0, 0),
     }
 }
 
@@ -72,7 +72,7 @@ pub fn element_number(e: Element) -> u64
     match e {
         Element::Is(_, _) => 0,
         Element::End(_) => 0,
-        Element::Not(r) => r.number as u64,
+        Element::Refused(r) => r.number as u64,
     }
 }
 
@@ -83,7 +83,7 @@ pub fn element_detail(e: Element) -> [u64; 4]
     match e {
         Element::Is(x, next) => four(1, x.from as u64, x.len as u64, next as u64),
         Element::End(past) => four(0, 0, 0, past as u64),
-        Element::Not(r) => four(r.place as u64, 0, 0, 0),
+        Element::Refused(r) => four(r.place as u64, 0, 0, 0),
     }
 }
 
@@ -93,7 +93,7 @@ pub fn hash_number(h: Hash) -> u64
 {
     match h {
         Hash::Stands(_) => 0,
-        Hash::None(r) => r.number as u64,
+        Hash::Refused(r) => r.number as u64,
     }
 }
 
@@ -103,7 +103,7 @@ pub fn hash_detail(h: Hash) -> [u64; 2]
 {
     match h {
         Hash::Stands(x) => two(x.from as u64, x.len as u64),
-        Hash::None(r) => two(r.place as u64, 0),
+        Hash::Refused(r) => two(r.place as u64, 0),
     }
 }
 

@@ -87,7 +87,7 @@ pub fn shake_number(g: Greeting) -> u64
     match g {
         Greeting::Await => 0,
         Greeting::Hello(_, _, _) => 0,
-        Greeting::Unwelcome(r) => r.number as u64,
+        Greeting::Refused(r) => r.number as u64,
     }
 }
 
@@ -105,6 +105,6 @@ pub fn shake_detail(g: Greeting) -> [u64; 6]
             peer.from as u64,
             peer.len as u64,
         ),
-        Greeting::Unwelcome(r) => six(r.place as u64, 0, 0, 0, 0, 0),
+        Greeting::Refused(r) => six(r.place as u64, 0, 0, 0, 0, 0),
     }
 }

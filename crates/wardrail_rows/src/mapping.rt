@@ -34,7 +34,7 @@ pub fn place_number(p: Place) -> u64
 {
     match p {
         Place::At(_, _) => 0,
-        Place::Nowhere(r) => r.number as u64,
+        Place::Refused(r) => r.number as u64,
     }
 }
 
@@ -44,7 +44,7 @@ pub fn place_detail(p: Place) -> [u64; 2]
 {
     match p {
         Place::At(piece, offset) => two(piece.0 as u64, offset.0 as u64),
-        Place::Nowhere(r) => two(r.place as u64, 0),
+        Place::Refused(r) => two(r.place as u64, 0),
     }
 }
 
@@ -54,7 +54,7 @@ pub fn size_number(s: Size) -> u64
 {
     match s {
         Size::Bytes(_) => 0,
-        Size::Unknown(r) => r.number as u64,
+        Size::Refused(r) => r.number as u64,
     }
 }
 
@@ -64,6 +64,6 @@ pub fn size_detail(s: Size) -> u64
 {
     match s {
         Size::Bytes(n) => n,
-        Size::Unknown(r) => r.place as u64,
+        Size::Refused(r) => r.place as u64,
     }
 }

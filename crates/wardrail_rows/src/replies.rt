@@ -40,7 +40,7 @@ pub fn listed_number(l: Listing) -> u64
 {
     match l {
         Listing::Is(_, _) => 0,
-        Listing::Not(r) => r.number as u64,
+        Listing::Refused(r) => r.number as u64,
     }
 }
 
@@ -57,7 +57,7 @@ pub fn listed_detail(l: Listing) -> [u64; 6]
             x.port,
             next as u64,
         ),
-        Listing::Not(r) => six(r.place as u64, 0, 0, 0, 0, 0),
+        Listing::Refused(r) => six(r.place as u64, 0, 0, 0, 0, 0),
     }
 }
 
@@ -67,7 +67,7 @@ pub fn packed_number(p: Packing) -> u64
 {
     match p {
         Packing::Is(_, _) => 0,
-        Packing::Not(r) => r.number as u64,
+        Packing::Refused(r) => r.number as u64,
     }
 }
 
@@ -84,6 +84,6 @@ pub fn packed_detail(p: Packing) -> [u64; 6]
             x.port,
             next as u64,
         ),
-        Packing::Not(r) => six(r.place as u64, 0, 0, 0, 0, 0),
+        Packing::Refused(r) => six(r.place as u64, 0, 0, 0, 0, 0),
     }
 }

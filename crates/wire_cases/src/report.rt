@@ -111,7 +111,7 @@ pub fn greeting(g: Greeting) {
     match g {
         Greeting::Await => name(WAIT),
         Greeting::Hello(free, peer, used) => hello(free, peer, used),
-        Greeting::Unwelcome(r) => refused(r),
+        Greeting::Refused(r) => refused(r),
     }
 }
 

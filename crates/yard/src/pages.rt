@@ -50,8 +50,5 @@ pub fn answer(fault: u8, page: Page) -> Answer
     if fault == 0 {
         return Answer::Listed(page);
     }
-    Answer::Refused(Refusal {
-        place: 0,
-        number: fault,
-    })
+    Answer::Refused(refusal::refuse(fault, 0))
 }

@@ -231,10 +231,7 @@ fn not_begun(h: Head) -> Begun
     Begun {
         head: h,
         clear: false,
-        answer: Answer::Refused(Refusal {
-            place: 0,
-            number: number::SIZES,
-        }),
+        answer: Answer::Refused(refusal::refuse(number::SIZES, 0)),
     }
 }
 

@@ -105,5 +105,5 @@ fn wide(count: u16) -> usize
 fn refuse(number: u8) -> Answer
     ensures { λ r. ⌜ r ≡ Refused (record { place = 0; number = number }) ⌝ }
 {
-    Answer::Refused(Refusal { place: 0, number })
+    Answer::Refused(refusal::refuse(number, 0))
 }

@@ -15,7 +15,7 @@ pub fn refused(h: Head, s: Seat, number: u8) -> Stepped
     Stepped {
         head: h,
         seat: s,
-        answer: Answer::Refused(Refusal { number, place: 0 }),
+        answer: Answer::Refused(refusal::refuse(number, 0)),
     }
 }
 

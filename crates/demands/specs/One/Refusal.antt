@@ -1,12 +1,20 @@
--- Demand 1 of `refusal`: numbers of two, four and eight bytes at a place. Assumes nothing.
+-- Demand 1 of `refusal`: a refusal made, and numbers of two, four and eight bytes at a place. Assumes nothing.
 use mathlib.Core.Bool.{Bool, false}
 use mathlib.Core.List.{List}
 use mathlib.Core.Path.{_≡_, _∙_, sym}
 use Prim.Native.Nat.{ℕ}
 use Rattle.refusal.specs.BigEndian.{numberAt, fits, numberWritten}
+use Rattle.refusal.specs.declared.Refusal.{Refusal}
 use Rattle.refusal.specs.declared.big_endian.Number.{Number}
 use Rattle.refusal.proofs.Places as laws
 use Rattle.demands.specs.One.{Lent, now, Determined, Determined1, Keeps1}
+
+-- refusal::refuse
+abbrev refuse-ensures : (number place : ℕ) → Refusal → Type 0
+refuse-ensures number place r = r ≡ record { number = number; place = place }
+
+pub refuse-determined : (number place : ℕ) → Determined (refuse-ensures number place)
+refuse-determined number place r r′ e f = e ∙ sym f
 
 -- refusal::big_endian::read2
 abbrev read2-ensures : (text : Lent (List ℕ)) (at : ℕ) → Number → Type 0
