@@ -6,18 +6,27 @@ It is written from document 01 and from nothing of the proved code.
 """
 
 import sys
+from hashlib import sha1
 
 import bencode
 import blocks
+import places
 import torrent
 import tracker
 import wire
-from refusal import Refused
+from refusal import Refused, refuse_unless
 from yard import Yard
 
 
 def unhex(word):
-    return b"" if word == "-" else bytes.fromhex(word)
+    data = bytearray()
+    for part in [] if word == "-" else word.split("."):
+        if part.startswith("@"):
+            data += bytes(place % 251 for place in range(len(data), len(data) + int(part[1:])))
+        else:
+            digits, _, count = part.partition("*")
+            data += bytes.fromhex(digits) * int(count or 1)
+    return bytes(data)
 
 
 def to_hex(data):
@@ -25,12 +34,24 @@ def to_hex(data):
 
 
 def numbers(word):
-    return [] if word == "-" else [int(number) for number in word.split(",")]
+    found = []
+    for item in [] if word == "-" else word.split(","):
+        number, _, count = item.partition("*")
+        found += [int(number)] * int(count or 1)
+    return found
+
+
+def joined(words):
+    return " ".join(map(str, words))
 
 
 def answer_bencode(text):
     _, count = bencode.read(unhex(text))
     return f"taken {count}"
+
+
+def answer_walk(text):
+    return joined(places.walk(unhex(text)))
 
 
 def answer_torrent(text):
@@ -44,6 +65,10 @@ def answer_file(text, number):
     file = torrent.file_at(unhex(text), int(number))
     path = "/".join(to_hex(element) for element in file.path)
     return f"{file.start} {file.length} {path}"
+
+
+def answer_places(text):
+    return joined(places.of_torrent(unhex(text)))
 
 
 def answer_piece(text, number, data):
@@ -63,15 +88,27 @@ def answer_peer(text, number):
     return f"{peer_id} {to_hex(peer.address)} {peer.port}"
 
 
+def answer_entries(text):
+    return joined(places.of_reply(unhex(text)))
+
+
 def answer_block(piece_length, lengths, piece, offset, length, room):
     block = int(piece), int(offset), int(length)
-    parts = blocks.parts_of_block(int(piece_length), numbers(lengths), *block, int(room))
+    parts = blocks.parts_of_block(int(piece_length), numbers(lengths), *block, int(room.partition("+")[0]))
     return " ".join(f"{file}:{at}:{count}" for file, at, count in parts)
 
 
 def answer_byte(piece_length, lengths, file, offset):
     piece, at = blocks.piece_of_byte(int(piece_length), numbers(lengths), int(file), int(offset))
     return f"{piece} {at}"
+
+
+def answer_size(piece_length, lengths, piece):
+    content = int(piece_length), numbers(lengths)
+    blocks.check_content(*content)
+    total = sum(content[1])
+    refuse_unless(int(piece) < blocks.pieces_in(total, content[0]), 31)
+    return str(blocks.length_of_piece(int(piece), total, content[0]))
 
 
 def answer_frame(data):
@@ -81,11 +118,55 @@ def answer_frame(data):
     return f"taken {frame.used} {frame.id} {to_hex(frame.payload)}"
 
 
+def waits(read, data):
+    """How many of the cuts of the bytes, from none of them to all but one, are waits."""
+    return sum(said_of(read, data[:cut]) == wire.WAIT for cut in range(len(data)))
+
+
+def said_of(read, data):
+    try:
+        return read(data)
+    except Refused as refusal:
+        return str(refusal)
+
+
+def answer_frame_cuts(data):
+    data = unhex(data)
+    return f"{waits(wire.read_frame, data)} {said_of(fields_of_frame, data)}"
+
+
+def fields_of_frame(data):
+    """The frame with its numbers in decimal and the place of its bytes."""
+    frame = wire.read_frame(data)
+    if frame == wire.WAIT:
+        return frame
+    said = ["taken", frame.used, frame.id]
+    if frame.id == wire.KEEPALIVE:
+        return joined(said)
+    count = {wire.HAVE: 1, wire.REQUEST: 3, wire.CANCEL: 3, wire.PIECE: 2}.get(frame.id, 0)
+    said += [int.from_bytes(frame.payload[4 * k : 4 * k + 4], "big") for k in range(count)]
+    if frame.id in (wire.BITFIELD, wire.PIECE) or frame.id not in wire.LENGTHS:
+        said.append(f"{frame.used - len(frame.payload) + 4 * count}:{len(frame.payload) - 4 * count}")
+    return joined(said)
+
+
 def answer_handshake(data, info_hash):
     handshake = wire.read_handshake(unhex(data), unhex(info_hash))
     if handshake == wire.WAIT:
         return "wait"
     return f"taken {to_hex(handshake.free)} {to_hex(handshake.peer_id)}"
+
+
+def answer_handshake_cuts(data, info_hash):
+    data, info_hash = unhex(data), unhex(info_hash)
+
+    def read(data):
+        return wire.read_handshake(data, info_hash)
+
+    def places_of_handshake(data):
+        return wire.WAIT if read(data) == wire.WAIT else "taken 68 20:8 48:20"
+
+    return f"{waits(read, data)} {said_of(places_of_handshake, data)}"
 
 
 def answer_write_torrent(announce, name, piece_length, length, pieces, room):
@@ -107,8 +188,24 @@ def answer_write_frame(frame_id, payload, room):
     return to_hex(wire.write_frame(frame_id, unhex(payload), int(room)))
 
 
+def answer_sum(call, *words):
+    if not call.startswith("write-"):
+        raise ValueError(call)
+    data = unhex(TEXT_CALLS[call](*words))
+    return f"{len(data)}:{sha1(data).hexdigest()}"
+
+
 def answer_sha1(data):
     return to_hex(torrent.digest_of(unhex(data)))
+
+
+def answer_sha1_parts(data, lengths):
+    data, digest, at = unhex(data), sha1(), 0
+    refuse_unless(len(data) <= torrent.LONGEST_PIECE, 8)
+    for length in [*numbers(lengths), len(data)]:
+        digest.update(data[at : at + length])
+        at += length
+    return digest.hexdigest()
 
 
 def answer_sit(yard):
@@ -161,20 +258,28 @@ def answer_seat(yard, seat):
 
 TEXT_CALLS = {
     "bencode": answer_bencode,
+    "walk": answer_walk,
     "torrent": answer_torrent,
     "file": answer_file,
+    "places": answer_places,
     "piece": answer_piece,
     "reply": answer_reply,
     "peer": answer_peer,
+    "entries": answer_entries,
     "block": answer_block,
     "byte": answer_byte,
+    "size": answer_size,
     "frame": answer_frame,
+    "frame-cuts": answer_frame_cuts,
     "handshake": answer_handshake,
+    "handshake-cuts": answer_handshake_cuts,
     "write-torrent": answer_write_torrent,
     "write-reply": answer_write_reply,
     "write-handshake": answer_write_handshake,
     "write-frame": answer_write_frame,
+    "sum": answer_sum,
     "sha1": answer_sha1,
+    "sha1-parts": answer_sha1_parts,
 }
 
 YARD_CALLS = {
