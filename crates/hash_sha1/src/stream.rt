@@ -13,7 +13,6 @@ use crate::Hashed;
 use crate::block;
 use crate::block::Hash;
 use hash_digest::message;
-use refusal::Refusal;
 use refusal::limit;
 use refusal::number;
 

@@ -9,7 +9,6 @@ ghost use Rattle.peer_wire.specs.Message.{keepalive, have, bitfield, req
 ghost use Rattle.peer_wire.specs.Frames.{writeOf};
 ghost use Rattle.peer_wire.specs.Handshake.{handshake, zeros};
 use bencode_writer::Put;
-use refusal::Refusal;
 use refusal::big_endian;
 use refusal::limit;
 use refusal::number;

@@ -7,7 +7,6 @@ ghost use Rattle.torrent_contents.specs.Files.{foundPaper, entryOf, sing
 ghost use Rattle.torrent_contents.specs.Steps.{walkTo};
 use crate::Entry;
 use crate::Found;
-use refusal::Refusal;
 use refusal::number;
 use torrent_blocks::ContentOffset;
 use torrent_blocks::rules;

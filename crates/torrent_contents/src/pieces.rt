@@ -9,7 +9,6 @@ use crate::Checked;
 use crate::Hash;
 use hash_sha1::Agreement;
 use refusal::Part;
-use refusal::Refusal;
 use refusal::limit;
 use refusal::number;
 use torrent_blocks::PieceNumber;

@@ -14,7 +14,6 @@ ghost use Rattle.torrent_metainfo.specs.Reading.{readOf};
 ghost use Rattle.torrent_lines.specs.Lines.{escaped, firstLine, fileLine, refusedLine, mostListed, mostPrinted, listingOf};
 ghost use Rattle.torrent_lines.specs.Places.{far};
 use bencode_writer::Put;
-use refusal::Refusal;
 use refusal::number;
 use torrent_metainfo::Reading;
 use torrent_metainfo::Torrent;

@@ -27,7 +27,6 @@ use bencode_fields::Natural;
 use bencode_fields::Number;
 use bencode_walk::Past;
 use bencode_walk::Sought;
-use refusal::Refusal;
 use refusal::limit;
 use refusal::number;
 use torrent_blocks::rules;

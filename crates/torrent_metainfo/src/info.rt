@@ -22,7 +22,6 @@ use bencode_fields::Natural;
 use bencode_walk::Past;
 use bencode_walk::Sought;
 use refusal::Part;
-use refusal::Refusal;
 use refusal::limit;
 use refusal::number;
 use torrent_blocks::rules;

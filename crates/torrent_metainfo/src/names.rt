@@ -13,7 +13,6 @@ use crate::Path;
 use bencode_fields::Bytes;
 use bencode_fields::Inside;
 use bencode_walk::Seen;
-use refusal::Refusal;
 use refusal::number;
 
 // A name, or an element of a path.

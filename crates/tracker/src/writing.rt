@@ -6,7 +6,6 @@ ghost use lib.Seq.{sets};
 ghost use Rattle.bencode_writer.specs.Put.{paper, left};
 ghost use Rattle.tracker.specs.Writing.{textOf, writeOf};
 use bencode_writer::Put;
-use refusal::Refusal;
 use refusal::limit;
 use refusal::number;
 

@@ -4,7 +4,6 @@ ghost use mathlib.Core.Bool.{cond};
 ghost use lib.Dec.{eqb};
 ghost use lib.ListN.{length};
 ghost use Rattle.yard.specs.Pages.{pageFault, answerOf};
-use refusal::Refusal;
 use refusal::number;
 use yard_scans::Asked;
 use yard_tables::Answer;

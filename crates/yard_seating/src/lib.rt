@@ -19,7 +19,6 @@ ghost use Rattle.yard_tables.specs.Step.{chokeFrame, interestFrame, ifTaken};
 ghost use Rattle.yard_tables.specs.Replies.{headAtZero};
 ghost use Rattle.yard_seating.specs.Steps.{begun, emptyHead, faultAt, markedOr};
 use peer_wire::write;
-use refusal::Refusal;
 use refusal::number;
 use yard_tables::Answer;
 use yard_tables::Head;

@@ -9,7 +9,6 @@ ghost use Rattle.yard_tables.specs.Tables.{paper, around};
 ghost use Rattle.yard_tables.specs.declared.Seat.{Seat};
 ghost use Rattle.yard_tables.specs.declared.Answer.the-variants.{Refused};
 use crate::row;
-use refusal::Refusal;
 use refusal::number;
 use yard_tables::Answer;
 use yard_tables::Head;

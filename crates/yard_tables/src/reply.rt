@@ -6,7 +6,6 @@ use crate::Answer;
 use crate::Head;
 use crate::Seat;
 use crate::Stepped;
-use refusal::Refusal;
 
 // Nothing changes.
 pub fn refused(h: Head, s: Seat, number: u8) -> Stepped
