@@ -9,15 +9,7 @@ use lib.Dec.{ltb, leb}
 use lib.ListN.{length, getD, replicate}
 use lib.Seq.{sets}
 use Rattle.refusal.specs.Paper.{Outcome, taken, refused}
-use Rattle.refusal.specs.Parts.{bytesAt}
 use Rattle.refusal.proofs.Cases.{by-test}
-use Rattle.hash_sha1.specs.Digest.{Left, left}
-use Rattle.hash_sha1.specs.Digest.{paper as hashPaper}
-use Rattle.hash_sha1.specs.declared.Hashed.{Hashed}
-use Rattle.hash_sha1.specs.declared.Hashed.the-variants as hashed
-use Rattle.hash_sha1.proofs.Determined.{digest-refusal-keeps}
-use Rattle.torrent_metainfo.specs.Hashes.{hashedIn}
-use Rattle.torrent_metainfo.specs.declared.Torrent.{Torrent}
 use Rattle.yard_tables.specs.Seats.{cleared, weChoke, weWant}
 use Rattle.yard_tables.specs.Tables.{Yard, Said, wait, done, used, serve, dropped, seated, wrote, listed, shows, holds, heldBy, scarce, paper, Around, Turn, turn, around, sizesFit, Out, yardOf}
 use Rattle.yard_tables.specs.Seating.{startOf, markOf}
@@ -30,30 +22,11 @@ use Rattle.yard_tables.proofs.Keeping.{Keeps, step-keeps}
 use Rattle.yard_tables.proofs.Keeping.{Unused as Unspoken}
 use Rattle.yard_seating.specs.Steps.{begun}
 use Rattle.yard_seating.specs.declared.Begun.{Begun}
-use Rattle.wardrail_rows.specs.Said.{numberOf}
 use Rattle.yard_telling.specs.Telling.{codeOf, toldOf, shownOf}
 use Rattle.yard_telling.specs.declared.Told.{Told}
 use Rattle.yard_telling.proofs.Laws.{unused, told-kept as untold, shown-kept as unshown}
-use Rattle.demands.specs.One.{Ref, now, Refused, Unused}
-pub mod Numbers
-pub mod Only
+use Rattle.demands.specs.One.{Refused, Unused}
 pub mod Reasons
-
--- ---- parts handed back
-
--- a part is the same part if it holds the same and lies at the same place
-pub one-part : {A : Type 0} {r s : Ref A} → (now r ≡ now s) × (r .ptr .0 ≡ s .ptr .0) × (r .ptr .1 ≡ s .ptr .1) → r ≡ s
-one-part {A} {r} {s} (e, f, g) =
-    ap (λ (h : A). record { ptr = (r .ptr .0, r .ptr .1); held = h }) e
-    ∙ ap (λ (n : ℕ). record { ptr = (n, r .ptr .1); held = s .held }) f
-    ∙ ap (λ (n : ℕ). record { ptr = (s .ptr .0, n); held = s .held }) g
-
--- ---- digests
-
--- where the torrent is refused its digest is not written, and a digest that is refused leaves the 20 bytes
-pub hash-kept : (s o : List ℕ) (x : Outcome Torrent) (r : Hashed) {out : List ℕ} {n p : ℕ} → left (hashPaper r) out ≡ hashedIn s o x → hashPaper r ≡ refused n p → out ≡ o
-hash-kept s o (taken t) r e h = digest-refusal-keeps (bytesAt s (t .info)) o r e h .1
-hash-kept s o (refused n p) r e h = ap (λ (l : Left). l .out) e
 
 -- ---- the yard's steps and calls
 
@@ -78,18 +51,6 @@ start-kept h p l k n rows holders rows₁ holders₁ r e (m, q, g) =
     (ap (λ (o : Out). o .yard .rows) e ∙ ap (λ (v : Yard). v .rows) z, ap (λ (o : Out). o .yard .holders) e ∙ ap (λ (v : Yard). v .holders) z)
 
 -- ---- what C is told
-
--- a number other than 0 stands for a refusal
-pub by-number : {A P : Type 0} (a : Outcome A) {r : ℕ} → r ≡ numberOf a → (r ≡ 0 → ⊥) → ((n p : ℕ) → a ≡ refused n p → P) → P
-by-number (taken x) e k f = absurd (k e)
-by-number (refused n p) e k f = f n p refl
-
--- what is left where the answer is a refusal, as the code says it
-abbrev pub refuses : ℕ → ℕ → Hashed
-refuses n p = hashed.Refused (record { number = n; place = p })
-
-pub same-left : (l : Left) (n p : ℕ) → l .answer ≡ refused n p → left (hashPaper (refuses n p)) (l .out) ≡ l
-same-left l n p e = ap (λ (a : Outcome (Unit {0})). left a (l .out)) (sym e)
 
 -- the same tables, table by table
 pub same-tables : {y : Yard} {h h′ : Head} {s s′ : List Seat} {w w′ q q′ : List ℕ} → yardOf h s w q ≡ y → yardOf h′ s′ w′ q′ ≡ y → (h ≡ h′) × (s ≡ s′) × (w ≡ w′) × (q ≡ q′)

@@ -1,5 +1,4 @@
--- The demands, one file each; below `One` a file for each crate's functions. `Cited` and the files below `Two` and `Three` have laws that the
--- statements cite, and nothing to believe but the names that a statement spells with (`Three/Program`: `Made`).
+-- The demands, one file each. Each statement stands in full under the sentence that it meets, and is proved by citing. `Three/Program`: `Made`.
 pub mod One
 pub mod Two
 pub mod Three

@@ -1,42 +1,18 @@
 -- DEMAND 1: every input gets an answer, nothing is taken on trust, a refusal changes nothing. Assumes nothing.
 -- 1. No public function has a `requires`: tests/determined looks. Each is proved safe and ending: `rt check` does.
--- 2, 3. The words of these statements are below. The functions stand in the files of One/, one for each crate, each under its path: its contract as
--- `src/` has it (-ensures), that it permits one outcome (-determined), and that a refusal leaves what is lent (-keeps). None is left out: tests/determined.
+-- 2, 3. The words of these statements are below. The functions stand under their paths, those that a user calls in One/Doors and those that only crates
+-- need in One/Inner: a function's contract as `src/` has it (-ensures), that it permits one outcome (-determined), and that a refusal leaves what is
+-- lent (-keeps). None is left out: tests/determined.
 -- 4. One/Numbers.antt, and One/Only.antt: no other number is given.
 use mathlib.Core.Path.{_≡_}
 use mathlib.Core.Logic.{_⊎_}
 use Prim.Native.Nat.{ℕ}
 use Rattle.refusal.specs.Paper.{Outcome, taken, refused}
 use Rattle.yard_tables.specs.Tables.{Said, wait}
-pub mod Refusal
-pub mod Scalar
-pub mod Writer
-pub mod Wire
-pub mod WireWriting
-pub mod Bencode
-pub mod Walk
-pub mod Digest
-pub mod Sha1
-pub mod Blocks
-pub mod Fields
-pub mod Tracker
-pub mod TrackerWriting
-pub mod Metainfo
-pub mod Authoring
-pub mod Tables
-pub mod Contents
-pub mod Seating
-pub mod Hearing
-pub mod Scans
-pub mod Lines
+pub mod Doors
+pub mod Inner
 pub mod Yard
-pub mod Rows
-pub mod Telling
-pub mod HostTexts
-pub mod HostParts
-pub mod HostWriters
 pub mod HostYard
-pub mod Causes
 pub mod Numbers
 pub mod Only
 
@@ -46,6 +22,9 @@ pub mod Only
 pub record Ref (A : Type 0) : Type 0 where
   pub ptr : ℕ × ℕ
   pub held : A
+
+abbrev pub ref : {A : Type 0} → ℕ → ℕ → A → Ref A
+ref block offset held = record { ptr = (block, offset); held = held }
 
 abbrev pub now : {A : Type 0} → Ref A → A
 now x = x .held

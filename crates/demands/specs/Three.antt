@@ -29,12 +29,10 @@ use Rattle.yard_laws.specs.Run.{State, SizesFit, after}
 use Rattle.yard_laws.proofs.Theorem as theorem
 use Rattle.yard_laws.proofs.Demand as demand
 use Rattle.demands.specs.Three.Program.{Made, made-run}
-use Rattle.demands.specs.Three.Paging.{page-total, page-listed}
-use Rattle.demands.specs.Three.Loaded.{nobody-lacks}
+use Rattle.demands_laws.proofs.Paging.{page-total, page-listed}
+use Rattle.demands_laws.proofs.Loaded.{nobody-lacks}
 use Rattle.demands.specs.Three.Fitting.{tables-fit}
 pub mod Program
-mod Paging
-mod Loaded
 mod Fitting
 
 -- a start is accepted exactly when the sizes are legal and the lent tables have them, whatever stands in the tables

@@ -1,28 +1,24 @@
 -- DEMAND 2: exactly the right texts, what is written reads back, and blocks fall where they should. Assumes nothing.
 -- Each statement is about any answer r, and any lent output `out` at exit, that the contract of the call named above it permits: the contract is its premise.
 -- A text is a list of bytes. An outcome is `taken` with what is handed back, or `refused` with number and place.
-use mathlib.Core.Path.{_≡_, refl, sym, ap, _∙_, subst}
-use mathlib.Core.Logic.{_⊎_, _↔_, inl, inr}
+-- `Encodes s v`: the bytes s are the value v as BEP 3 writes it, and v keeps document 01's limits (demands_laws/specs/Texts). Where parts stand: demands_laws/specs/Places.
+use mathlib.Core.Path.{_≡_, sym, ap, _∙_}
+use mathlib.Core.Logic.{_⊎_, _↔_}
 use mathlib.Core.Bool.{true, false, cond}
 use mathlib.Core.List.{List, [], _∷_, _++_}
 use Prim.Native.Nat.{ℕ, _+_, _-_, _*_, _≤_, _<_, min}
-use native.Mathlib.Omega.{arith}
 use lib.IntN.{pos}
-use lib.ListN.{length, getD, take, drop, take-append-drop}
-use lib.Seq.{length-take-le}
+use lib.ListN.{length, getD, take, drop}
 use Rattle.refusal.specs.BigEndian.{Bytes}
-use Rattle.refusal.specs.Paper.{Outcome, taken, refused, map, then}
+use Rattle.refusal.specs.Paper.{taken, refused, map, then}
 use Rattle.refusal.specs.Parts.{bytesAt}
 use Rattle.refusal.specs.declared.Part.{Part}
-use Rattle.bencode.specs.Value.{Value, Items, Entries, str, int, list, dict, empty, entry, encode, count, Keeps}
-use Rattle.bencode.specs.Decode.{decode}
-use Rattle.bencode.specs.Exact.{Fine}
-use Rattle.bencode.specs.Answers.{paper as countPaper, checkOf}
+use Rattle.bencode.specs.Value.{Value, Items, Entries, str, int, list, dict, empty, entry, encode, count}
+use Rattle.bencode.specs.Answers.{paper as countPaper}
+use Rattle.bencode.specs.Answers.{checkOf}
 use Rattle.bencode.specs.declared.Checked.{Checked}
-use Rattle.bencode.proofs.Exact.{exactly, fine-taken}
 use Rattle.bencode_walk.specs.Has.{Has}
 use Rattle.bencode_walk.specs.Lookup.{under, lookup}
-use Rattle.bencode_fields.specs.Values.{dictionaryAt}
 use Rattle.bencode_writer.specs.Put.{left, putOf}
 use Rattle.bencode_writer.specs.Put.{paper as putPaper}
 use Rattle.bencode_writer.specs.declared.Put.{Put}
@@ -31,8 +27,8 @@ use Rattle.hash_sha1.specs.Digest.{paper as hashPaper, left as hashing, Left as
 use Rattle.hash_sha1.specs.declared.Hashed.{Hashed}
 use Rattle.torrent_blocks.specs.Rules.{sum, Lawful, piecesOf}
 use Rattle.torrent_blocks.specs.Spans.{FilePart, part, joinedFiles, partsOf}
-use Rattle.torrent_blocks.specs.Answers.{Spot, partsPaper, placePaper, sizePaper, sizeOf, blockOf, byteOf, flat}
-use Rattle.torrent_blocks.specs.Answers.{partsWritten, left as parting, Left as Parting}
+use Rattle.torrent_blocks.specs.Answers.{Spot, partsPaper, placePaper, sizePaper, sizeOf, blockOf, byteOf, flat, partsWritten}
+use Rattle.torrent_blocks.specs.Answers.{left as parting, Left as Parting}
 use Rattle.torrent_blocks.specs.Covers.{run, placesOf, Neat}
 use Rattle.torrent_blocks.specs.declared.Parts.{Parts}
 use Rattle.torrent_blocks.specs.declared.Place.{Place}
@@ -41,9 +37,9 @@ use Rattle.torrent_blocks.proofs.Whole as whole
 use Rattle.torrent_blocks.proofs.Joined.{joined-laid}
 use Rattle.peer_wire.specs.Message.{Message, FieldsFit, body, keepalive}
 use Rattle.peer_wire.specs.Message.{encode as frameOf}
-use Rattle.peer_wire.specs.Frames.{Found, found, messageIn, readOf, meant, Lengths, streamOf, encodeAll, KeepAll, writeOf}
+use Rattle.peer_wire.specs.Frames.{found, messageIn, readOf, meant, Lengths, streamOf, encodeAll, KeepAll, writeOf}
 use Rattle.peer_wire.specs.Handshake.{hello, name, handshake, zeros, shakeOf}
-use Rattle.peer_wire.specs.Causes.{Cause, Zero, All, Right, named}
+use Rattle.peer_wire.specs.Causes.{Zero, All, Right, named}
 use Rattle.peer_wire.proofs.Decided as decided
 use Rattle.peer_wire.proofs.Exact as frames
 use Rattle.peer_wire.proofs.Written as framing
@@ -51,88 +47,67 @@ use Rattle.peer_wire.proofs.Shaking as shaking
 use Rattle.torrent_metainfo.specs.Keys.{announceKey, infoKey, filesKey, lengthKey, nameKey, pieceLengthKey, piecesKey}
 use Rattle.torrent_metainfo.specs.Reading.{announceIn, nameIn}
 use Rattle.torrent_metainfo.specs.Reading.{paper as torrentPaper, readOf as torrentRead}
-use Rattle.torrent_metainfo.specs.Rules.{torrentOf}
 use Rattle.torrent_metainfo.specs.Hashes.{infoHashOf}
 use Rattle.torrent_metainfo.specs.declared.Torrent.{Torrent}
 use Rattle.torrent_metainfo.specs.declared.Reading.{Reading}
-use Rattle.torrent_laws.specs.Torrent.{OneFile, TorrentFiles, single, many, TorrentSays, IsTorrent, lengthsIn, sizesOf}
-use Rattle.torrent_laws.specs.Exact.{isSingle, filesUnder, StandsAt, PathAt, EachAt, ShowsTorrent}
+use Rattle.torrent_laws.specs.Torrent.{OneFile, single, many, TorrentSays, IsTorrent, lengthsIn, sizesOf}
+use Rattle.torrent_laws.specs.Exact.{isSingle, filesUnder, StandsAt, PathAt, EachAt}
 use Rattle.torrent_laws.proofs.Laws as torrents
 use Rattle.torrent_laws.proofs.Determined as said
 use Rattle.bencode_fields.specs.Nth.{nth}
 use Rattle.torrent_contents.specs.Files.{foundPaper, entryOf}
-use Rattle.torrent_contents.specs.Files.{single as oneEntry}
 use Rattle.torrent_contents.specs.declared.Entry as file-entry
 use Rattle.torrent_contents.specs.declared.Found as file
 use Rattle.torrent_contents.specs.Pieces.{checkPaper}
 use Rattle.torrent_contents.specs.Pieces.{checkOf as pieceOf, hashPaper as pieceHashPaper, hashOf as pieceHashOf}
 use Rattle.torrent_contents.specs.declared.Hash as hash
 use Rattle.torrent_contents.specs.declared.Checked as piece
-use Rattle.torrent_authoring.specs.Writing.{fields}
-use Rattle.torrent_authoring.specs.Writing.{Fields as Torrents, writeOf as authorOf, topWith, infoWith}
+use Rattle.torrent_authoring.specs.Writing.{fields, topWith, infoWith}
+use Rattle.torrent_authoring.specs.Writing.{Fields as Torrents, writeOf as authorOf}
 use Rattle.torrent_authoring.specs.Reading.{only}
 use Rattle.torrent_authoring.proofs.Written as authored
 use Rattle.torrent_authoring.proofs.Rewriting as again
 use Rattle.tracker.specs.Keys.{interval, peers}
 use Rattle.tracker.specs.Entries.{PeerEntry}
-use Rattle.tracker.specs.Reply.{Answer, compact, sixes, counted, replyIn, replyOf, nthOf}
+use Rattle.tracker.specs.Reply.{Answer, compact, sixes, counted, replyOf, nthOf}
 use Rattle.tracker.specs.Reading.{entriesIn, peerPaper}
 use Rattle.tracker.specs.Reading.{paper as replyPaper}
-use Rattle.tracker.specs.Writing.{textOf}
 use Rattle.tracker.specs.Writing.{writeOf as replyWrite}
-use Rattle.tracker.specs.Exact.{IsReply, saidEntries}
-use Rattle.tracker.specs.Exact.{ReplySays, ShowsReply}
+use Rattle.tracker.specs.Exact.{IsReply, saidEntries, ReplySays, ShowsReply}
 use Rattle.tracker.specs.Walks.{Walked}
 use Rattle.tracker.specs.declared.Reply.{Reply}
 use Rattle.tracker.specs.declared.Found as peer
-use Rattle.tracker.proofs.Exact.{reply-only, reply-every}
 use Rattle.tracker.proofs.Numbering.{entries-said}
 use Rattle.tracker.proofs.Walking.{walked}
-use Rattle.tracker.proofs.Rewriting as replies
-use Rattle.demands.specs.Two.Joins.{reply-again, piece-hashed, piece-tells, piece-yes, piece-no, block-parts, block-taken, block-takes, size-taken, size-takes, byte-taken, byte-takes, byte-found}
-use Rattle.demands.specs.Two.Numbered.{noFile, many-within, many-beyond, one-within, one-beyond, sum-one, part-bytes}
-use Rattle.demands.specs.Two.Places.{PartUnder, FilesPlaced, ReplyPlaced, torrent-placed, only-placed, many-placed, hash-placed, reply-placed}
-mod Joins
-mod Numbered
-pub mod Places
-
--- the bytes s are the value v as BEP 3 writes it, and v keeps the rules: integers of 64 bits, keys strictly ascending, at most 32 levels;
--- at most 16,384 values, each key counted, and at most 1,048,576 bytes
-abbrev pub Encodes : List ℕ → Value → Type 0
-Encodes s v = (s ≡ encode v) × Keeps v 32 × (count v ≤ 16384) × (length s ≤ 1048576)
-
-fine : {s : List ℕ} {v : Value} → Encodes s v → Fine s v
-fine e = record { text = e .0; keeps = e .1; few = e .2; short = e .3 }
-
-encodes : {s : List ℕ} {v : Value} → Fine s v → Encodes s v
-encodes f = (f .text, f .keeps, f .few, f .short)
+use Rattle.demands_laws.specs.Texts.{Encodes, noFile, IsPiece, Agrees}
+use Rattle.demands_laws.specs.Places.{PartUnder, FilesPlaced, ReplyPlaced}
+use Rattle.demands_laws.proofs.Refusals.{both-ways, same-answer, some-answer}
+use Rattle.demands_laws.proofs.Texts as texts
+use Rattle.demands_laws.proofs.Texts.{fine}
+use Rattle.demands_laws.proofs.Places as places
+use Rattle.demands_laws.proofs.Files as files
+use Rattle.demands_laws.proofs.Frames as reading
+use Rattle.demands_laws.proofs.Rewriting as rewriting
+use Rattle.demands_laws.proofs.Pieces as pieces
+use Rattle.demands_laws.proofs.Blocks as blocks
 
 -- ---- 5. "Taken exactly when its bytes are the BEP 3 encoding of a value that keeps the rules"; "an accepted text comes with its count of values, which equals the count in the decoded value."
 
 -- of bencode::check
 module _ (s : List ℕ) (r : Checked) (c : countPaper r ≡ checkOf s) where
   pub decode-exact : (n : ℕ) → countPaper r ≡ taken n ↔ ((v : Value) × Encodes s v × (count v ≡ n))
-  decode-exact n = (
-    λ e. let x = exactly s .only n (sym c ∙ e) in (x .0, encodes (x .1), x .2),
-    λ x. c ∙ exactly s .every (x .0) (fine (x .1)) ∙ ap taken (x .2),
-  )
+  decode-exact n = both-ways (same-answer c) (texts.count-exact s n)
 
 -- and a text is the encoding of one value at most
 pub one-value : (s : List ℕ) (v w : Value) → Encodes s v → Encodes s w → v ≡ w
-one-value s v w e f =
-    let a : decode s ≡ taken v = fine-taken s v (fine e) in
-    let b : decode s ≡ taken w = fine-taken s w (fine f) in
-    cc
+one-value = texts.one-value
 
 -- ---- 6. "A torrent or reply is taken exactly when its bytes are the BEP 3 encoding of a value that keeps the rules."
 
 -- of torrent_metainfo::read
 module _ (s : List ℕ) (r : Reading) (c : torrentPaper r ≡ torrentRead s) where
   pub torrent-exact : ((x : Torrent) × (torrentPaper r ≡ taken x)) ↔ ((v : Value) × (t : TorrentSays) × Encodes s v × IsTorrent v t)
-  torrent-exact = (
-    λ x. let h = torrents.torrent-exact s .only (x .0) (sym c ∙ x .1) in (h .0, h .1, encodes (h .2), h .3),
-    λ h. let x = torrents.torrent-exact s .every (h .0) (h .1) (fine (h .2)) (h .3) in (x .0, c ∙ x .1),
-  )
+  torrent-exact = both-ways (some-answer c) (texts.torrent-exact s)
 
   -- and the fields handed back are that value's: strings as the very part of the text, info as its dictionary is written, and the files one by one
   pub torrent-fields : (x : Torrent) → torrentPaper r ≡ taken x → (v : Value) (t : TorrentSays) → Encodes s v → IsTorrent v t
@@ -148,10 +123,7 @@ module _ (s : List ℕ) (r : Reading) (c : torrentPaper r ≡ torrentRead s) whe
       × ((w : Value) × Has (t .info) (filesUnder (t .files)) w × StandsAt s (x .content .place) w)
       × EachAt s (x .content .place + 1) (t .files)
   torrent-fields x e v t n i =
-      let h = torrents.torrent-exact s .every v t (fine n) i in
-      let q : taken (h .0) ≡ taken x = sym (c ∙ h .1) ∙ e in
-      let z : h .0 ≡ x = cc in
-      let w = subst (λ (y : Torrent). ShowsTorrent s y t) z (h .2) in
+      let w = texts.torrent-shown s x (sym c ∙ e) v t n i in
       let f = w .files in
       (w .announce, w .info, w .name, w .pieces, w .piece-length, w .count, f .one, f .files, f .total, f .place, f .each)
 
@@ -164,10 +136,7 @@ module _ (s : List ℕ) (r : Reading) (c : torrentPaper r ≡ torrentRead s) whe
       × PartUnder (q + 1) is nameKey (x .name)
       × PartUnder (q + 1) is piecesKey (x .pieces)
       × ((w : Value) × (lookup (q + 1) is (cond (x .content .single) lengthKey filesKey) ≡ under (x .content .place) w)))
-  torrent-places x e es n =
-      let t = torrent-placed es x (sym (ap (λ (o : Outcome Value). then o torrentOf) (fine-taken s (dict es) (fine n))) ∙ sym c ∙ e) in
-      let i = t .1 in
-      (t .0, (i .0, i .1, i .2, i .3 .0, i .3 .1, i .3 .2, i .3 .3))
+  torrent-places x e es n = let t = places.torrent-placed s x (sym c ∙ e) es n in let i = t .1 in (t .0, (i .0, i .1, i .2, i .3 .0, i .3 .1, i .3 .2, i .3 .3))
 
 -- of torrent_metainfo::announce and torrent_metainfo::name: what they hand back
 pub announce-said : (s r : List ℕ) → r ≡ bytesAt s (announceIn (torrentRead s)) → (v : Value) (t : TorrentSays) → Encodes s v → IsTorrent v t → r ≡ t .announce
@@ -181,41 +150,26 @@ name-said s r c v t e i = c ∙ torrents.name-said s v t (fine e) i
 pub file-exact : (s : List ℕ) (n : ℕ) (r : file.Found) → foundPaper r ≡ entryOf s n → (v : Value) (t : TorrentSays) → Encodes s v → IsTorrent v t → (fs : List OneFile) → t .files ≡ many fs
     → (n < length fs → (e : file-entry.Entry) × (foundPaper r ≡ taken e) × (e .offset .0 ≡ sum (take n (sizesOf fs))) × (e .length ≡ getD fs n noFile .size) × PathAt s (e .path) (getD fs n noFile .path) × (e .single ≡ false))
     × (length fs ≤ n → foundPaper r ≡ refused 31 0)
-file-exact s n r c v t e i fs f =
-    let h = torrents.torrent-exact s .every v t (fine e) i in
-    let w = h .2 .files in
-    let one = w .one ∙ ap isSingle f in
-    let all = w .files ∙ ap (λ (g : TorrentFiles). length (lengthsIn g)) f in
-    let each = subst (λ (g : TorrentFiles). EachAt s (h .0 .content .place + 1) g) f (w .each) in (
-      λ l. let k = many-within s n (h .0) (h .1) fs one all each l in (k .0, c ∙ k .1, omega (arith, k .2 .0), k .2 .1, k .2 .2, k .2 .3),
-      λ l. c ∙ many-beyond s n (h .0) (h .1) fs one all each l,
-    )
+file-exact s n r c v t e i fs f = let h = files.file-said s n v t e i fs f in (λ l. let (x, y, z) = h .0 l in (x, c ∙ y, z .0, z .1, z .2, z .3), λ l. c ∙ h .1 l)
 
 -- and of a torrent of one file: file 0 has its length and its name and is said to be the only one, and any other number is 31
 pub one-file-exact : (s : List ℕ) (n : ℕ) (r : file.Found) → foundPaper r ≡ entryOf s n → (v : Value) (t : TorrentSays) → Encodes s v → IsTorrent v t → (m : ℕ) → t .files ≡ single m
     → (n ≡ 0 → (e : file-entry.Entry) × (foundPaper r ≡ taken e) × (e .offset .0 ≡ 0) × (e .length ≡ m) × (take (length (t .name)) (drop (e .path) s) ≡ t .name) × (e .single ≡ true))
     × (1 ≤ n → foundPaper r ≡ refused 31 0)
-one-file-exact s n r c v t e i m f =
-    let h = torrents.torrent-exact s .every v t (fine e) i in
-    let w = h .2 .files in
-    let one = w .one ∙ ap isSingle f in
-    let all : h .0 .content .total ≡ m = w .total ∙ ap (λ (g : TorrentFiles). sum (lengthsIn g)) f ∙ sum-one m in (
-      λ z. (oneEntry (h .0), c ∙ one-within s n (h .0) (h .1) one z, refl, all, part-bytes s (h .0 .name) (t .name) (h .2 .name), refl),
-      λ l. c ∙ one-beyond s n (h .0) (h .1) one l,
-    )
+one-file-exact s n r c v t e i m f = let h = files.one-file-said s n v t e i m f in (λ l. let x = h .0 l in (x .0, c ∙ x .1, x .2, x .3, x .4, x .5), λ l. c ∙ h .1 l)
 
 -- and the place of its path: of one file the name's; of many the first element of the list under path in its own dictionary, the dictionaries standing one after
 -- the other in the list under files
 module _ (s : List ℕ) (n : ℕ) (r : file.Found) (c : foundPaper r ≡ entryOf s n) (e : file-entry.Entry) (h : foundPaper r ≡ taken e)
     (x : Torrent) (t : torrentRead s ≡ taken x) (es : Entries) (k : Encodes s (dict es)) where
   pub only-file-place : x .content .single ≡ true → n ≡ 0 → e .path ≡ x .name .from
-  only-file-place = only-placed s n es (fine-taken s (dict es) (fine k)) x t e (sym c ∙ h)
+  only-file-place = places.only-placed s n es k x t e (sym c ∙ h)
 
   pub file-place : x .content .single ≡ false
       → (q : ℕ) × (is : Entries) × (vs : Items) × (l : List file-entry.Entry)
       × (lookup 1 es infoKey ≡ under q (dict is)) × (lookup (q + 1) is filesKey ≡ under (x .content .place) (list vs))
       × FilesPlaced (x .content .place + 1) vs l × (nth n l ≡ taken e)
-  file-place = many-placed s n es (fine-taken s (dict es) (fine k)) x t e (sym c ∙ h)
+  file-place = places.many-placed s n es k x t e (sym c ∙ h)
 
 -- a value says one thing as a torrent
 pub torrent-says-one : (s : List ℕ) (v : Value) (t u : TorrentSays) → Encodes s v → IsTorrent v t → IsTorrent v u → t ≡ u
@@ -223,15 +177,8 @@ torrent-says-one s v t u e i j = said.said-determined v 32 t u (e .1) i j
 
 -- of tracker::read
 module _ (s : List ℕ) (r : Reply) (c : replyPaper r ≡ map counted (replyOf s)) where
-  replied : (o : Outcome (Answer (List PeerEntry))) → replyOf s ≡ o → (x : Answer ℕ) → replyPaper r ≡ taken x → (y : Answer (List PeerEntry)) × (replyOf s ≡ taken y) × (x ≡ counted y)
-  replied (taken y) d x p = let q : taken x ≡ taken (counted y) = sym p ∙ c ∙ ap (map counted) d in (y, d, cc)
-  replied (refused n k) d x p = let q : taken x ≡ refused n k = sym p ∙ c ∙ ap (map counted) d in absurd (let z : _≡_ {A = ℕ} 0 1 = cc in omega arith)
-
   pub reply-exact : ((x : Answer ℕ) × (replyPaper r ≡ taken x)) ↔ ((v : Value) × (t : ReplySays) × Encodes s v × IsReply v t)
-  reply-exact = (
-    λ x. let y = replied (replyOf s) refl (x .0) (x .1) in let h = reply-only s (y .0) (y .1) in (h .0, h .1, encodes (h .2), h .3),
-    λ h. let y = reply-every s (h .0) (h .1) (fine (h .2)) (h .3) in (counted (y .0), c ∙ ap (map counted) (y .1)),
-  )
+  reply-exact = both-ways (some-answer c) (texts.reply-exact s)
 
   -- and what is handed back is that value's: why it failed, or the seconds and as many entries as it has; from the first entry's place on they can be
   -- walked in order, and tracker::peer gives each by its number
@@ -239,22 +186,15 @@ module _ (s : List ℕ) (r : Reply) (c : replyPaper r ≡ map counted (replyOf s
       → (y : Answer (List PeerEntry)) × (x ≡ counted y) × ShowsReply s y t × (entriesIn x ≡ saidEntries t) × Walked s y
       × ((n : ℕ) (f : peer.Found) → peerPaper f ≡ then (replyOf s) (nthOf n) → peerPaper f ≡ nthOf n y)
   reply-fields x p v t e i =
-      let y = replied (replyOf s) refl x p in
-      let h = reply-every s v t (fine e) i in
-      let q : taken (h .0) ≡ taken (y .0) = sym (h .1) ∙ y .1 in
-      let z : h .0 ≡ y .0 = cc in
-      let w = subst (λ (a : Answer (List PeerEntry)). ShowsReply s a t) z (h .2) in
-      (y .0, y .2, w, ap entriesIn (y .2) ∙ entries-said s (y .0) t w, walked s (y .0) (y .1), λ n f d. d ∙ ap (λ (o : Outcome (Answer (List PeerEntry))). then o (nthOf n)) (y .1))
+      let (y, d, z) = texts.replied s c x p in
+      let w = texts.reply-shown s y d v t e i in
+      (y, z, w, ap entriesIn z ∙ entries-said s y t w, walked s y d, λ n f g. g ∙ texts.entry-of s y d n)
 
   -- and where it stands: the failure reason and each entry's id and ip are the very parts under their keys, and the first entry's place is in the value under
   -- peers
   pub reply-places : (x : Answer ℕ) → replyPaper r ≡ taken x → (es : Entries) → Encodes s (dict es)
       → (y : Answer (List PeerEntry)) × (x ≡ counted y) × ReplyPlaced es y × ((n : ℕ) (f : peer.Found) → peerPaper f ≡ then (replyOf s) (nthOf n) → peerPaper f ≡ nthOf n y)
-  unfolding replyOf
-  reply-places x p es e =
-      let y = replied (replyOf s) refl x p in
-      let d = ap (λ (o : Outcome Value). then o (λ v. then (dictionaryAt 0 v) replyIn)) (fine-taken s (dict es) (fine e)) in
-      (y .0, y .2, reply-placed es (y .0) (sym d ∙ y .1), λ n f g. g ∙ ap (λ (o : Outcome (Answer (List PeerEntry))). then o (nthOf n)) (y .1))
+  reply-places x p es e = let (y, d, z) = texts.replied s c x p in (y, z, places.reply-placed s es e y d, λ n f g. g ∙ texts.entry-of s y d n)
 
 -- ---- 7. "What is written reads back": "Reading gives the fields back; rewriting a read text that has only those keys [..] gives its bytes."
 
@@ -270,23 +210,9 @@ keepalive-reads-back o out r c q t = let b = framing.keepalive-reads-back o r c 
 
 -- of peer_wire::read_frame, on numbers that are bytes: s begins with a frame of q bytes that says m exactly when it begins with m as it is written, m being one that may be sent
 module _ (s : List ℕ) (bytes : Bytes s) (m : Message (List ℕ)) (q : ℕ) where
-  within : (at : Message Part) → Cause s (taken (found at q)) → q ≤ length s
-  within at (inl (z, k, u)) = omega (arith, z .0, u)
-  within at (inr (a, r, k, u)) = omega (arith, a .2, u)
-
   pub frame-exact : ((at : Message Part) × (readOf s ≡ taken (found at q)) × (meant s at ≡ m))
       ↔ ((s ≡ frameOf m ++ drop q s) × (q ≡ length (frameOf m)) × FieldsFit m × Lengths (body m))
-  frame-exact = (
-    λ (at, e, d).
-        let t = frames.taken-was-written s bytes at q e in
-        let u : frameOf m ≡ take q s = ap frameOf (sym d) ∙ t .0 in
-        let k = subst (λ (n : Message (List ℕ)). FieldsFit n × Lengths (body n)) d (t .1) in
-        let l = within at (decided.exactly s (taken (found at q)) .0 e) in
-        (sym (ap (λ (l : List ℕ). l ++ drop q s) u ∙ take-append-drop q s), sym (ap length u ∙ length-take-le q s l), k .0, k .1),
-    λ (e, l, f, k).
-        let r = frames.reads-back m (f, k) (drop q s) in
-        (r .at, ap readOf e ∙ r .answer ∙ ap (λ (n : ℕ). taken (found (r .at) n)) (sym l), ap (λ (t : List ℕ). meant t (r .at)) e ∙ r .means),
-  )
+  frame-exact = reading.frame-exact s bytes m q
 
 -- and its parts are those of the frame itself: `messageIn` puts each after its id and the numbers before it
 pub frame-parts : (s : List ℕ) (at : Message Part) (q : ℕ)
@@ -323,18 +249,12 @@ pub reply-reads-back : (n : ℕ) (bs o out : List ℕ) (r : Put) → left (putPa
     → (take q out ≡ encode (dict (entry interval (int (pos n)) (entry peers (str bs) empty))))
     × (drop q out ≡ drop q o)
     × ((p : ℕ) × (replyOf (take q out) ≡ taken (compact n p (sixes bs))) × (take (length bs) (drop p (take q out)) ≡ bs))
-reply-reads-back n bs o out r c q t =
-    let b = replies.reply-reads-back n bs o r c q t in
-    let l = b .0 in
-    let w : take q out ≡ textOf n bs = ap (λ (k : ℕ). take k out) l ∙ b .1 .there in
-    let z : 0 + length (textOf n bs) ≡ q = omega (arith, l) in
-    let d : drop q out ≡ drop q o = rw z at (b .1 .past) in
-    (w, d, (b .2 .0, ap replyOf w ∙ b .2 .1, ap (λ (k : List ℕ). take (length bs) (drop (b .2 .0) k)) w ∙ b .2 .2))
+reply-reads-back n bs o out r c q t = rewriting.reply-reads-back n bs o out r c q t
 
 -- a reply with only those keys, its peers a string, that is read: written from what was read it is that text again, wherever there is room
 pub reply-rewrite : (s : List ℕ) (v w : Value) → Encodes s (dict (entry interval v (entry peers w empty))) → (n p : ℕ) (l : List PeerEntry) → replyOf s ≡ taken (compact n p l)
     → (bs : List ℕ) × (take (length bs) (drop p s) ≡ bs) × (l ≡ sixes bs) × ((o : List ℕ) → replyWrite n bs o ≡ putOf s 0 o)
-reply-rewrite s v w e n p l d = reply-again s v w (fine e) n p l d
+reply-rewrite s v w e n p l d = rewriting.reply-again s v w e n p l d
 
 -- of torrent_authoring::write; f are the fields
 pub torrent-reads-back : (f : Torrents) (o out : List ℕ) (r : Put) → left (putPaper r) out ≡ authorOf f o → (q : ℕ) → putPaper r ≡ taken q
@@ -367,33 +287,21 @@ info-hash s o out r c v t e i =
 -- of torrent_contents::piece_hash: the hash of piece n is the n-th 20 bytes of pieces; beyond the last it is 31
 pub piece-hash : (s : List ℕ) (n : ℕ) (r : hash.Hash) → pieceHashPaper r ≡ pieceHashOf s n → (v : Value) (t : TorrentSays) → Encodes s v → IsTorrent v t
     → (n < t .count → (x : Part) × (pieceHashPaper r ≡ taken x) × (bytesAt s x ≡ take 20 (drop (20 * n) (t .pieces)))) × (t .count ≤ n → pieceHashPaper r ≡ refused 31 0)
-piece-hash s n r c v t e i = let h = piece-hashed s n v t (fine e) i in (λ l. let x = h .0 l in (x .0, c ∙ x .1, x .2), λ l. c ∙ h .1 l)
+piece-hash s n r c v t e i = let h = pieces.piece-hashed s n v t e i in (λ l. let x = h .0 l in (x .0, c ∙ x .1, x .2), λ l. c ∙ h .1 l)
 
 -- and it is that part of pieces
 pub piece-hash-place : (s : List ℕ) (n : ℕ) (r : hash.Hash) → pieceHashPaper r ≡ pieceHashOf s n → (y : Torrent) → torrentRead s ≡ taken y
     → (x : Part) → pieceHashPaper r ≡ taken x → (x .from ≡ y .pieces .from + 20 * n) × (x .len ≡ 20)
-piece-hash-place s n r c y t x e = hash-placed s n y t x (sym c ∙ e)
+piece-hash-place s n r c y t x e = pieces.hash-placed s n y t x (sym c ∙ e)
 
 -- of torrent_contents::check_piece: yes exactly when the text is a torrent that has piece n, m is as long as that piece, and its digest is the n-th 20 bytes of pieces;
 -- no exactly when all of this holds but the last
 module _ (s : List ℕ) (n : ℕ) (m : List ℕ) (r : piece.Checked) (c : checkPaper r ≡ pieceOf s n m) where
-  abbrev pub IsPiece : TorrentSays → Type 0
-  IsPiece t = (n < t .count) × (length m ≡ min (t .piece-length) (sum (lengthsIn (t .files)) - n * t .piece-length))
+  pub piece-check : checkPaper r ≡ taken true ↔ ((v : Value) × (t : TorrentSays) × Encodes s v × IsTorrent v t × IsPiece n m t × Agrees n m t)
+  piece-check = both-ways (same-answer c) (pieces.yes-exactly s n m)
 
-  abbrev pub Agrees : TorrentSays → Type 0
-  Agrees t = sha1 m ≡ take 20 (drop (20 * n) (t .pieces))
-
-  pub piece-check : checkPaper r ≡ taken true ↔ ((v : Value) × (t : TorrentSays) × Encodes s v × IsTorrent v t × IsPiece t × Agrees t)
-  piece-check = (
-    λ e. let h = piece-yes s n m (sym c ∙ e) in (h .0, h .1, encodes (h .2), h .3, (h .4, h .5), h .6),
-    λ (v, t, e, i, p, a). c ∙ piece-tells s n m v t (fine e) i (p .0) (p .1) .0 a,
-  )
-
-  pub piece-check-no : checkPaper r ≡ taken false ↔ ((v : Value) × (t : TorrentSays) × Encodes s v × IsTorrent v t × IsPiece t × (Agrees t → ⊥))
-  piece-check-no = (
-    λ e. let h = piece-no s n m (sym c ∙ e) in (h .0, h .1, encodes (h .2), h .3, (h .4, h .5), h .6),
-    λ (v, t, e, i, p, a). c ∙ piece-tells s n m v t (fine e) i (p .0) (p .1) .1 a,
-  )
+  pub piece-check-no : checkPaper r ≡ taken false ↔ ((v : Value) × (t : TorrentSays) × Encodes s v × IsTorrent v t × IsPiece n m t × (Agrees n m t → ⊥))
+  piece-check-no = both-ways (same-answer c) (pieces.no-exactly s n m)
 
 -- ---- 9. "Blocks map to file parts exactly."
 
@@ -402,7 +310,7 @@ module _ (s : List ℕ) (n : ℕ) (m : List ℕ) (r : piece.Checked) (c : checkP
 pub block-covers : (ns : List ℕ) (pl p q n : ℕ) (o out : List ℕ) (r : Parts) → parting (partsPaper r) out ≡ partsWritten (blockOf (joinedFiles ns) pl p q n) o → (k : ℕ) → partsPaper r ≡ taken k
     → (ps : List FilePart) × (k ≡ length ps) × (out ≡ flat ps ++ drop (3 * k) o) × (placesOf (joinedFiles ns) ps ≡ run (p * pl + q) n) × Neat (joinedFiles ns) 0 ps
 block-covers ns pl p q n o out r c k t =
-    let b = block-parts ns pl p q n o (partsPaper r) out c k t in
+    let b = blocks.block-parts ns pl p q n o (partsPaper r) out c k t in
     let w = whole.block-covers (joinedFiles ns) pl (joined-laid ns pl) p q n (b .0) (b .1) in
     (b .0, b .2, b .3, w .bytes, w .neat)
 
@@ -413,21 +321,21 @@ pub block-exact : (ns : List ℕ) (pl p q n : ℕ) (o out : List ℕ) (r : Parts
     ↔ (Lawful pl ns (piecesOf (sum ns) pl) × (p < piecesOf (sum ns) pl) × (1 ≤ n) × (n ≤ 16384) × (q + n ≤ min pl (sum ns - p * pl))
     × (3 * length (partsOf (joinedFiles ns) (p * pl + q) n) ≤ length o))
 block-exact ns pl p q n o out r c = (
-  λ (k, t). block-taken ns pl p q n o (partsPaper r) out c k t,
-  λ h. let e = block-takes ns pl p q n o h in (e .0, ap (λ (x : Parting). x .answer) c ∙ e .1),
+  λ (k, t). blocks.block-taken ns pl p q n o (partsPaper r) out c k t,
+  λ h. let e = blocks.block-takes ns pl p q n o h in (e .0, ap (λ (x : Parting). x .answer) c ∙ e .1),
 )
 
 -- of torrent_blocks::piece_size: taken exactly when the numbers keep the rules and there is such a piece, and it is then the piece length, of the last piece what is left
 pub piece-size-exact : (ns : List ℕ) (pl p : ℕ) (r : Size) → sizePaper r ≡ sizeOf (joinedFiles ns) pl p → (k : ℕ)
     → sizePaper r ≡ taken k ↔ (Lawful pl ns (piecesOf (sum ns) pl) × (p < piecesOf (sum ns) pl) × (k ≡ min pl (sum ns - p * pl)))
-piece-size-exact ns pl p r c k = (λ e. size-taken ns pl p k (sym c ∙ e), λ h. c ∙ size-takes ns pl p k h)
+piece-size-exact ns pl p r c k = both-ways (same-answer c) (blocks.size-taken ns pl p k, blocks.size-takes ns pl p k)
 
 -- of torrent_blocks::byte: byte o of file f. Its piece and offset are its place in the joined content, and the block of that one byte is that byte of that file
 module _ (ns : List ℕ) (pl f o : ℕ) (r : Place) (c : placePaper r ≡ byteOf (joinedFiles ns) pl f o) where
   pub byte-finds-piece : (x : Spot) → placePaper r ≡ taken x
       → (x .piece * pl + x .offset ≡ sum (take f ns) + o) × (x .offset < pl) × (blockOf (joinedFiles ns) pl (x .piece) (x .offset) 1 ≡ taken (part f o 1 ∷ []))
-  byte-finds-piece x e = byte-found ns pl f o x (sym c ∙ e)
+  byte-finds-piece x e = blocks.byte-found ns pl f o x (sym c ∙ e)
 
   -- and every byte of every file has one
   pub byte-exact : ((x : Spot) × (placePaper r ≡ taken x)) ↔ (Lawful pl ns (piecesOf (sum ns) pl) × (f < length ns) × (o < getD ns f 0))
-  byte-exact = (λ (x, e). byte-taken ns pl f o x (sym c ∙ e), λ h. let e = byte-takes ns pl f o h in (e .0, c ∙ e .1))
+  byte-exact = both-ways (some-answer c) (λ (x, e). blocks.byte-taken ns pl f o x e, blocks.byte-takes ns pl f o)

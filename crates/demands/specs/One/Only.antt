@@ -31,8 +31,10 @@ use Rattle.yard_tables.specs.Tables.{Yard}
 use Rattle.yard_tables.specs.Step.{Call, step}
 use Rattle.yard_laws.specs.History.{History}
 use Rattle.demands.specs.Three.Program.{Made}
-use Rattle.demands.specs.Cited.Numbers as cited
-use Rattle.demands.specs.Cited.Only as only
+use Rattle.demands_laws.proofs.Contents as contents
+use Rattle.demands_laws.proofs.Writers as writers
+use Rattle.demands_laws.proofs.Digests as digests
+use Rattle.demands_laws.proofs.Only as only
 use Rattle.demands.specs.Cited.Reasons as reasons
 
 -- ---- texts: "1" to "8" of the table
@@ -50,7 +52,7 @@ torrent-no-other = only.torrent
 
 -- of torrent_metainfo::info_hash
 pub info-hash-no-other : (s o : List ℕ) (k p : ℕ) → infoHashOf s o .answer ≡ refused k p → In k (1 ∷ 2 ∷ 3 ∷ 4 ∷ 5 ∷ 6 ∷ 7 ∷ 8 ∷ 10 ∷ 11 ∷ 12 ∷ 13 ∷ [])
-info-hash-no-other s o k p e = only.torrent s k p (cited.info-hash-alike s o k p .0 e)
+info-hash-no-other s o k p e = only.torrent s k p (contents.info-hash-alike s o k p .0 e)
 
 -- of torrent_contents::file: a file's number too
 pub file-no-other : (s : List ℕ) (n k p : ℕ) → file.entryOf s n ≡ refused k p → In k (31 ∷ 1 ∷ 2 ∷ 3 ∷ 4 ∷ 5 ∷ 6 ∷ 7 ∷ 8 ∷ 10 ∷ 11 ∷ 12 ∷ 13 ∷ [])
@@ -66,11 +68,11 @@ piece-check-no-other = only.piece-check
 
 -- of torrent_authoring::write
 pub torrent-writer-no-other : (f : Fields) (o : List ℕ) (k p : ℕ) → author.writeOf f o .answer ≡ refused k p → In k (8 ∷ 11 ∷ 12 ∷ 13 ∷ 37 ∷ [])
-torrent-writer-no-other f o k p e = only.torrent-writer f o k (cited.torrent-written f o k p .0 e .0)
+torrent-writer-no-other f o k p e = only.torrent-writer f o k (writers.torrent-written f o k p .0 e .0)
 
 -- of torrent_authoring::size
 pub torrent-size-no-other : (f : Fields) (k p : ℕ) → author.sizeOf f ≡ refused k p → In k (8 ∷ 11 ∷ 12 ∷ 13 ∷ [])
-torrent-size-no-other f k p e = only.torrent-size f k (cited.torrent-sized f k p .0 e .0)
+torrent-size-no-other f k p e = only.torrent-size f k (writers.torrent-sized f k p .0 e .0)
 
 -- ---- replies: "After bencode, a dictionary (10) [..] failure reason (string, else 10) [..] interval (0 to 2^31-1, else 11), then peers [..] (15 if not a multiple
 -- of 6) [..] peer id (20 bytes, else 15), ip (string), port (0 to 65535, else 11)."
@@ -85,21 +87,21 @@ peer-no-other = only.peer
 
 -- of tracker::writing::write
 pub reply-writer-no-other : (interval : ℕ) (peers o : List ℕ) (k p : ℕ) → replyText interval peers o .answer ≡ refused k p → In k (8 ∷ 11 ∷ 15 ∷ 37 ∷ [])
-reply-writer-no-other interval peers o k p e = only.reply-writer interval peers o k (cited.reply-written interval peers o k p .0 e .0)
+reply-writer-no-other interval peers o k p e = only.reply-writer interval peers o k (writers.reply-written interval peers o k p .0 e .0)
 
 -- ---- digests: "piece to hash over 16,777,216"
 
 -- of hash_sha1::digest
 pub digest-no-other : (m o : List ℕ) (k p : ℕ) → digestOf m o .answer ≡ refused k p → k ≡ 8
-digest-no-other m o k p e = cited.digest-exactly m o k p .0 e .0
+digest-no-other m o k p e = digests.digest-exactly m o k p .0 e .0
 
 -- of hash_sha1::stream::finish
 pub finish-no-other : (s : Stream) (o : List ℕ) (k p : ℕ) → finishOf s o .answer ≡ refused k p → k ≡ 8
-finish-no-other = only.finish
+finish-no-other s o k p e = digests.finish-exactly s o k p .0 e .0
 
 -- of hash_sha1::agrees
 pub agrees-no-other : (m expected : List ℕ) (k p : ℕ) → agreementOf m expected ≡ refused k p → k ≡ 8
-agrees-no-other = only.agreement
+agrees-no-other m expected k p e = digests.agreement-exactly m expected k p .0 e .0
 
 -- ---- blocks: "Lent file lengths and a piece length that break a number rule for torrents are 11 at place 0, checked first. Checks: 31, 34, 37."
 
@@ -131,7 +133,7 @@ write-no-other rest o k p e = only.write rest o k p (write-exactly rest o (refus
 
 -- of the writers of `bencode_writer`, a keepalive, a handshake and the listing: bytes w put at a place
 pub put-no-other : (w : List ℕ) (at : ℕ) (o : List ℕ) (k p : ℕ) → putOf w at o .answer ≡ refused k p → k ≡ 37
-put-no-other w at o k p e = cited.put-exactly w at o k p .0 e .0
+put-no-other w at o k p e = writers.put-exactly w at o k p .0 e .0
 
 -- ---- the yard: "20", "21" and "30" to "38" of the table, after an accepted start and any calls
 

@@ -1,0 +1,16 @@
+-- The doors: what a user calls from Rattle, then what C calls. The files go by crate, and a call stands under its path.
+pub mod Bencode
+pub mod Walk
+pub mod Metainfo
+pub mod Contents
+pub mod Authoring
+pub mod Lines
+pub mod Tracker
+pub mod TrackerWriting
+pub mod Blocks
+pub mod Wire
+pub mod WireWriting
+pub mod Sha1
+pub mod HostTexts
+pub mod HostParts
+pub mod HostWriters

@@ -1,0 +1,101 @@
+-- Demand 1 of `wardrail`, for C: files, frames and blocks. Assumes nothing.
+use mathlib.Core.List.{List}
+use mathlib.Core.Path.{_≡_, sym, _∙_}
+use Prim.Native.Nat.{ℕ}
+use Rattle.peer_wire.specs.Frames.{readOf}
+use Rattle.peer_wire.specs.Handshake.{shakeOf}
+use Rattle.torrent_blocks.specs.Answers.{blockOf, partsWritten, byteOf, sizeOf}
+use Rattle.torrent_blocks.specs.Spans.{joinedFiles}
+use Rattle.torrent_metainfo.specs.Reading.{fileAt}
+use Rattle.torrent_contents.specs.Files.{entryOf}
+use Rattle.torrent_contents.specs.Paths.{elementOf}
+use Rattle.torrent_contents.specs.Pieces.{hashOf, checkOf}
+use Rattle.wardrail_rows.specs.Files.{fileDetail, walkedDetail, elementDetail, partDetail, yesDetail}
+use Rattle.wardrail_rows.specs.Frames.{frameDetail, shakeDetail}
+use Rattle.wardrail_rows.specs.Mapping.{spotDetail, Parted}
+use Rattle.wardrail_rows.specs.Said.{detailOf, Tells}
+use Rattle.wardrail_rows.proofs.Keeping as laws
+use Rattle.demands.specs.One.{Lent, now, Determined1, Determined2}
+
+-- wardrail::files::wardrail_file
+abbrev pub file-ensures : (text : Lent (List ℕ)) (number : ℕ) → ℕ → Lent (List ℕ) → Type 0
+file-ensures text number r detail =
+    Tells fileDetail (entryOf (now (text .entry)) number) r (now (detail .exit))
+
+pub file-determined : (text : Lent (List ℕ)) (number : ℕ) → Determined1 (file-ensures text number)
+file-determined text number detail r r′ detail₁ detail₂ e f = (e .0 ∙ sym (f .0), e .1 ∙ sym (f .1))
+
+-- wardrail::files::wardrail_file_at
+abbrev pub file-at-ensures : (text : Lent (List ℕ)) (at : ℕ) → ℕ → Lent (List ℕ) → Type 0
+file-at-ensures text at r detail =
+    Tells walkedDetail (fileAt (now (text .entry)) at) r (now (detail .exit))
+
+pub file-at-determined : (text : Lent (List ℕ)) (at : ℕ) → Determined1 (file-at-ensures text at)
+file-at-determined text at detail r r′ detail₁ detail₂ e f = (e .0 ∙ sym (f .0), e .1 ∙ sym (f .1))
+
+-- wardrail::files::wardrail_element_at
+abbrev pub element-at-ensures : (text : Lent (List ℕ)) (at : ℕ) → ℕ → Lent (List ℕ) → Type 0
+element-at-ensures text at r detail =
+    Tells elementDetail (elementOf (now (text .entry)) at) r (now (detail .exit))
+
+pub element-at-determined : (text : Lent (List ℕ)) (at : ℕ) → Determined1 (element-at-ensures text at)
+element-at-determined text at detail r r′ detail₁ detail₂ e f = (e .0 ∙ sym (f .0), e .1 ∙ sym (f .1))
+
+-- wardrail::files::wardrail_piece_hash
+abbrev pub piece-hash-ensures : (text : Lent (List ℕ)) (piece : ℕ) → ℕ → Lent (List ℕ) → Type 0
+piece-hash-ensures text piece r detail =
+    Tells partDetail (hashOf (now (text .entry)) piece) r (now (detail .exit))
+
+pub piece-hash-determined : (text : Lent (List ℕ)) (piece : ℕ) → Determined1 (piece-hash-ensures text piece)
+piece-hash-determined text piece detail r r′ detail₁ detail₂ e f = (e .0 ∙ sym (f .0), e .1 ∙ sym (f .1))
+
+-- wardrail::files::wardrail_piece_check
+abbrev pub piece-check-ensures : (text : Lent (List ℕ)) (piece : ℕ) (bytes : Lent (List ℕ)) → ℕ → Lent ℕ → Type 0
+piece-check-ensures text piece bytes r detail =
+    Tells yesDetail (checkOf (now (text .entry)) piece (now (bytes .entry))) r (now (detail .exit))
+
+pub piece-check-determined : (text : Lent (List ℕ)) (piece : ℕ) (bytes : Lent (List ℕ)) → Determined1 (piece-check-ensures text piece bytes)
+piece-check-determined text piece bytes detail r r′ detail₁ detail₂ e f = (e .0 ∙ sym (f .0), e .1 ∙ sym (f .1))
+
+-- wardrail::frames::wardrail_frame
+abbrev pub frame-ensures : (bytes : Lent (List ℕ)) → ℕ → Lent (List ℕ) → Type 0
+frame-ensures bytes r detail =
+    Tells frameDetail (readOf (now (bytes .entry))) r (now (detail .exit))
+
+pub frame-determined : (bytes : Lent (List ℕ)) → Determined1 (frame-ensures bytes)
+frame-determined bytes detail r r′ detail₁ detail₂ e f = (e .0 ∙ sym (f .0), e .1 ∙ sym (f .1))
+
+-- wardrail::frames::wardrail_handshake
+abbrev pub handshake-ensures : (bytes info : Lent (List ℕ)) → ℕ → Lent (List ℕ) → Type 0
+handshake-ensures bytes info r detail =
+    Tells shakeDetail (shakeOf (now (info .entry)) (now (bytes .entry))) r (now (detail .exit))
+
+pub handshake-determined : (bytes info : Lent (List ℕ)) → Determined1 (handshake-ensures bytes info)
+handshake-determined bytes info detail r r′ detail₁ detail₂ e f = (e .0 ∙ sym (f .0), e .1 ∙ sym (f .1))
+
+-- wardrail::mapping::wardrail_block
+abbrev pub block-ensures : (lengths : Lent (List ℕ)) («piece_length» piece offset count : ℕ) → ℕ → Lent (List ℕ) → Lent ℕ → Type 0
+block-ensures lengths «piece_length» piece offset count r out detail =
+    Parted (partsWritten (blockOf (joinedFiles (now (lengths .entry))) «piece_length» piece offset count) (now (out .entry))) r (now (detail .exit)) (now (out .exit))
+
+pub block-determined : (lengths : Lent (List ℕ)) («piece_length» piece offset count : ℕ) → Determined2 (block-ensures lengths «piece_length» piece offset count)
+block-determined lengths «piece_length» piece offset count out detail r r′ out₁ out₂ detail₁ detail₂ e f = (e .0 ∙ sym (f .0), e .2 ∙ sym (f .2), e .1 ∙ sym (f .1))
+
+pub block-keeps : (lengths : Lent (List ℕ)) («piece_length» piece offset count : ℕ) → (r : ℕ) (out : Lent (List ℕ)) (detail : Lent ℕ) → block-ensures lengths «piece_length» piece offset count r out detail → (r ≡ 0 → ⊥) → now (out .exit) ≡ now (out .entry)
+block-keeps lengths «piece_length» piece offset count r out detail e k = laws.block-keeps (now (lengths .entry)) «piece_length» piece offset count (now (out .entry)) r (now (detail .exit)) (now (out .exit)) e k
+
+-- wardrail::mapping::wardrail_byte
+abbrev pub byte-ensures : (lengths : Lent (List ℕ)) («piece_length» file offset : ℕ) → ℕ → Lent (List ℕ) → Type 0
+byte-ensures lengths «piece_length» file offset r detail =
+    Tells spotDetail (byteOf (joinedFiles (now (lengths .entry))) «piece_length» file offset) r (now (detail .exit))
+
+pub byte-determined : (lengths : Lent (List ℕ)) («piece_length» file offset : ℕ) → Determined1 (byte-ensures lengths «piece_length» file offset)
+byte-determined lengths «piece_length» file offset detail r r′ detail₁ detail₂ e f = (e .0 ∙ sym (f .0), e .1 ∙ sym (f .1))
+
+-- wardrail::mapping::wardrail_piece_size
+abbrev pub piece-size-ensures : (lengths : Lent (List ℕ)) («piece_length» piece : ℕ) → ℕ → Lent ℕ → Type 0
+piece-size-ensures lengths «piece_length» piece r detail =
+    Tells detailOf (sizeOf (joinedFiles (now (lengths .entry))) «piece_length» piece) r (now (detail .exit))
+
+pub piece-size-determined : (lengths : Lent (List ℕ)) («piece_length» piece : ℕ) → Determined1 (piece-size-ensures lengths «piece_length» piece)
+piece-size-determined lengths «piece_length» piece detail r r′ detail₁ detail₂ e f = (e .0 ∙ sym (f .0), e .1 ∙ sym (f .1))

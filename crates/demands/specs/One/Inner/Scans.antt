@@ -1,0 +1,58 @@
+-- Demand 1 of `yard_scans`: one seat taken out or put back, and the passes over all. Assumes nothing.
+use mathlib.Core.Bool.{Bool, cond}
+use mathlib.Core.List.{List}
+use mathlib.Core.Path.{_≡_, sym, _∙_, refl}
+use Prim.Native.Nat.{ℕ}
+use lib.ListN.{getD, set, length, replicate}
+use lib.Seq.{sets}
+use Rattle.yard_tables.specs.Looks.{pageOf, linesOf}
+use Rattle.yard_tables.specs.Seating.{lowestFree}
+use Rattle.yard_tables.specs.Seats.{cleared}
+use Rattle.yard_tables.specs.declared.Page.{Page}
+use Rattle.yard_tables.specs.declared.Seat.{Seat}
+use Rattle.yard_scans.specs.Pages.{asLines}
+use Rattle.yard_scans.specs.declared.Asked.{Asked}
+use Rattle.demands.specs.One.{Lent, now, Determined, Determined1}
+
+-- yard_scans::seat_get
+abbrev pub seat-get-ensures : (seats : Lent (List Seat)) (i : ℕ) → Seat → Type 0
+seat-get-ensures seats i r = r ≡ getD (now (seats .entry)) i cleared
+
+pub seat-get-determined : (seats : Lent (List Seat)) (i : ℕ) → Determined (seat-get-ensures seats i)
+seat-get-determined seats i r r′ e f = e ∙ sym f
+
+-- yard_scans::seat_set
+abbrev pub seat-set-ensures : (i : ℕ) (s : Seat) → Unit {0} → Lent (List Seat) → Type 0
+seat-set-ensures i s r seats = now (seats .exit) ≡ set (now (seats .entry)) i s
+
+pub seat-set-determined : (i : ℕ) (s : Seat) → Determined1 (seat-set-ensures i s)
+seat-set-determined i s seats r r′ seats₁ seats₂ e f = (refl, e ∙ sym f)
+
+-- it refuses nothing
+
+-- yard_scans::lowest_free
+abbrev pub lowest-free-ensures : (seats : Lent (List Seat)) → ℕ → Type 0
+lowest-free-ensures seats r = r ≡ lowestFree (now (seats .entry))
+
+pub lowest-free-determined : (seats : Lent (List Seat)) → Determined (lowest-free-ensures seats)
+lowest-free-determined seats r r′ e f = e ∙ sym f
+
+-- yard_scans::clear_seats
+abbrev pub clear-seats-ensures : (on : Bool) → Unit {0} → Lent (List Seat) → Type 0
+clear-seats-ensures on r seats = now (seats .exit) ≡ cond on (replicate (length (now (seats .entry))) cleared) (now (seats .entry))
+
+pub clear-seats-determined : (on : Bool) → Determined1 (clear-seats-ensures on)
+clear-seats-determined on seats r r′ seats₁ seats₂ e f = (refl, e ∙ sym f)
+
+-- it refuses nothing
+
+-- yard_scans::list_missing
+abbrev pub list-missing-ensures : (seats : Lent (List Seat)) (asked : Asked) → Page → Lent (List ℕ) → Type 0
+list-missing-ensures seats asked r page =
+    (r ≡ pageOf (asked .pieces) (asked .first) (asked .lines) (now (seats .entry)))
+    × (now (page .exit) ≡ sets (now (page .entry)) 0 (asLines (linesOf (asked .pieces) (asked .first) (asked .lines) (now (seats .entry)))))
+
+pub list-missing-determined : (seats : Lent (List Seat)) (asked : Asked) → Determined1 (list-missing-ensures seats asked)
+list-missing-determined seats asked page r r′ page₁ page₂ e f = (e .0 ∙ sym (f .0), e .1 ∙ sym (f .1))
+
+-- it refuses nothing

@@ -1,0 +1,157 @@
+-- The number of a refusal is one of a list, call by call. Assumes nothing.
+use mathlib.Core.Path.{_≡_, refl}
+use mathlib.Core.Logic.{inl, inr, ⊎-elim}
+use mathlib.Core.List.{List, [], _∷_, _++_, List·Memᴰ·head, List·Memᴰ·tail, Memᴰ·append-left, Memᴰ·append-right}
+use mathlib.Core.List.{List·Memᴰ as In}
+use Prim.Native.Nat.{ℕ, zero, suc, _+_, _≤_, _<_}
+use native.Mathlib.Omega.{arith}
+use Rattle.refusal.specs.Paper.{taken, refused, map, then}
+use Rattle.bencode.specs.Value as value
+use Rattle.bencode.specs.Decode.{decode}
+use Rattle.bencode.specs.Answers.{checkOf}
+use Rattle.bencode_laws.proofs.Laws as bencode
+use Rattle.torrent_blocks.specs.Spans.{Span}
+use Rattle.torrent_blocks.specs.Covers.{run, BlockCause, block-range, block-beyond, block-outside, block-room, ByteCause, byte-range, byte-beyond, byte-outside, SizeCause, size-range, size-beyond}
+use Rattle.peer_wire.specs.Causes.{ShakeCause, WriteCause}
+use Rattle.peer_wire.specs.Causes.{Cause as FrameCause}
+use Rattle.tracker.specs.Reply.{replyOf, counted, nthOf}
+use Rattle.tracker.specs.Faults as faults
+use Rattle.torrent_metainfo.specs.Reading.{readOf}
+use Rattle.torrent_metainfo.specs.declared.Torrent.{Torrent}
+use Rattle.torrent_authoring.specs.Writing.{Fields}
+use Rattle.torrent_authoring.specs.Rules as rules
+use Rattle.torrent_laws.proofs.Laws as torrents
+use Rattle.torrent_contents.specs.Pieces.{hashIn, hashOf}
+use Rattle.torrent_contents.specs.Pieces.{checkOf as pieceOf}
+use Rattle.torrent_contents.specs.Files as file
+use Rattle.refusal.proofs.Cases.{same-or}
+use Rattle.demands_laws.proofs.Refusals.{map-refused, then-refused}
+use Rattle.demands_laws.specs.Causes.{NoReplyText, Unchecked, no-such-piece, long-piece, wrong-length, Unsized, broken, over}
+use Rattle.demands_laws.proofs.Contents.{in-hash, check-exactly, file-alike}
+use Rattle.demands_laws.proofs.Replies.{peer-alike, reply-law, reply-ours}
+
+abbrev ofBencode : List ℕ
+ofBencode = 1 ∷ 2 ∷ 3 ∷ 4 ∷ 5 ∷ 6 ∷ 7 ∷ 8 ∷ []
+
+abbrev ofTorrent : List ℕ
+ofTorrent = ofBencode ++ (10 ∷ 11 ∷ 12 ∷ 13 ∷ [])
+
+abbrev ofReply : List ℕ
+ofReply = ofBencode ++ (10 ∷ 11 ∷ 15 ∷ [])
+
+-- n numbers from a on
+in-run : (a n k : ℕ) → a ≤ k → k < a + n → In k (run a n)
+unfolding run
+in-run a zero k l h = absurd (omega arith)
+in-run a (suc n) k l h = same-or k a (λ e. List·Memᴰ·head e) (λ (f : k ≡ a → ⊥). List·Memᴰ·tail (in-run (suc a) n k (omega arith) (omega arith)))
+
+among-bencode : (k : ℕ) → 1 ≤ k → k ≤ 8 → In k ofBencode
+unfolding run
+among-bencode k l h = in-run 1 8 k l (omega arith)
+
+among-torrent : (k : ℕ) → 10 ≤ k → k ≤ 13 → In k (10 ∷ 11 ∷ 12 ∷ 13 ∷ [])
+unfolding run
+among-torrent k l h = in-run 10 4 k l (omega arith)
+
+decoded : (s : List ℕ) (k p : ℕ) → decode s ≡ refused k p → In k ofBencode
+decoded s k p e = let o = bencode.none-other s k p e in among-bencode k (o .0) (o .1)
+
+pub check : (s : List ℕ) (k p : ℕ) → checkOf s ≡ refused k p → In k ofBencode
+check s k p e = decoded s k p (map-refused value.count (decode s) k p .0 e)
+
+pub torrent : (s : List ℕ) (k p : ℕ) → readOf s ≡ refused k p → In k ofTorrent
+torrent s k p e = ⊎-elim
+    (λ (h : (1 ≤ k) × (k ≤ 8)). Memᴰ·append-left (10 ∷ 11 ∷ 12 ∷ 13 ∷ []) (among-bencode k (h .0) (h .1)))
+    (λ (h : (10 ≤ k) × (k ≤ 13)). Memᴰ·append-right ofBencode (among-torrent k (h .0) (h .1)))
+    (torrents.none-other s k p e)
+
+pub reply : (s : List ℕ) (k p : ℕ) → map counted (replyOf s) ≡ refused k p → In k ofReply
+reply s k p e = ⊎-elim
+    (λ (h : decode s ≡ refused k p). Memᴰ·append-left (10 ∷ 11 ∷ 15 ∷ []) (decoded s k p h))
+    (λ (h : NoReplyText s k p). Memᴰ·append-right ofBencode (reply-ours (h .0) k p (h .2)))
+    (reply-law s k p .0 e)
+
+-- as another call, or 31
+beyond-or : (ns : List ℕ) (k : ℕ) → ((k ≡ 31 → ⊥) → In k ns) → In k (31 ∷ ns)
+beyond-or ns k f = same-or k 31 (λ e. List·Memᴰ·head e) (λ n. List·Memᴰ·tail (f n))
+
+pub file-entry : (s : List ℕ) (n k p : ℕ) → file.entryOf s n ≡ refused k p → In k (31 ∷ ofTorrent)
+file-entry s n k p e = beyond-or ofTorrent k (λ l. torrent s k p (file-alike s n k p l .0 e))
+
+pub piece-hash : (s : List ℕ) (n k p : ℕ) → hashOf s n ≡ refused k p → In k (31 ∷ ofTorrent)
+piece-hash s n k p e = ⊎-elim
+    (λ (h : readOf s ≡ refused k p). List·Memᴰ·tail (torrent s k p h))
+    (λ (h : (t : Torrent) × (readOf s ≡ taken t) × (hashIn n t ≡ refused k p)). List·Memᴰ·head (in-hash (h .0) n k p .0 (h .2) .0))
+    (then-refused (readOf s) (hashIn n) k p .0 e)
+
+unchecked : (t : Torrent) (n : ℕ) (m : List ℕ) (k : ℕ) → Unchecked t n m k → In k (31 ∷ 34 ∷ ofTorrent)
+unchecked t n m k (no-such-piece l) = List·Memᴰ·head refl
+unchecked t n m k (long-piece l h) = List·Memᴰ·tail (List·Memᴰ·tail (Memᴰ·append-left (10 ∷ 11 ∷ 12 ∷ 13 ∷ []) (among-bencode 8 (omega arith) (omega arith))))
+unchecked t n m k (wrong-length l h g) = List·Memᴰ·tail (List·Memᴰ·head refl)
+
+pub piece-check : (s : List ℕ) (n : ℕ) (m : List ℕ) (k p : ℕ) → pieceOf s n m ≡ refused k p → In k (31 ∷ 34 ∷ ofTorrent)
+piece-check s n m k p e = ⊎-elim
+    (λ (h : readOf s ≡ refused k p). List·Memᴰ·tail (List·Memᴰ·tail (torrent s k p h)))
+    (λ (h : (t : Torrent) × (readOf s ≡ taken t) × Unchecked t n m k × (p ≡ 0)). unchecked (h .0) n m k (h .2))
+    (check-exactly s n m k p .0 e)
+
+pub peer : (s : List ℕ) (n k p : ℕ) → then (replyOf s) (nthOf n) ≡ refused k p → In k (31 ∷ ofReply)
+peer s n k p e = beyond-or ofReply k (λ l. reply s k p (peer-alike s n k p l .0 e))
+
+-- ---- blocks
+
+module _ (files : List Span) (pl : ℕ) where
+  pub block : (p o n room k : ℕ) → BlockCause files pl p o n room k → In k (11 ∷ 31 ∷ 34 ∷ 37 ∷ [])
+  block p o n room k (block-range h) = List·Memᴰ·head refl
+  block p o n room k (block-beyond f h) = List·Memᴰ·tail (List·Memᴰ·head refl)
+  block p o n room k (block-outside f g h) = List·Memᴰ·tail (List·Memᴰ·tail (List·Memᴰ·head refl))
+  block p o n room k (block-room f g h i) = List·Memᴰ·tail (List·Memᴰ·tail (List·Memᴰ·tail (List·Memᴰ·head refl)))
+
+  pub byte : (f o k : ℕ) → ByteCause files pl f o k → In k (11 ∷ 31 ∷ 34 ∷ [])
+  byte f o k (byte-range h) = List·Memᴰ·head refl
+  byte f o k (byte-beyond g h) = List·Memᴰ·tail (List·Memᴰ·head refl)
+  byte f o k (byte-outside g h i) = List·Memᴰ·tail (List·Memᴰ·tail (List·Memᴰ·head refl))
+
+  pub piece-size : (p k : ℕ) → SizeCause files pl p k → In k (11 ∷ 31 ∷ [])
+  piece-size p k (size-range h) = List·Memᴰ·head refl
+  piece-size p k (size-beyond f h) = List·Memᴰ·tail (List·Memᴰ·head refl)
+
+-- ---- frames and handshakes
+
+pub frame : (s : List ℕ) (k p : ℕ) → FrameCause s (refused k p) → In k (20 ∷ 21 ∷ [])
+frame s k p (inl h, z) = List·Memᴰ·head (h .0)
+frame s k p (inr h, z) = List·Memᴰ·tail (List·Memᴰ·head (h .0))
+
+pub handshake : (info s : List ℕ) (k p : ℕ) → ShakeCause info s (refused k p) → In k (22 ∷ 23 ∷ [])
+handshake info s k p (inl h, z) = List·Memᴰ·head (h .0)
+handshake info s k p (inr h, z) = List·Memᴰ·tail (List·Memᴰ·head (h .0))
+
+pub write : (rest o : List ℕ) (k p : ℕ) → WriteCause rest o (refused k p) → In k (20 ∷ 21 ∷ 37 ∷ [])
+write rest o k p (inl h, z) = List·Memᴰ·head (h .0)
+write rest o k p (inr (inl h), z) = List·Memᴰ·tail (List·Memᴰ·head (h .0))
+write rest o k p (inr (inr h), z) = List·Memᴰ·tail (List·Memᴰ·tail (List·Memᴰ·head (h .0)))
+
+-- ---- the writers of texts
+
+pub reply-writer : (n : ℕ) (bs o : List ℕ) (k : ℕ) → faults.NotWritten n bs o k → In k (8 ∷ 11 ∷ 15 ∷ 37 ∷ [])
+reply-writer n bs o k (faults.too-late h) = List·Memᴰ·tail (List·Memᴰ·head refl)
+reply-writer n bs o k (faults.not-sixes a h) = List·Memᴰ·tail (List·Memᴰ·tail (List·Memᴰ·head refl))
+reply-writer n bs o k (faults.too-long a b h) = List·Memᴰ·head refl
+reply-writer n bs o k (faults.no-room a b c h) = List·Memᴰ·tail (List·Memᴰ·tail (List·Memᴰ·tail (List·Memᴰ·head refl)))
+
+module _ (f : Fields) where
+  rule : (k : ℕ) → rules.Broken f k → In k (11 ∷ 12 ∷ 13 ∷ [])
+  rule k (rules.bad-name a) = List·Memᴰ·tail (List·Memᴰ·tail (List·Memᴰ·head refl))
+  rule k (rules.bad-piece a b) = List·Memᴰ·head refl
+  rule k (rules.bad-file a b c) = List·Memᴰ·head refl
+  rule k (rules.bad-total a b c d) = List·Memᴰ·head refl
+  rule k (rules.bad-pieces a b c d e) = List·Memᴰ·tail (List·Memᴰ·head refl)
+
+  pub torrent-writer : (o : List ℕ) (k : ℕ) → rules.NotWritten f o k → In k (8 ∷ 11 ∷ 12 ∷ 13 ∷ 37 ∷ [])
+  torrent-writer o k (rules.broken b) = List·Memᴰ·tail (Memᴰ·append-left (37 ∷ []) (rule k b))
+  torrent-writer o k (rules.too-long h l) = List·Memᴰ·head refl
+  torrent-writer o k (rules.no-room h l r) = List·Memᴰ·tail (List·Memᴰ·tail (List·Memᴰ·tail (List·Memᴰ·tail (List·Memᴰ·head refl))))
+
+  pub torrent-size : (k : ℕ) → Unsized f k → In k (8 ∷ 11 ∷ 12 ∷ 13 ∷ [])
+  torrent-size k (broken b) = List·Memᴰ·tail (rule k b)
+  torrent-size k (over h l) = List·Memᴰ·head refl

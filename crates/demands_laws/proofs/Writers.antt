@@ -1,0 +1,69 @@
+-- Writers: when each number is given. Assumes nothing.
+use mathlib.Core.Path.{_≡_, refl, sym, ap, subst, _∙_}
+use mathlib.Core.Logic.{_↔_}
+use mathlib.Core.List.{List}
+use Prim.Native.Nat.{ℕ, _+_, _%_, _<_}
+use native.Mathlib.Omega.{arith}
+use borrow.Author.Tests.{lt-ltb, le-ltb}
+use lib.ListN.{length}
+use Rattle.refusal.specs.Paper.{Outcome, refused}
+use Rattle.refusal.specs.Limits.{mostText, longestInterval}
+use Rattle.bencode_writer.specs.Put.{Left, left, putOf}
+use Rattle.bencode_writer.specs.declared.Put.the-variants.{Refused}
+use Rattle.bencode_writer.proofs.Laws.{put-none, refusal-keeps}
+use Rattle.tracker.specs.Writing.{textOf}
+use Rattle.tracker.specs.Writing.{writeOf as replyText}
+use Rattle.tracker.specs.Faults.{NotWritten, too-late, not-sixes, too-long, no-room}
+use Rattle.tracker.proofs.Rewriting as replies
+use Rattle.torrent_authoring.specs.Writing as author
+use Rattle.torrent_authoring.specs.Rules as rules
+use Rattle.torrent_authoring.proofs.Written as torrents
+use Rattle.torrent_authoring.proofs.Ruling.{size-ruled, ruled-broken, limited}
+use Rattle.torrent_authoring.proofs.Steps.{SizeCase, size-not, size-over, size-fine, size-cases, size-is-long}
+use Rattle.refusal.proofs.Outcomes.{not-refused, same-refusal}
+use Rattle.demands_laws.proofs.Refusals.{refusal-is}
+use Rattle.demands_laws.specs.Causes.{Unsized, broken, over}
+
+-- bytes put into lent output
+pub put-exactly : (w : List ℕ) (at : ℕ) (o : List ℕ) (n p : ℕ) → putOf w at o .answer ≡ refused n p ↔ ((n ≡ 37) × (length o < at + length w) × (p ≡ 0))
+put-exactly w at o n p = (
+  λ e. let k = refusal-keeps w at o (Refused (record { number = n; place = p })) (ap (λ (a : Outcome ℕ). left a (putOf w at o .out)) (sym e)) refl in (k .0 .0, k .0 .2, k .0 .1),
+  λ h. ap (λ (l : Left). l .answer) (put-none w at o (h .1)) ∙ refusal-is (sym (h .0)) (sym (h .2)),
+)
+
+-- the reply writer
+reply-not : (n : ℕ) (bs o : List ℕ) (k : ℕ) → NotWritten n bs o k → replyText n bs o .answer ≡ refused k 0
+unfolding replyText
+reply-not n bs o k (too-late h) = rw (lt-ltb longestInterval n h)
+reply-not n bs o k (not-sixes a h) = rw (le-ltb longestInterval n a, lt-ltb 0 (length bs % 6) h)
+reply-not n bs o k (too-long a b h) = rw (le-ltb longestInterval n a, le-ltb 0 (length bs % 6) (omega arith), lt-ltb mostText (length (textOf n bs)) h)
+reply-not n bs o k (no-room a b c h) =
+    let g : length o < 0 + length (textOf n bs) = omega arith in
+    rw (le-ltb longestInterval n a, le-ltb 0 (length bs % 6) (omega arith), le-ltb mostText (length (textOf n bs)) c) (ap (λ (l : Left). l .answer) (put-none (textOf n bs) 0 o g))
+
+pub reply-written : (n : ℕ) (bs o : List ℕ) (k p : ℕ) → replyText n bs o .answer ≡ refused k p ↔ (NotWritten n bs o k × (p ≡ 0))
+reply-written n bs o k p = (
+  λ e. let h = replies.refusal-keeps n bs o (Refused (record { number = k; place = p })) (ap (λ (a : Outcome ℕ). left a (replyText n bs o .out)) (sym e)) k p refl in (h .1, h .0),
+  λ h. reply-not n bs o k (h .0) ∙ refusal-is refl (sym (h .1)),
+)
+
+-- ---- the torrent writer, and the size that it asks for
+
+module _ (f : author.Fields) where
+  pub torrent-written : (o : List ℕ) (n p : ℕ) → author.writeOf f o .answer ≡ refused n p ↔ (rules.NotWritten f o n × (p ≡ 0))
+  torrent-written o n p = (
+    λ e. let h = torrents.refusal-keeps f o (Refused (record { number = n; place = p })) (ap (λ (a : Outcome ℕ). left a (author.writeOf f o .out)) (sym e)) n p refl in (h .1, h .0),
+    λ h. ap (λ (l : Left). l .answer) (torrents.refused-every f o n (h .0)) ∙ refusal-is refl (sym (h .1)),
+  )
+
+  pub torrent-sized : (n p : ℕ) → author.sizeOf f ≡ refused n p ↔ (Unsized f n × (p ≡ 0))
+  torrent-sized n p = (λ e. only (author.sizeOf f) (size-cases f) e, λ h. every n (h .0) ∙ refusal-is refl (sym (h .1)))
+    where
+      only : (o : Outcome ℕ) → SizeCase f o → o ≡ refused n p → Unsized f n × (p ≡ 0)
+      only o (size-not m b) e = let s = same-refusal {A = ℕ} {m = m} {n = n} {p = 0} {q = p} e in (subst (Unsized f) (s .0) (broken b), sym (s .1))
+      only o (size-over h l) e = let s = same-refusal {A = ℕ} {m = 8} {n = n} {p = 0} {q = p} e in (subst (Unsized f) (s .0) (over h l), sym (s .1))
+      only o (size-fine h l) e = not-refused e
+
+      every : (n : ℕ) → Unsized f n → author.sizeOf f ≡ refused n 0
+      every n (broken b) = size-ruled f ∙ ruled-broken f (limited f) b
+      every n (over h l) = size-is-long f h l
