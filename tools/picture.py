@@ -103,9 +103,9 @@ def line(boxes, below, above, shade):
     """From the right side of the one to the left side of the other, below the row where a box stands between; a post is met straight on."""
     x, y = boxes[below][0] + boxes[below][2], middle(boxes[below])
     u, v = boxes[above][0], middle(boxes[above])
-    if boxes[below][3] > HIGH:
-        y = v if boxes[above][3] == HIGH else TOP + 4
-    if boxes[above][3] > HIGH:
+    if boxes[below][3] > HIGH and boxes[above][3] == HIGH:
+        y = v
+    elif boxes[above][3] > HIGH:
         v = y
     between = any(x <= left < u and middle(b) == y for b in boxes.values() for left in [b[0]])
     if y == v and between:
