@@ -3,7 +3,7 @@
 -- A text is a list of bytes. An outcome is `taken` with what is handed back, or `refused` with number and place.
 -- `Encodes s v`: the bytes s are the value v as BEP 3 writes it, and v keeps document 01's limits (demands_laws/specs/Texts). Where parts stand: demands_laws/specs/Places.
 use mathlib.Core.Path.{_≡_, sym, ap, _∙_}
-use mathlib.Core.Logic.{_⊎_, _↔_}
+use mathlib.Core.Logic.{_⊎_, _↔_, Iff·trans}
 use mathlib.Core.Bool.{true, false, cond}
 use mathlib.Core.List.{List, [], _∷_, _++_}
 use Prim.Native.Nat.{ℕ, _+_, _-_, _*_, _≤_, _<_, min}
@@ -81,7 +81,7 @@ use Rattle.tracker.proofs.Numbering.{entries-said}
 use Rattle.tracker.proofs.Walking.{walked}
 use Rattle.demands_laws.specs.Texts.{Encodes, noFile, IsPiece, Agrees}
 use Rattle.demands_laws.specs.Places.{PartUnder, FilesPlaced, ReplyPlaced}
-use Rattle.demands_laws.proofs.Refusals.{both-ways, same-answer, some-answer}
+use Rattle.demands_laws.proofs.Refusals.{same-answer, some-answer}
 use Rattle.demands_laws.proofs.Texts as texts
 use Rattle.demands_laws.proofs.Texts.{fine}
 use Rattle.demands_laws.proofs.Places as places
@@ -96,7 +96,7 @@ use Rattle.demands_laws.proofs.Blocks as blocks
 -- of bencode::check
 module _ (s : List ℕ) (r : Checked) (c : countPaper r ≡ checkOf s) where
   pub decode-exact : (n : ℕ) → countPaper r ≡ taken n ↔ ((v : Value) × Encodes s v × (count v ≡ n))
-  decode-exact n = both-ways (same-answer c) (texts.count-exact s n)
+  decode-exact n = Iff·trans (same-answer c) (texts.count-exact s n)
 
 -- and a text is the encoding of one value at most
 pub one-value : (s : List ℕ) (v w : Value) → Encodes s v → Encodes s w → v ≡ w
@@ -107,7 +107,7 @@ one-value = texts.one-value
 -- of torrent_metainfo::read
 module _ (s : List ℕ) (r : Reading) (c : torrentPaper r ≡ torrentRead s) where
   pub torrent-exact : ((x : Torrent) × (torrentPaper r ≡ taken x)) ↔ ((v : Value) × (t : TorrentSays) × Encodes s v × IsTorrent v t)
-  torrent-exact = both-ways (some-answer c) (texts.torrent-exact s)
+  torrent-exact = Iff·trans (some-answer c) (texts.torrent-exact s)
 
   -- and the fields handed back are that value's: strings as the very part of the text, info as its dictionary is written, and the files one by one
   pub torrent-fields : (x : Torrent) → torrentPaper r ≡ taken x → (v : Value) (t : TorrentSays) → Encodes s v → IsTorrent v t
@@ -178,7 +178,7 @@ torrent-says-one s v t u e i j = said.said-determined v 32 t u (e .1) i j
 -- of tracker::read
 module _ (s : List ℕ) (r : Reply) (c : replyPaper r ≡ map counted (replyOf s)) where
   pub reply-exact : ((x : Answer ℕ) × (replyPaper r ≡ taken x)) ↔ ((v : Value) × (t : ReplySays) × Encodes s v × IsReply v t)
-  reply-exact = both-ways (some-answer c) (texts.reply-exact s)
+  reply-exact = Iff·trans (some-answer c) (texts.reply-exact s)
 
   -- and what is handed back is that value's: why it failed, or the seconds and as many entries as it has; from the first entry's place on they can be
   -- walked in order, and tracker::peer gives each by its number
@@ -298,10 +298,10 @@ piece-hash-place s n r c y t x e = pieces.hash-placed s n y t x (sym c ∙ e)
 -- no exactly when all of this holds but the last
 module _ (s : List ℕ) (n : ℕ) (m : List ℕ) (r : piece.Checked) (c : checkPaper r ≡ pieceOf s n m) where
   pub piece-check : checkPaper r ≡ taken true ↔ ((v : Value) × (t : TorrentSays) × Encodes s v × IsTorrent v t × IsPiece n m t × Agrees n m t)
-  piece-check = both-ways (same-answer c) (pieces.yes-exactly s n m)
+  piece-check = Iff·trans (same-answer c) (pieces.yes-exactly s n m)
 
   pub piece-check-no : checkPaper r ≡ taken false ↔ ((v : Value) × (t : TorrentSays) × Encodes s v × IsTorrent v t × IsPiece n m t × (Agrees n m t → ⊥))
-  piece-check-no = both-ways (same-answer c) (pieces.no-exactly s n m)
+  piece-check-no = Iff·trans (same-answer c) (pieces.no-exactly s n m)
 
 -- ---- 9. "Blocks map to file parts exactly."
 
@@ -328,7 +328,7 @@ block-exact ns pl p q n o out r c = (
 -- of torrent_blocks::piece_size: taken exactly when the numbers keep the rules and there is such a piece, and it is then the piece length, of the last piece what is left
 pub piece-size-exact : (ns : List ℕ) (pl p : ℕ) (r : Size) → sizePaper r ≡ sizeOf (joinedFiles ns) pl p → (k : ℕ)
     → sizePaper r ≡ taken k ↔ (Lawful pl ns (piecesOf (sum ns) pl) × (p < piecesOf (sum ns) pl) × (k ≡ min pl (sum ns - p * pl)))
-piece-size-exact ns pl p r c k = both-ways (same-answer c) (blocks.size-taken ns pl p k, blocks.size-takes ns pl p k)
+piece-size-exact ns pl p r c k = Iff·trans (same-answer c) (blocks.size-taken ns pl p k, blocks.size-takes ns pl p k)
 
 -- of torrent_blocks::byte: byte o of file f. Its piece and offset are its place in the joined content, and the block of that one byte is that byte of that file
 module _ (ns : List ℕ) (pl f o : ℕ) (r : Place) (c : placePaper r ≡ byteOf (joinedFiles ns) pl f o) where
@@ -338,4 +338,4 @@ module _ (ns : List ℕ) (pl f o : ℕ) (r : Place) (c : placePaper r ≡ byteOf
 
   -- and every byte of every file has one
   pub byte-exact : ((x : Spot) × (placePaper r ≡ taken x)) ↔ (Lawful pl ns (piecesOf (sum ns) pl) × (f < length ns) × (o < getD ns f 0))
-  byte-exact = both-ways (some-answer c) (λ (x, e). blocks.byte-taken ns pl f o x e, blocks.byte-takes ns pl f o)
+  byte-exact = Iff·trans (some-answer c) (λ (x, e). blocks.byte-taken ns pl f o x e, blocks.byte-takes ns pl f o)

@@ -1,6 +1,6 @@
 -- What a torrent holds, by number: when each number is given. Assumes nothing.
 use mathlib.Core.Path.{_≡_, refl, sym, ap, subst, _∙_}
-use mathlib.Core.Logic.{_⊎_, inl, inr, ⊎-elim, _↔_}
+use mathlib.Core.Logic.{_⊎_, inl, inr, ⊎-elim, _↔_, Iff·trans}
 use mathlib.Core.Bool.{Bool, true, false}
 use mathlib.Core.List.{List}
 use Prim.Native.Nat.{ℕ, suc, _+_, _≤_, _<_}
@@ -28,7 +28,7 @@ use Rattle.torrent_contents.proofs.Numbering as numbering
 use Rattle.torrent_contents.proofs.Hashing.{hash-there, hash-beyond, check-beyond, check-long, check-outside, check-agreed}
 use Rattle.refusal.proofs.Cases.{less-or}
 use Rattle.refusal.proofs.Outcomes.{not-refused, same-refusal}
-use Rattle.demands_laws.proofs.Refusals.{both-ways, first-of, second-of, refusal-is, then-refused}
+use Rattle.demands_laws.proofs.Refusals.{first-of, second-of, refusal-is, then-refused}
 use Rattle.demands_laws.specs.Causes.{Unchecked, no-such-piece, long-piece, wrong-length}
 
 torrent-number : (s : List ℕ) (n p : ℕ) → readOf s ≡ refused n p → n ≤ 13
@@ -41,12 +41,12 @@ pub in-hash : (t : Torrent) (n k p : ℕ) → hashIn n t ≡ refused k p ↔ ((k
 in-hash t n k p = (
   λ e. less-or n (t .«piece_count»)
       (λ l. not-refused (hash-there n t l ∙ e))
-      (λ l. let s = same-refusal {A = Part} {m = 31} {n = k} {p = 0} {q = p} (hash-beyond n t l ∙ e) in (sym (s .0), l, sym (s .1))),
+      (λ l. let s = same-refusal {A = Part} (hash-beyond n t l ∙ e) in (sym (s .0), l, sym (s .1))),
   λ h. sym (hash-beyond n t (h .1)) ∙ refusal-is (sym (h .0)) (sym (h .2)),
 )
 
 pub hash-exactly : (s : List ℕ) (n p : ℕ) → hashOf s n ≡ refused 31 p ↔ ((t : Torrent) × (readOf s ≡ taken t) × (t .«piece_count» ≤ n) × (p ≡ 0))
-hash-exactly s n p = both-ways (second-of (then-refused (readOf s) (hashIn n) 31 p) (λ h. let l = torrent-number s 31 p h in omega arith))
+hash-exactly s n p = Iff·trans (second-of (then-refused (readOf s) (hashIn n) 31 p) (λ h. let l = torrent-number s 31 p h in omega arith))
     (λ (t, e, h). let c = in-hash t n 31 p .0 h in (t, e, c .1, c .2), λ (t, e, l, z). (t, e, in-hash t n 31 p .1 (refl, l, z)))
 
 pub hash-alike : (s : List ℕ) (n k p : ℕ) → (k ≡ 31 → ⊥) → hashOf s n ≡ refused k p ↔ readOf s ≡ refused k p
@@ -64,8 +64,8 @@ module _ (s : List ℕ) (t : Torrent) (n : ℕ) (m : List ℕ) (k p : ℕ) where
       let x = hash-there n t l in
       less-or (length m) (suc longestPiece)
       (λ h. by-length (λ g. not-refused (sym (agreement-whole m expected (omega arith)) ∙ check-agreed s n m t (hashPart n (t .pieces)) x (omega arith) (pieceBytes (t .content .total) (t .«piece_length») n) refl g expected refl ∙ e))
-      (λ g. let z = same-refusal {A = Bool} {m = 34} {n = k} {p = 0} {q = p} (check-outside s n m t (hashPart n (t .pieces)) x (omega arith) (pieceBytes (t .content .total) (t .«piece_length») n) refl g ∙ e) in (subst (Unchecked t n m) (z .0) (wrong-length l (omega arith) g), sym (z .1))))
-      (λ h. let z = same-refusal {A = Bool} {m = 8} {n = k} {p = 0} {q = p} (check-long s n m t (hashPart n (t .pieces)) x (omega arith) ∙ e) in (subst (Unchecked t n m) (z .0) (long-piece l (omega arith)), sym (z .1)))
+      (λ g. let z = same-refusal {A = Bool} (check-outside s n m t (hashPart n (t .pieces)) x (omega arith) (pieceBytes (t .content .total) (t .«piece_length») n) refl g ∙ e) in (subst (Unchecked t n m) (z .0) (wrong-length l (omega arith) g), sym (z .1))))
+      (λ h. let z = same-refusal {A = Bool} (check-long s n m t (hashPart n (t .pieces)) x (omega arith) ∙ e) in (subst (Unchecked t n m) (z .0) (long-piece l (omega arith)), sym (z .1)))
     where
       by-length : {P : Type 0} → (length m ≡ pieceBytes (t .content .total) (t .«piece_length») n → P) → ((length m ≡ pieceBytes (t .content .total) (t .«piece_length») n → ⊥) → P) → P
       by-length {P} y z = go (eqb (length m) (pieceBytes (t .content .total) (t .«piece_length») n)) refl
@@ -79,7 +79,7 @@ module _ (s : List ℕ) (t : Torrent) (n : ℕ) (m : List ℕ) (k p : ℕ) where
     where
       only : checkIn s n m t ≡ refused k p → Unchecked t n m k × (p ≡ 0)
       only e = less-or n (t .«piece_count») (λ l. bytes-only l e)
-          (λ l. let z = same-refusal {A = Bool} {m = 31} {n = k} {p = 0} {q = p} (check-beyond s n m t 31 0 (hash-beyond n t l) ∙ e) in (subst (Unchecked t n m) (z .0) (no-such-piece l), sym (z .1)))
+          (λ l. let z = same-refusal {A = Bool} (check-beyond s n m t 31 0 (hash-beyond n t l) ∙ e) in (subst (Unchecked t n m) (z .0) (no-such-piece l), sym (z .1)))
 
       every : (j : ℕ) → Unchecked t n m j → checkIn s n m t ≡ refused j 0
       every j (no-such-piece l) = sym (check-beyond s n m t 31 0 (hash-beyond n t l))
@@ -88,7 +88,7 @@ module _ (s : List ℕ) (t : Torrent) (n : ℕ) (m : List ℕ) (k p : ℕ) where
 
 -- the torrent's refusal, or one of these
 pub check-exactly : (s : List ℕ) (n : ℕ) (m : List ℕ) (k p : ℕ) → checkOf s n m ≡ refused k p ↔ ((readOf s ≡ refused k p) ⊎ ((t : Torrent) × (readOf s ≡ taken t) × Unchecked t n m k × (p ≡ 0)))
-check-exactly s n m k p = both-ways (then-refused (readOf s) (checkIn s n m) k p) (
+check-exactly s n m k p = Iff·trans (then-refused (readOf s) (checkIn s n m) k p) (
   ⊎-elim (λ (h : readOf s ≡ refused k p). inl h) (λ (h : (t : Torrent) × (readOf s ≡ taken t) × (checkIn s n m t ≡ refused k p)). let c = in-check s (h .0) n m k p .0 (h .2) in inr (h .0, h .1, c .0, c .1)),
   ⊎-elim (λ (h : readOf s ≡ refused k p). inl h) (λ (h : (t : Torrent) × (readOf s ≡ taken t) × Unchecked t n m k × (p ≡ 0)). inr (h .0, h .1, in-check s (h .0) n m k p .1 (h .2, h .3))),
 )
@@ -121,21 +121,21 @@ file-exactly s n p = (λ e. go (readOf s) refl e, λ h. sym (numbering.number-pa
   where
     go : (o : Outcome Torrent) → readOf s ≡ o → file.entryOf s n ≡ refused 31 p → (t : Torrent) × (readOf s ≡ taken t) × (t .content .files ≤ n) × (p ≡ 0)
     go (refused r q) f e =
-        let z = same-refusal {A = FileEntry} {m = r} {n = 31} {p = q} {q = p} (numbering.entry-refused s n r q (sym f) ∙ e) in
+        let z = same-refusal {A = FileEntry} (numbering.entry-refused s n r q (sym f) ∙ e) in
         let l = torrent-number s r q f in
         absurd (omega (arith, z .0))
     go (taken t) f e = less-or n (t .content .files)
         (λ l. let y = entry-there s t f n l in not-refused (sym (y .1) ∙ e))
-        (λ l. (t, f, l, sym (same-refusal {A = FileEntry} {m = 31} {n = 31} {p = 0} {q = p} (numbering.number-past s t f n l ∙ e) .1)))
+        (λ l. (t, f, l, sym (same-refusal {A = FileEntry} (numbering.number-past s t f n l ∙ e) .1)))
 
 pub file-alike : (s : List ℕ) (n k p : ℕ) → (k ≡ 31 → ⊥) → file.entryOf s n ≡ refused k p ↔ readOf s ≡ refused k p
 file-alike s n k p l = (λ e. go (readOf s) refl e, λ h. sym (numbering.entry-refused s n k p (sym h)))
   where
     go : (o : Outcome Torrent) → readOf s ≡ o → file.entryOf s n ≡ refused k p → readOf s ≡ refused k p
-    go (refused r q) f e = let z = same-refusal {A = FileEntry} {m = r} {n = k} {p = q} {q = p} (numbering.entry-refused s n r q (sym f) ∙ e) in f ∙ refusal-is (z .0) (z .1)
+    go (refused r q) f e = let z = same-refusal {A = FileEntry} (numbering.entry-refused s n r q (sym f) ∙ e) in f ∙ refusal-is (z .0) (z .1)
     go (taken t) f e = less-or n (t .content .files)
         (λ h. let y = entry-there s t f n h in not-refused (sym (y .1) ∙ e))
-        (λ h. absurd (l (sym (same-refusal {A = FileEntry} {m = 31} {n = k} {p = 0} {q = p} (numbering.number-past s t f n h ∙ e) .0))))
+        (λ h. absurd (l (sym (same-refusal {A = FileEntry} (numbering.number-past s t f n h ∙ e) .0))))
 
 -- ---- the info hash is refused as the torrent is
 
@@ -146,4 +146,4 @@ info-hash-alike s o k p = go (readOf s) refl
     go (taken t) f = (λ e. not-refused (sym (ap (λ l. l .answer) (info-hash s o t f)) ∙ e), λ e. not-refused (sym f ∙ e))
     go (refused r q) f =
         let g : infoHashOf s o .answer ≡ refused r q = ap (λ (x : Outcome Torrent). hashedIn s o x .answer) f in
-        (λ e. let z = same-refusal {A = Unit {0}} {m = r} {n = k} {p = q} {q = p} (sym g ∙ e) in f ∙ refusal-is (z .0) (z .1), λ e. let z = same-refusal {A = Torrent} {m = r} {n = k} {p = q} {q = p} (sym f ∙ e) in g ∙ refusal-is (z .0) (z .1))
+        (λ e. let z = same-refusal {A = Unit {0}} (sym g ∙ e) in f ∙ refusal-is (z .0) (z .1), λ e. let z = same-refusal {A = Torrent} (sym f ∙ e) in g ∙ refusal-is (z .0) (z .1))

@@ -49,7 +49,7 @@ finish-exactly s o k p = (
 pub agreement-exactly : (m expected : List ℕ) (k p : ℕ) → agreementOf m expected ≡ refused k p ↔ ((k ≡ 8) × (longestPiece < length m) × (p ≡ 0))
 agreement-exactly m expected k p = (
   λ e. less-or longestPiece (length m)
-      (λ h. let z = same-refusal {A = Bool} {m = 8} {n = k} {p = 0} {q = p} (sym (agreement-over m expected h) ∙ e) in (sym (z .0), h, sym (z .1)))
+      (λ h. let z = same-refusal {A = Bool} (sym (agreement-over m expected h) ∙ e) in (sym (z .0), h, sym (z .1)))
       (λ h. not-refused (sym (agreement-whole m expected h) ∙ e)),
   λ h. agreement-over m expected (h .1) ∙ refusal-is (sym (h .0)) (sym (h .2)),
 )

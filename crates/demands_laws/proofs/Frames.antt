@@ -1,6 +1,6 @@
 -- Frames and handshakes: when each of 20 to 23 and 37 is given, and when a frame is read. Assumes nothing.
 use mathlib.Core.Path.{_≡_, refl, sym, ap, subst, _∙_}
-use mathlib.Core.Logic.{inl, inr, _↔_}
+use mathlib.Core.Logic.{inl, inr, _↔_, Iff·trans}
 use mathlib.Core.List.{List, _++_}
 use Prim.Native.Nat.{ℕ, _+_, _≤_, _<_}
 use native.Mathlib.Omega.{arith}
@@ -19,20 +19,19 @@ use Rattle.peer_wire.specs.Message.{Message, FieldsFit, body}
 use Rattle.peer_wire.specs.Message.{encode as frameOf}
 use Rattle.peer_wire.specs.Frames.{found, meant, Lengths, readOf, Allowed, writeOf}
 use Rattle.peer_wire.proofs.Exact as frames
-use Rattle.demands_laws.proofs.Refusals.{both-ways}
 
 -- ---- 20 and 21 of a frame, 22 and 23 of a handshake, at any place
 
 module _ (s : List ℕ) (p : ℕ) where
   pub frame-20 : readOf s ≡ refused 20 p ↔ (TooLong s × (p ≡ 0))
-  frame-20 = both-ways (exactly s (refused 20 p)) (go, λ h. (inl (refl, h .0), h .1))
+  frame-20 = Iff·trans (exactly s (refused 20 p)) (go, λ h. (inl (refl, h .0), h .1))
     where
       go : Cause s (refused 20 p) → TooLong s × (p ≡ 0)
       go (inl (e, h), z) = (h, z)
       go (inr h, z) = let e = h .0 in absurd (omega arith)
 
   pub frame-21 : readOf s ≡ refused 21 p ↔ (All s × (Right s → ⊥) × (p ≡ 0))
-  frame-21 = both-ways (exactly s (refused 21 p)) (go, λ h. (inr (refl, h .0, h .1), h .2))
+  frame-21 = Iff·trans (exactly s (refused 21 p)) (go, λ h. (inr (refl, h .0, h .1), h .2))
     where
       go : Cause s (refused 21 p) → All s × (Right s → ⊥) × (p ≡ 0)
       go (inl (e, h), z) = absurd (omega arith)
@@ -40,14 +39,14 @@ module _ (s : List ℕ) (p : ℕ) where
 
 module _ (info s : List ℕ) (p : ℕ) (l : length info ≡ 20) where
   pub handshake-22 : shakeOf info s ≡ refused 22 p ↔ (Misnamed s × (p ≡ 0))
-  handshake-22 = both-ways (shake-exactly info s l (refused 22 p)) (go, λ h. (inl (refl, h .0), h .1))
+  handshake-22 = Iff·trans (shake-exactly info s l (refused 22 p)) (go, λ h. (inl (refl, h .0), h .1))
     where
       go : ShakeCause info s (refused 22 p) → Misnamed s × (p ≡ 0)
       go (inl (e, h), z) = (h, z)
       go (inr h, z) = let e = h .0 in absurd (omega arith)
 
   pub handshake-23 : shakeOf info s ≡ refused 23 p ↔ (Named s × (68 ≤ length s) × (infoIn s ≡ info → ⊥) × (p ≡ 0))
-  handshake-23 = both-ways (shake-exactly info s l (refused 23 p)) (go, λ h. (inr (refl, h .0, h .1, h .2), h .3))
+  handshake-23 = Iff·trans (shake-exactly info s l (refused 23 p)) (go, λ h. (inr (refl, h .0, h .1, h .2), h .3))
     where
       go : ShakeCause info s (refused 23 p) → Named s × (68 ≤ length s) × (infoIn s ≡ info → ⊥) × (p ≡ 0)
       go (inl (e, h), z) = absurd (omega arith)
@@ -57,7 +56,7 @@ module _ (info s : List ℕ) (p : ℕ) (l : length info ≡ 20) where
 
 module _ (rest o : List ℕ) (p : ℕ) where
   pub write-20 : writeOf rest o .answer ≡ refused 20 p ↔ ((longestFrame < length rest) × (p ≡ 0))
-  write-20 = both-ways (write-exactly rest o (refused 20 p)) (go, λ h. (inl (refl, h .0), h .1))
+  write-20 = Iff·trans (write-exactly rest o (refused 20 p)) (go, λ h. (inl (refl, h .0), h .1))
     where
       go : WriteCause rest o (refused 20 p) → (longestFrame < length rest) × (p ≡ 0)
       go (inl (e, h), z) = (h, z)
@@ -65,7 +64,7 @@ module _ (rest o : List ℕ) (p : ℕ) where
       go (inr (inr (e, a, h)), z) = absurd (omega arith)
 
   pub write-21 : writeOf rest o .answer ≡ refused 21 p ↔ ((length rest ≤ longestFrame) × (Allowed (getD rest 0 0) (length rest) → ⊥) × (p ≡ 0))
-  write-21 = both-ways (write-exactly rest o (refused 21 p)) (go, λ h. (inr (inl (refl, h .0, h .1)), h .2))
+  write-21 = Iff·trans (write-exactly rest o (refused 21 p)) (go, λ h. (inr (inl (refl, h .0, h .1)), h .2))
     where
       go : WriteCause rest o (refused 21 p) → (length rest ≤ longestFrame) × (Allowed (getD rest 0 0) (length rest) → ⊥) × (p ≡ 0)
       go (inl (e, h), z) = absurd (omega arith)
@@ -73,7 +72,7 @@ module _ (rest o : List ℕ) (p : ℕ) where
       go (inr (inr (e, a, h)), z) = absurd (omega arith)
 
   pub write-37 : writeOf rest o .answer ≡ refused 37 p ↔ (Allowed (getD rest 0 0) (length rest) × (length o < 4 + length rest) × (p ≡ 0))
-  write-37 = both-ways (write-exactly rest o (refused 37 p)) (go, λ h. (inr (inr (refl, h .0, h .1)), h .2))
+  write-37 = Iff·trans (write-exactly rest o (refused 37 p)) (go, λ h. (inr (inr (refl, h .0, h .1)), h .2))
     where
       go : WriteCause rest o (refused 37 p) → Allowed (getD rest 0 0) (length rest) × (length o < 4 + length rest) × (p ≡ 0)
       go (inl (e, h), z) = absurd (omega arith)

@@ -1,6 +1,6 @@
 -- Every call that reads a text as bencode first refuses by 1 to 7 as bencode does. Assumes nothing.
 use mathlib.Core.Path.{_≡_, _∙_}
-use mathlib.Core.Logic.{_↔_}
+use mathlib.Core.Logic.{_↔_, Iff·trans}
 use mathlib.Core.List.{List}
 use Prim.Native.Nat.{ℕ, _≤_, _<_}
 use native.Mathlib.Omega.{arith}
@@ -9,19 +9,14 @@ use Rattle.refusal.specs.Paper.{refused}
 use Rattle.refusal.specs.Limits.{mostText}
 use Rattle.bencode.specs.Decode.{decode}
 use Rattle.bencode_laws.proofs.Laws as bencode
-use Rattle.torrent_metainfo.specs.Reading.{readOf}
-use Rattle.torrent_laws.proofs.Laws.{refused-law}
-use Rattle.torrent_laws.proofs.Numbers.{torrent-ours}
+use Rattle.torrent_laws.proofs.Laws.{by-bencode}
 use Rattle.torrent_metainfo.specs.declared.Torrent.{Torrent}
 use Rattle.bencode.specs.Value.{count}
-use Rattle.demands_laws.proofs.Refusals.{both-ways, first-of, at-place, map-refused}
+use Rattle.demands_laws.proofs.Refusals.{first-of, at-place, map-refused}
 use Rattle.demands_laws.specs.Readers.{Reader, check, torrent, info-hash, file, piece-hash, piece-check, reply, peer, answerOf}
 use Rattle.demands_laws.specs.Causes.{Unchecked, no-such-piece, long-piece, wrong-length}
 use Rattle.demands_laws.proofs.Replies.{reply-bencode, peer-alike}
 use Rattle.demands_laws.proofs.Contents.{hash-alike, file-alike, info-hash-alike, check-exactly}
-
-torrent-bencode : (s : List ℕ) (k p : ℕ) → k ≤ 7 → readOf s ≡ refused k p ↔ decode s ≡ refused k p
-torrent-bencode s k p l = first-of (refused-law s k p) (λ h. let o = torrent-ours (h .0) k p (h .2) in omega arith)
 
 unchecked-past : (t : Torrent) (n : ℕ) (m : List ℕ) (k : ℕ) → Unchecked t n m k → 8 ≤ k
 unchecked-past t n m k (no-such-piece l) = omega arith
@@ -30,13 +25,13 @@ unchecked-past t n m k (wrong-length l h g) = omega arith
 
 pub as-decoded : (r : Reader) (s : List ℕ) (k p : ℕ) → k ≤ 7 → answerOf r s ≡ refused k p ↔ decode s ≡ refused k p
 as-decoded check s k p l = map-refused count (decode s) k p
-as-decoded torrent s k p l = torrent-bencode s k p l
-as-decoded (info-hash o) s k p l = both-ways (info-hash-alike s o k p) (torrent-bencode s k p l)
-as-decoded (file n) s k p l = both-ways (file-alike s n k p (λ e. omega arith)) (torrent-bencode s k p l)
-as-decoded (piece-hash n) s k p l = both-ways (hash-alike s n k p (λ e. omega arith)) (torrent-bencode s k p l)
-as-decoded (piece-check n m) s k p l = both-ways (first-of (check-exactly s n m k p) (λ h. let g = unchecked-past (h .0) n m k (h .2) in omega arith)) (torrent-bencode s k p l)
+as-decoded torrent s k p l = by-bencode s k p (omega arith)
+as-decoded (info-hash o) s k p l = Iff·trans (info-hash-alike s o k p) (by-bencode s k p (omega arith))
+as-decoded (file n) s k p l = Iff·trans (file-alike s n k p (λ e. omega arith)) (by-bencode s k p (omega arith))
+as-decoded (piece-hash n) s k p l = Iff·trans (hash-alike s n k p (λ e. omega arith)) (by-bencode s k p (omega arith))
+as-decoded (piece-check n m) s k p l = Iff·trans (first-of (check-exactly s n m k p) (λ h. let g = unchecked-past (h .0) n m k (h .2) in omega arith)) (by-bencode s k p (omega arith))
 as-decoded reply s k p l = reply-bencode s k p (omega arith)
-as-decoded (peer n) s k p l = both-ways (peer-alike s n k p (λ e. omega arith)) (reply-bencode s k p (omega arith))
+as-decoded (peer n) s k p l = Iff·trans (peer-alike s n k p (λ e. omega arith)) (reply-bencode s k p (omega arith))
 
 -- 8 of a text, both ways at once
 pub decode-8 : (s : List ℕ) (p : ℕ) → decode s ≡ refused 8 p ↔ ((mostText < length s) × (p ≡ 0))

@@ -5,9 +5,6 @@ use Prim.Native.Nat.{ℕ}
 use Rattle.refusal.specs.Paper.{Outcome, taken, refused, map, then}
 use Rattle.refusal.proofs.Outcomes as outcomes
 
-pub both-ways : {A B C : Type 0} → A ↔ B → B ↔ C → A ↔ C
-both-ways f g = (λ a. g .0 (f .0 a), λ c. f .1 (g .1 c))
-
 -- one of two reasons, where the other cannot be
 pub first-of : {X A B : Type 0} → X ↔ (A ⊎ B) → (B → ⊥) → X ↔ A
 first-of {X} {A} {B} f g = (λ x. ⊎-elim (λ (a : A). a) (λ (b : B). absurd (g b)) (f .0 x), λ a. f .1 (inl a))

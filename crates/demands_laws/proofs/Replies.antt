@@ -1,6 +1,6 @@
 -- Tracker replies: when each number is given. Assumes nothing.
 use mathlib.Core.Path.{_≡_, refl, sym, _∙_}
-use mathlib.Core.Logic.{_⊎_, inl, inr, ⊎-elim, _↔_}
+use mathlib.Core.Logic.{_⊎_, inl, inr, ⊎-elim, _↔_, Iff·trans}
 use mathlib.Core.List.{List, [], _∷_, List·Memᴰ·head, List·Memᴰ·tail, List·Memᴰ·cases-cons, List·Memᴰ·not-nil}
 use mathlib.Core.List.{List·Memᴰ as In}
 use Prim.Native.Nat.{ℕ, _≤_}
@@ -19,7 +19,7 @@ use Rattle.tracker.proofs.Causes.{reply-causes, reply-refused}
 use Rattle.tracker.proofs.Numbering.{entry-within, entry-beyond}
 use Rattle.refusal.proofs.Cases.{less-or}
 use Rattle.refusal.proofs.Outcomes.{not-refused, same-refusal}
-use Rattle.demands_laws.proofs.Refusals.{both-ways, first-of, second-of, refusal-is, map-refused, then-refused}
+use Rattle.demands_laws.proofs.Refusals.{first-of, second-of, refusal-is, map-refused, then-refused}
 use Rattle.demands_laws.specs.Causes.{NoReplyText}
 
 -- the numbers by which a value is no reply: 10, 11 and 15
@@ -99,7 +99,7 @@ module _ (s : List ℕ) (n p : ℕ) where
   )
 
   pub reply-law : map counted (replyOf s) ≡ refused n p ↔ ((decode s ≡ refused n p) ⊎ NoReplyText s n p)
-  reply-law = both-ways (map-refused counted (replyOf s) n p) read-law
+  reply-law = Iff·trans (map-refused counted (replyOf s) n p) read-law
 
   -- 1 to 8 are bencode's, the others the reply's
   pub reply-bencode : n ≤ 8 → map counted (replyOf s) ≡ refused n p ↔ decode s ≡ refused n p
@@ -118,13 +118,13 @@ numbered : (n k p : ℕ) (x : Answer (List PeerEntry)) → nthOf n x ≡ refused
 numbered n k p x = (
   λ e. less-or n (entriesIn (counted x))
       (λ h. not-refused (sym (entry-within n x h .1) ∙ e))
-      (λ h. let z = same-refusal {A = PeerEntry} {m = 31} {n = k} {p = 0} {q = p} (sym (entry-beyond n x h) ∙ e) in (sym (z .0), h, sym (z .1))),
+      (λ h. let z = same-refusal {A = PeerEntry} (sym (entry-beyond n x h) ∙ e) in (sym (z .0), h, sym (z .1))),
   λ h. entry-beyond n x (h .1) ∙ refusal-is (sym (h .0)) (sym (h .2)),
 )
 
 pub peer-exactly : (s : List ℕ) (n p : ℕ) → then (replyOf s) (nthOf n) ≡ refused 31 p ↔ ((x : Answer (List PeerEntry)) × (replyOf s ≡ taken x) × (entriesIn (counted x) ≤ n) × (p ≡ 0))
-peer-exactly s n p = both-ways (second-of (then-refused (replyOf s) (nthOf n) 31 p) (λ h. let l = reply-numbers s 31 p h in omega arith))
+peer-exactly s n p = Iff·trans (second-of (then-refused (replyOf s) (nthOf n) 31 p) (λ h. let l = reply-numbers s 31 p h in omega arith))
     (λ (x, e, h). let c = numbered n 31 p x .0 h in (x, e, c .1, c .2), λ (x, e, l, z). (x, e, numbered n 31 p x .1 (refl, l, z)))
 
 pub peer-alike : (s : List ℕ) (n k p : ℕ) → (k ≡ 31 → ⊥) → then (replyOf s) (nthOf n) ≡ refused k p ↔ map counted (replyOf s) ≡ refused k p
-peer-alike s n k p l = let m = map-refused counted (replyOf s) k p in both-ways (first-of (then-refused (replyOf s) (nthOf n) k p) (λ h. l (numbered n k p (h .0) .0 (h .2) .0))) (m .1, m .0)
+peer-alike s n k p l = let m = map-refused counted (replyOf s) k p in Iff·trans (first-of (then-refused (replyOf s) (nthOf n) k p) (λ h. l (numbered n k p (h .0) .0 (h .2) .0))) (m .1, m .0)

@@ -60,8 +60,8 @@ module _ (f : author.Fields) where
   torrent-sized n p = (λ e. only (author.sizeOf f) (size-cases f) e, λ h. every n (h .0) ∙ refusal-is refl (sym (h .1)))
     where
       only : (o : Outcome ℕ) → SizeCase f o → o ≡ refused n p → Unsized f n × (p ≡ 0)
-      only o (size-not m b) e = let s = same-refusal {A = ℕ} {m = m} {n = n} {p = 0} {q = p} e in (subst (Unsized f) (s .0) (broken b), sym (s .1))
-      only o (size-over h l) e = let s = same-refusal {A = ℕ} {m = 8} {n = n} {p = 0} {q = p} e in (subst (Unsized f) (s .0) (over h l), sym (s .1))
+      only o (size-not m b) e = let s = same-refusal {A = ℕ} e in (subst (Unsized f) (s .0) (broken b), sym (s .1))
+      only o (size-over h l) e = let s = same-refusal {A = ℕ} e in (subst (Unsized f) (s .0) (over h l), sym (s .1))
       only o (size-fine h l) e = not-refused e
 
       every : (n : ℕ) → Unsized f n → author.sizeOf f ≡ refused n 0

@@ -1,19 +1,18 @@
 -- The laws: which texts are torrents and what is handed back, when each refusal is given, and what the info hash is of. Assumes nothing.
 use mathlib.Core.Path.{_≡_, refl, sym, ap, _∙_}
-use mathlib.Core.Logic.{_⊎_, inl, inr, ⊎-elim, _↔_}
+use mathlib.Core.Logic.{_⊎_, inl, inr, ⊎-elim, _↔_, Iff·trans}
 use mathlib.Core.List.{List}
 use Prim.Native.Nat.{ℕ, _<_, _≤_}
 use native.Mathlib.Omega.{arith}
 use lib.ListN.{length}
 use Rattle.refusal.specs.Paper.{Outcome, taken, refused, then}
-use Rattle.refusal.specs.Numbers.{cut, byte, order, integer, deep, many, after, long, kind, range, name, pieces}
+use Rattle.refusal.specs.Numbers.{long, kind, range, name, pieces}
 use Rattle.refusal.specs.Limits.{mostText}
 use Rattle.refusal.specs.Parts.{bytesAt}
 use Rattle.bencode.specs.Value.{Value, dict, encode}
 use Rattle.bencode.specs.Decode.{decode}
 use Rattle.bencode.specs.Exact.{Fine}
 use Rattle.bencode.proofs.Exact.{taken-fine, fine-taken}
-use Rattle.bencode_laws.specs.Causes.{Cut, Byte, Order, Integer, Deep, Many, After}
 use Rattle.bencode_laws.proofs.Laws as bencode
 use Rattle.bencode_walk.proofs.Standing.{fine-stands}
 use Rattle.hash_sha1.specs.Sha1.{sha1}
@@ -67,8 +66,9 @@ refused-law s n p = (λ e. only-by s n p (decode s) refl e, ⊎-elim (λ (h : de
 pub none-other : (s : List ℕ) (n p : ℕ) → readOf s ≡ refused n p → ((1 ≤ n) × (n ≤ 8)) ⊎ ((10 ≤ n) × (n ≤ 13))
 none-other s n p e = ⊎-elim (λ (h : decode s ≡ refused n p). inl (bencode.none-other s n p h)) (λ (h : NoTorrentText s n p). inr (torrent-ours (h .0) n p (h .2))) (refused-law s n p .0 e)
 
+-- 1 to 8 are bencode's, the others the torrent's
 module _ (s : List ℕ) (n p : ℕ) where
-  by-bencode : n ≤ 8 → readOf s ≡ refused n p ↔ (decode s ≡ refused n p)
+  pub by-bencode : n ≤ 8 → readOf s ≡ refused n p ↔ (decode s ≡ refused n p)
   by-bencode l = (
     λ e. ⊎-elim (λ (h : decode s ≡ refused n p). h) (λ (h : NoTorrentText s n p). absurd (let o = torrent-ours (h .0) n p (h .2) in omega arith)) (refused-law s n p .0 e),
     λ h. refused-law s n p .1 (inl h),
@@ -80,37 +80,11 @@ module _ (s : List ℕ) (n p : ℕ) where
     by-text s n p,
   )
 
-both-ways : {A B C : Type 0} → A ↔ B → B ↔ C → A ↔ C
-both-ways f g = (λ a. g .0 (f .0 a), λ c. f .1 (g .1 c))
-
--- each number exactly for its cause
+-- each number of its own exactly for its cause
 module _ (s : List ℕ) (p : ℕ) where
-  -- 1 to 7, of a text that is not too long
-  module _ (h : length s ≤ mostText) where
-    pub cut-law : readOf s ≡ refused cut p ↔ Cut s p
-    cut-law = both-ways (by-bencode s cut p (omega arith)) (bencode.cut-law s p h)
-
-    pub byte-law : readOf s ≡ refused byte p ↔ Byte s p
-    byte-law = both-ways (by-bencode s byte p (omega arith)) (bencode.byte-law s p h)
-
-    pub order-law : readOf s ≡ refused order p ↔ Order s p
-    order-law = both-ways (by-bencode s order p (omega arith)) (bencode.order-law s p h)
-
-    pub integer-law : readOf s ≡ refused integer p ↔ Integer s p
-    integer-law = both-ways (by-bencode s integer p (omega arith)) (bencode.integer-law s p h)
-
-    pub deep-law : readOf s ≡ refused deep p ↔ Deep s p
-    deep-law = both-ways (by-bencode s deep p (omega arith)) (bencode.deep-law s p h)
-
-    pub many-law : readOf s ≡ refused many p ↔ Many s p
-    many-law = both-ways (by-bencode s many p (omega arith)) (bencode.many-law s p h)
-
-    pub after-law : readOf s ≡ refused after p ↔ After s p
-    after-law = both-ways (by-bencode s after p (omega arith)) (bencode.after-law s p h)
-
   -- 8
   pub long-law : readOf s ≡ refused long p ↔ ((mostText < length s) × (p ≡ 0))
-  long-law = both-ways (by-bencode s long p (omega arith)) (bencode.long-law s p .0, λ h. bencode.long-law s p .1 (h .0) ∙ ap (λ (q : ℕ). refused long q) (sym (h .1)))
+  long-law = Iff·trans (by-bencode s long p (omega arith)) (bencode.long-law s p .0, λ h. bencode.long-law s p .1 (h .0) ∙ ap (λ (q : ℕ). refused long q) (sym (h .1)))
 
   -- 10
   pub kind-law : readOf s ≡ refused kind p ↔ NoTorrentText s kind p

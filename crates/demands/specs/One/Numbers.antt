@@ -4,7 +4,7 @@
 -- peer_wire/specs/Causes (20 to 23, wait), torrent_authoring/specs/Rules and tracker/specs/Faults (the writers), yard_laws/specs/Causes and Damage (the yard's
 -- words), and demands_laws/specs/Causes. `Made lent h y` (Three/Program): the tables `lent`, started and then called any way, have become y, and h is what happened. Assumes nothing.
 use mathlib.Core.Path.{_≡_}
-use mathlib.Core.Logic.{_⊎_, _↔_}
+use mathlib.Core.Logic.{_⊎_, _↔_, Iff·trans}
 use mathlib.Core.Bool.{true, false}
 use mathlib.Core.List.{List}
 use Prim.Native.Nat.{ℕ, _+_, _*_, _≤_, _<_}
@@ -60,7 +60,7 @@ use Rattle.demands.specs.Three.Program.{Made}
 use Rattle.demands.specs.Cited.Reasons as reasons
 use Rattle.demands_laws.specs.Causes.{Unchecked, Unsized, NoReplyText}
 use Rattle.demands_laws.specs.Readers.{Reader, answerOf}
-use Rattle.demands_laws.proofs.Refusals.{both-ways, given, map-refused}
+use Rattle.demands_laws.proofs.Refusals.{given, map-refused}
 use Rattle.demands_laws.proofs.Readers.{as-decoded, decode-8}
 use Rattle.demands_laws.proofs.Replies as replies
 use Rattle.demands_laws.proofs.Contents as contents
@@ -97,49 +97,49 @@ peer-alike s n k p l = replies.peer-alike s n k p l
 
 -- given by every call r that reads a text
 pub text-1 : (r : Reader) (s : List ℕ) (p : ℕ) → length s ≤ mostText → answerOf r s ≡ refused 1 p ↔ Cut s p
-text-1 r s p h = both-ways (as-decoded r s 1 p (omega arith)) (bencode.cut-law s p h)
+text-1 r s p h = Iff·trans (as-decoded r s 1 p (omega arith)) (bencode.cut-law s p h)
 
 -- ---- 2: "a byte that cannot stand there; its offset"
 
 -- given by every call r that reads a text
 pub text-2 : (r : Reader) (s : List ℕ) (p : ℕ) → length s ≤ mostText → answerOf r s ≡ refused 2 p ↔ Byte s p
-text-2 r s p h = both-ways (as-decoded r s 2 p (omega arith)) (bencode.byte-law s p h)
+text-2 r s p h = Iff·trans (as-decoded r s 2 p (omega arith)) (bencode.byte-law s p h)
 
 -- ---- 3: "a key not greater than the one before; offset of its first digit"
 
 -- given by every call r that reads a text
 pub text-3 : (r : Reader) (s : List ℕ) (p : ℕ) → length s ≤ mostText → answerOf r s ≡ refused 3 p ↔ Order s p
-text-3 r s p h = both-ways (as-decoded r s 3 p (omega arith)) (bencode.order-law s p h)
+text-3 r s p h = Iff·trans (as-decoded r s 3 p (omega arith)) (bencode.order-law s p h)
 
 -- ---- 4: "integer outside -2^63 .. 2^63-1; offset of its i"
 
 -- given by every call r that reads a text
 pub text-4 : (r : Reader) (s : List ℕ) (p : ℕ) → length s ≤ mostText → answerOf r s ≡ refused 4 p ↔ Integer s p
-text-4 r s p h = both-ways (as-decoded r s 4 p (omega arith)) (bencode.integer-law s p h)
+text-4 r s p h = Iff·trans (as-decoded r s 4 p (omega arith)) (bencode.integer-law s p h)
 
 -- ---- 5: "list or dictionary at level 33; its offset"
 
 -- given by every call r that reads a text
 pub text-5 : (r : Reader) (s : List ℕ) (p : ℕ) → length s ≤ mostText → answerOf r s ≡ refused 5 p ↔ Deep s p
-text-5 r s p h = both-ways (as-decoded r s 5 p (omega arith)) (bencode.deep-law s p h)
+text-5 r s p h = Iff·trans (as-decoded r s 5 p (omega arith)) (bencode.deep-law s p h)
 
 -- ---- 6: "value number 16,385 begins; its offset"
 
 -- given by every call r that reads a text
 pub text-6 : (r : Reader) (s : List ℕ) (p : ℕ) → length s ≤ mostText → answerOf r s ≡ refused 6 p ↔ Many s p
-text-6 r s p h = both-ways (as-decoded r s 6 p (omega arith)) (bencode.many-law s p h)
+text-6 r s p h = Iff·trans (as-decoded r s 6 p (omega arith)) (bencode.many-law s p h)
 
 -- ---- 7: "bytes after the value; the first"
 
 -- given by every call r that reads a text
 pub text-7 : (r : Reader) (s : List ℕ) (p : ℕ) → length s ≤ mostText → answerOf r s ≡ refused 7 p ↔ After s p
-text-7 r s p h = both-ways (as-decoded r s 7 p (omega arith)) (bencode.after-law s p h)
+text-7 r s p h = Iff·trans (as-decoded r s 7 p (omega arith)) (bencode.after-law s p h)
 
 -- ---- 8: "text (no frame or handshake) to read or write over 1,048,576 bytes, or piece to hash over 16,777,216; place 0"
 
 -- given by bencode::check
 pub check-8 : (s : List ℕ) (p : ℕ) → checkOf s ≡ refused 8 p ↔ ((mostText < length s) × (p ≡ 0))
-check-8 s p = both-ways (map-refused value.count (decode s) 8 p) (decode-8 s p)
+check-8 s p = Iff·trans (map-refused value.count (decode s) 8 p) (decode-8 s p)
 
 -- given by torrent_metainfo::read
 pub torrent-8 : (s : List ℕ) (p : ℕ) → readOf s ≡ refused 8 p ↔ ((mostText < length s) × (p ≡ 0))
@@ -147,7 +147,7 @@ torrent-8 s p = torrents.long-law s p
 
 -- given by tracker::read
 pub reply-8 : (s : List ℕ) (p : ℕ) → map counted (replyOf s) ≡ refused 8 p ↔ ((mostText < length s) × (p ≡ 0))
-reply-8 s p = both-ways (replies.reply-bencode s 8 p (omega arith)) (decode-8 s p)
+reply-8 s p = Iff·trans (replies.reply-bencode s 8 p (omega arith)) (decode-8 s p)
 
 -- given by hash_sha1::digest
 pub digest-8 : (m o : List ℕ) (p : ℕ) → digestOf m o .answer ≡ refused 8 p ↔ ((longestPiece < length m) × (p ≡ 0))
@@ -272,7 +272,7 @@ write-20 rest o p = framing.write-20 rest o p
 -- given by yard, after an accepted start and any calls
 pub yard-20 : (lent : Yard) (h : History) (y : Yard) → Made lent h y → (c : Call) (place : ℕ) → step c y .answer ≡ refused 20 place
     ↔ (((i : ℕ) × (s : List ℕ) × (c ≡ feed i s) × Sits (length (lent .seats)) h i × TooLong s) × (place ≡ 0))
-yard-20 lent h y m c place = both-ways (reasons.made-fair lent h y m c 20 place) (reasons.cause-20 (length (lent .seats)) h c place)
+yard-20 lent h y m c place = Iff·trans (reasons.made-fair lent h y m c 20 place) (reasons.cause-20 (length (lent .seats)) h c place)
 
 -- ---- 21: "payload length wrong for its id"
 
@@ -287,7 +287,7 @@ write-21 rest o p = framing.write-21 rest o p
 -- given by yard, after an accepted start and any calls
 pub yard-21 : (lent : Yard) (h : History) (y : Yard) → Made lent h y → (c : Call) (place : ℕ) → step c y .answer ≡ refused 21 place
     ↔ (((i : ℕ) × (s : List ℕ) × (c ≡ feed i s) × Sits (length (lent .seats)) h i × All s × (Right s → ⊥)) × (place ≡ 0))
-yard-21 lent h y m c place = both-ways (reasons.made-fair lent h y m c 21 place) (reasons.cause-21 (length (lent .seats)) h c place)
+yard-21 lent h y m c place = Iff·trans (reasons.made-fair lent h y m c 21 place) (reasons.cause-21 (length (lent .seats)) h c place)
 
 -- ---- 22: "handshake's first 20 bytes wrong"
 
@@ -306,7 +306,7 @@ handshake-23 info s p h = framing.handshake-23 info s p h
 -- given by yard, after an accepted start and any calls
 pub yard-30 : (lent : Yard) (h : History) (y : Yard) → Made lent h y → (c : Call) (place : ℕ) → step c y .answer ≡ refused 30 place
     ↔ (((i : ℕ) × (s : List ℕ) × (b : List ℕ) × (bytes : ℕ) × (c ≡ feed i s) × Sits (length (lent .seats)) h i × Says s (bits b) bytes × (fresh h i ≡ false)) × (place ≡ 0))
-yard-30 lent h y m c place = both-ways (reasons.made-fair lent h y m c 30 place) (reasons.cause-30 (length (lent .seats)) h c place)
+yard-30 lent h y m c place = Iff·trans (reasons.made-fair lent h y m c 30 place) (reasons.cause-30 (length (lent .seats)) h c place)
 
 -- ---- 31: "piece, file or entry number too large"
 
@@ -316,7 +316,7 @@ pub yard-31 : (lent : Yard) (h : History) (y : Yard) → Made lent h y → (c : 
     ⊎ (((i : ℕ) × (s : List ℕ) × (m : Message (List ℕ)) × (q : ℕ) × (b : ℕ) × (k : ℕ) × (bytes : ℕ) × (c ≡ feed i s) × Sits (length (lent .seats)) h i × Says s m bytes × SpeaksOf q b k m × (pieces h ≤ q))
     ⊎ (((i : ℕ) × (q : ℕ) × (c ≡ has i q) × (i < (length (lent .seats))) × (pieces h ≤ q))
     ⊎ ((q : ℕ) × (c ≡ count q) × (pieces h ≤ q))))) × (place ≡ 0))
-yard-31 lent h y m c place = both-ways (reasons.made-fair lent h y m c 31 place) (reasons.cause-31 (length (lent .seats)) h c place)
+yard-31 lent h y m c place = Iff·trans (reasons.made-fair lent h y m c 31 place) (reasons.cause-31 (length (lent .seats)) h c place)
 
 -- given by torrent_blocks::block
 pub block-31 : (files : List Span) (pl p o n : ℕ) (out : List ℕ) (q : ℕ) → partsWritten (blockOf files pl p o n) out .answer ≡ refused 31 q ↔ (BlockCause files pl p o n (length out) 31 × (q ≡ 0))
@@ -351,21 +351,21 @@ piece-check-31 s n m p = contents.check-own s n m 31 p (omega arith)
 -- given by yard, after an accepted start and any calls
 pub yard-32 : (lent : Yard) (h : History) (y : Yard) → Made lent h y → (c : Call) (place : ℕ) → step c y .answer ≡ refused 32 place
     ↔ (((i : ℕ) × (s : List ℕ) × (b : List ℕ) × (bytes : ℕ) × (c ≡ feed i s) × Sits (length (lent .seats)) h i × Says s (bits b) bytes × (fresh h i ≡ true) × (length b ≡ width (pieces h) → ⊥)) × (place ≡ 0))
-yard-32 lent h y m c place = both-ways (reasons.made-fair lent h y m c 32 place) (reasons.cause-32 (length (lent .seats)) h c place)
+yard-32 lent h y m c place = Iff·trans (reasons.made-fair lent h y m c 32 place) (reasons.cause-32 (length (lent .seats)) h c place)
 
 -- ---- 33: "spare bit set"
 
 -- given by yard, after an accepted start and any calls
 pub yard-33 : (lent : Yard) (h : History) (y : Yard) → Made lent h y → (c : Call) (place : ℕ) → step c y .answer ≡ refused 33 place
     ↔ (((i : ℕ) × (s : List ℕ) × (b : List ℕ) × (bytes : ℕ) × (q : ℕ) × (c ≡ feed i s) × Sits (length (lent .seats)) h i × Says s (bits b) bytes × (fresh h i ≡ true) × (length b ≡ width (pieces h)) × (pieces h ≤ q) × (q < 8 * length b) × (bitAt b q ≡ true)) × (place ≡ 0))
-yard-33 lent h y m c place = both-ways (reasons.made-fair lent h y m c 33 place) (reasons.cause-33 (length (lent .seats)) h c place)
+yard-33 lent h y m c place = Iff·trans (reasons.made-fair lent h y m c 33 place) (reasons.cause-33 (length (lent .seats)) h c place)
 
 -- ---- 34: "block or file offset outside its bounds, or a piece to check of the wrong length"
 
 -- given by yard, after an accepted start and any calls
 pub yard-34 : (lent : Yard) (h : History) (y : Yard) → Made lent h y → (c : Call) (place : ℕ) → step c y .answer ≡ refused 34 place
     ↔ (((i : ℕ) × (s : List ℕ) × (m : Message (List ℕ)) × (q : ℕ) × (b : ℕ) × (k : ℕ) × (bytes : ℕ) × (c ≡ feed i s) × Sits (length (lent .seats)) h i × Says s m bytes × SpeaksOf q b k m × (q < pieces h) × (Fits h q b k → ⊥)) × (place ≡ 0))
-yard-34 lent h y m c place = both-ways (reasons.made-fair lent h y m c 34 place) (reasons.cause-34 (length (lent .seats)) h c place)
+yard-34 lent h y m c place = Iff·trans (reasons.made-fair lent h y m c 34 place) (reasons.cause-34 (length (lent .seats)) h c place)
 
 -- given by torrent_blocks::block
 pub block-34 : (files : List Span) (pl p o n : ℕ) (out : List ℕ) (q : ℕ) → partsWritten (blockOf files pl p o n) out .answer ≡ refused 34 q ↔ (BlockCause files pl p o n (length out) 34 × (q ≡ 0))
@@ -384,7 +384,7 @@ piece-check-34 s n m p = contents.check-own s n m 34 p (omega arith)
 -- given by yard, after an accepted start and any calls
 pub yard-35 : (lent : Yard) (h : History) (y : Yard) → Made lent h y → (c : Call) (place : ℕ) → step c y .answer ≡ refused 35 place
     ↔ (((c ≡ sit) × ((i : ℕ) → i < (length (lent .seats)) → seated h i ≡ true)) × (place ≡ 0))
-yard-35 lent h y m c place = both-ways (reasons.made-fair lent h y m c 35 place) (reasons.cause-35 (length (lent .seats)) h c place)
+yard-35 lent h y m c place = Iff·trans (reasons.made-fair lent h y m c 35 place) (reasons.cause-35 (length (lent .seats)) h c place)
 
 -- ---- 36: "seat number too large, or seat free"
 
@@ -394,14 +394,14 @@ pub yard-36 : (lent : Yard) (h : History) (y : Yard) → Made lent h y → (c : 
     ⊎ (((first : ℕ) × (space : ℕ) × (c ≡ missing first space) × ((length (lent .seats)) < first))
     ⊎ (((i : ℕ) × (c ≡ look i) × ((length (lent .seats)) ≤ i))
     ⊎ ((i : ℕ) × (q : ℕ) × (c ≡ has i q) × ((length (lent .seats)) ≤ i))))) × (place ≡ 0))
-yard-36 lent h y m c place = both-ways (reasons.made-fair lent h y m c 36 place) (reasons.cause-36 (length (lent .seats)) h c place)
+yard-36 lent h y m c place = Iff·trans (reasons.made-fair lent h y m c 36 place) (reasons.cause-36 (length (lent .seats)) h c place)
 
 -- ---- 37: "lent output too short"
 
 -- given by yard, after an accepted start and any calls
 pub yard-37 : (lent : Yard) (h : History) (y : Yard) → Made lent h y → (c : Call) (place : ℕ) → step c y .answer ≡ refused 37 place
     ↔ (((i : ℕ) × (space : ℕ) × Marks i space c × Sits (length (lent .seats)) h i × (space < 5)) × (place ≡ 0))
-yard-37 lent h y m c place = both-ways (reasons.made-fair lent h y m c 37 place) (reasons.cause-37 (length (lent .seats)) h c place)
+yard-37 lent h y m c place = Iff·trans (reasons.made-fair lent h y m c 37 place) (reasons.cause-37 (length (lent .seats)) h c place)
 
 -- given by torrent_blocks::block
 pub block-37 : (files : List Span) (pl p o n : ℕ) (out : List ℕ) (q : ℕ) → partsWritten (blockOf files pl p o n) out .answer ≡ refused 37 q ↔ (BlockCause files pl p o n (length out) 37 × (q ≡ 0))
@@ -428,7 +428,7 @@ torrent-writer-37 f o p = writers.torrent-written f o 37 p
 -- given by yard, after an accepted start and any calls
 pub start-38 : (lent : Yard) (h : History) (y : Yard) → Made lent h y → (c : Call) (place : ℕ) → step c y .answer ≡ refused 38 place
     ↔ (((q : ℕ) × (l : ℕ) × (k : ℕ) × (c ≡ start q l k) × (StartFits h q l k → ⊥)) × (place ≡ 0))
-start-38 lent h y m c place = both-ways (reasons.made-fair lent h y m c 38 place) (reasons.cause-38 (length (lent .seats)) h c place)
+start-38 lent h y m c place = Iff·trans (reasons.made-fair lent h y m c 38 place) (reasons.cause-38 (length (lent .seats)) h c place)
 
 -- given by yard, on any tables
 pub yard-38 : (y : Yard) (c : Call) (place : ℕ) → step c y .answer ≡ refused 38 place ↔ (Unfit y c × (place ≡ 0))
