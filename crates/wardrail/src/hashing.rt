@@ -31,7 +31,7 @@ pub extern "C" fn wardrail_sha1_add(words: &mut [u32; 6], tail: &mut [u8; 64], p
     *tail = t;
 }
 
-// Writes the digest of the message; a refusal leaves `hash_digest` as it was.
+// Writes the digest of the message; a refusal leaves `digest` as it was.
 #[no_mangle]
 pub extern "C" fn wardrail_sha1_finish(
     words: &[u32; 6],

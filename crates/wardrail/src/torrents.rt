@@ -20,7 +20,7 @@ pub extern "C" fn wardrail_torrent(text: &[u8], detail: &mut [u64; 14]) -> u64
     torrents::torrent_number(torrent)
 }
 
-// Writes the info hash; a refusal leaves `hash_digest` as it was.
+// Writes the info hash; a refusal leaves `digest` as it was.
 #[no_mangle]
 pub extern "C" fn wardrail_info_hash(text: &[u8], digest: &mut [u8; 20]) -> u64
     ensures { λ r. ⌜ Digested (infoHashOf (now (text .entry)) (now (digest .entry))) r (now (digest .exit)) ⌝ }

@@ -1,5 +1,6 @@
 -- The definitions, a file for each subject.
 pub mod Said
+pub mod Looks
 pub mod Replies
 pub mod Torrents
 pub mod Mapping

@@ -10,6 +10,7 @@ use hash_sha1::Hashed;
 pub mod files;
 pub mod frames;
 pub mod hashing;
+pub mod looks;
 pub mod mapping;
 pub mod peers;
 pub mod replies;

@@ -4,6 +4,7 @@ use mathlib.Core.Path.{_≡_, sym, _∙_, refl}
 use Prim.Native.Nat.{ℕ}
 use Rattle.refusal.specs.Paper.{then, map}
 use Rattle.bencode.specs.Answers.{checkOf}
+use Rattle.bencode_walk.specs.Walk.{lookOf}
 use Rattle.hash_sha1.specs.Digest.{digestOf}
 use Rattle.hash_sha1.specs.Parts.{begun, addOf, finishOf}
 use Rattle.tracker.specs.Entries.{listedAt, packedAt}
@@ -11,6 +12,7 @@ use Rattle.tracker.specs.Reply.{replyOf, nthOf, counted}
 use Rattle.torrent_metainfo.specs.Hashes.{infoHashOf}
 use Rattle.torrent_metainfo.specs.Reading.{readOf}
 use Rattle.wardrail_rows.specs.Hashing.{stateOf, Holds, Digested}
+use Rattle.wardrail_rows.specs.Looks.{lookDetail}
 use Rattle.wardrail_rows.specs.Peers.{peerDetail}
 use Rattle.wardrail_rows.specs.Replies.{replyDetail, entryDetail}
 use Rattle.wardrail_rows.specs.Said.{detailOf, Tells}
@@ -25,6 +27,14 @@ check-ensures text r detail =
 
 pub check-determined : (text : Lent (List ℕ)) → Determined1 (check-ensures text)
 check-determined text detail r r′ detail₁ detail₂ e f = (e .0 ∙ sym (f .0), e .1 ∙ sym (f .1))
+
+-- wardrail::wardrail_look
+abbrev look-ensures : (text : Lent (List ℕ)) (at : ℕ) → ℕ → Lent (List ℕ) → Type 0
+look-ensures text at r detail =
+    Tells lookDetail (lookOf (now (text .entry)) at) r (now (detail .exit))
+
+pub look-determined : (text : Lent (List ℕ)) (at : ℕ) → Determined1 (look-ensures text at)
+look-determined text at detail r r′ detail₁ detail₂ e f = (e .0 ∙ sym (f .0), e .1 ∙ sym (f .1))
 
 -- wardrail::wardrail_sha1
 abbrev pub sha1-ensures : (message : Lent (List ℕ)) → ℕ → Lent (List ℕ) → Type 0

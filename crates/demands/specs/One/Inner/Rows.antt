@@ -10,6 +10,8 @@ use Rattle.peer_wire.specs.declared.Greeting.{Greeting}
 use Rattle.peer_wire.specs.declared.Read.{Read}
 use Rattle.bencode.specs.Answers.{paper as checkPaper}
 use Rattle.bencode.specs.declared.Checked.{Checked}
+use Rattle.bencode_walk.specs.Walk.{paper as seenPaper}
+use Rattle.bencode_walk.specs.declared.Seen.{Seen}
 use Rattle.hash_sha1.specs.Digest.{paper as hashedPaper}
 use Rattle.hash_sha1.specs.declared.Hashed.{Hashed}
 use Rattle.hash_sha1.specs.declared.stream.Stream.{Stream}
@@ -40,6 +42,7 @@ use Rattle.torrent_contents.specs.declared.Hash.{Hash}
 use Rattle.wardrail_rows.specs.Files.{fileDetail, walkedDetail, elementDetail, partDetail, yesDetail}
 use Rattle.wardrail_rows.specs.Frames.{frameDetail, shakeDetail}
 use Rattle.wardrail_rows.specs.Hashing.{wordsOf, stateOf}
+use Rattle.wardrail_rows.specs.Looks.{lookDetail}
 use Rattle.wardrail_rows.specs.Mapping.{spotDetail}
 use Rattle.wardrail_rows.specs.Peers.{peerDetail}
 use Rattle.wardrail_rows.specs.Replies.{replyDetail, entryDetail}
@@ -179,6 +182,20 @@ state-ensures w tail r = r ≡ stateOf w tail
 
 pub state-determined : (w : List ℕ) (tail : List ℕ) → Determined (state-ensures w tail)
 state-determined w tail r r′ x y = x ∙ sym y
+
+-- wardrail_rows::looks::look_number
+abbrev look-number-ensures : (s : Seen) → ℕ → Type 0
+look-number-ensures s r = r ≡ numberOf (seenPaper s)
+
+pub look-number-determined : (s : Seen) → Determined (look-number-ensures s)
+look-number-determined s r r′ x y = x ∙ sym y
+
+-- wardrail_rows::looks::look_detail
+abbrev look-detail-ensures : (s : Seen) → List ℕ → Type 0
+look-detail-ensures s r = r ≡ lookDetail (seenPaper s)
+
+pub look-detail-determined : (s : Seen) → Determined (look-detail-ensures s)
+look-detail-determined s r r′ x y = x ∙ sym y
 
 -- wardrail_rows::mapping::parts_number
 abbrev pub parts-number-ensures : (p : Parts) → ℕ → Type 0

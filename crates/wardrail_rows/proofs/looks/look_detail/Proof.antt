@@ -1,0 +1,97 @@
+-- `look_detail` meets its contract. Assumes nothing.
+use Rattle.wardrail_rows.specs.Looks.{lookDetail}
+use Rattle.bencode_walk.specs.Walk.{paper}
+use Rattle.bencode_walk.specs.declared.Seen.{Seen}
+use mathlib.Core.Path.{sym, ap, _∙_}
+use borrow.Author.Needs.{needs}
+use Rattle.wardrail_rows.proofs.looks.look_detail.Statement.{statement}
+use Rattle.wardrail_rows.proofs.looks.look_detail.Tie as tie
+
+enum-known-s : tie.Need-enum-known-s
+enum-known-s c = search needs
+
+four-requires : tie.Need-four-requires
+four-requires c κs = search needs
+
+enum-known-s-2 : tie.Need-enum-known-s-2
+enum-known-s-2 c = search needs
+
+four-requires-2 : tie.Need-four-requires-2
+four-requires-2 c κs = search needs
+
+enum-known-s-3 : tie.Need-enum-known-s-3
+enum-known-s-3 c = search needs
+
+four-requires-3 : tie.Need-four-requires-3
+four-requires-3 c κs = search needs
+
+enum-known-s-4 : tie.Need-enum-known-s-4
+enum-known-s-4 c = search needs
+
+four-requires-4 : tie.Need-four-requires-4
+four-requires-4 c κs = search needs
+
+enum-known-s-5 : tie.Need-enum-known-s-5
+enum-known-s-5 c = search needs
+
+four-requires-5 : tie.Need-four-requires-5
+four-requires-5 c κs = search needs
+
+enum-known-s-6 : tie.Need-enum-known-s-6
+enum-known-s-6 c = search needs
+
+four-requires-6 : tie.Need-four-requires-6
+four-requires-6 c κs = search needs
+
+enum-known-s-7 : tie.Need-enum-known-s-7
+enum-known-s-7 c = search needs
+
+four-requires-7 : tie.Need-four-requires-7
+four-requires-7 c κs = search needs
+
+returns : tie.Need-returns
+returns c = c .four .ensures ∙ ap (λ (x : Seen). lookDetail (paper x)) (sym (c .before .before .s .given .1))
+
+returns-2 : tie.Need-returns-2
+returns-2 c = c .four2 .ensures ∙ ap (λ (x : Seen). lookDetail (paper x)) (sym (c .before .before .s2 .given .1))
+
+returns-3 : tie.Need-returns-3
+returns-3 c = c .four3 .ensures ∙ ap (λ (x : Seen). lookDetail (paper x)) (sym (c .before .before .s3 .given .1))
+
+returns-4 : tie.Need-returns-4
+returns-4 c = c .four4 .ensures ∙ ap (λ (x : Seen). lookDetail (paper x)) (sym (c .before .before .s4 .given .1))
+
+returns-5 : tie.Need-returns-5
+returns-5 c = c .four5 .ensures ∙ ap (λ (x : Seen). lookDetail (paper x)) (sym (c .before .before .s5 .given .1))
+
+returns-6 : tie.Need-returns-6
+returns-6 c = c .four6 .ensures ∙ ap (λ (x : Seen). lookDetail (paper x)) (sym (c .before .before .s6 .given .1))
+
+returns-7 : tie.Need-returns-7
+returns-7 c = c .four7 .ensures ∙ ap (λ (x : Seen). lookDetail (paper x)) (sym (c .before .before .s7 .given .1))
+
+pub look-detail-spec : {M : Type 1} → statement M
+look-detail-spec =
+    tie.close
+    (tie.spec
+    enum-known-s
+    four-requires
+    enum-known-s-2
+    four-requires-2
+    enum-known-s-3
+    four-requires-3
+    enum-known-s-4
+    four-requires-4
+    enum-known-s-5
+    four-requires-5
+    enum-known-s-6
+    four-requires-6
+    enum-known-s-7
+    four-requires-7
+    returns
+    returns-2
+    returns-3
+    returns-4
+    returns-5
+    returns-6
+    returns-7)
