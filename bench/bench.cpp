@@ -121,13 +121,16 @@ uint64_t stirred(uint64_t sum, const char *id, const char *ip, size_t length, ui
 }
 
 uint64_t peers_by_wardrail(const string &text) {
-    uint64_t reply[4], peer[6], sum = 0;
-    if (wardrail_reply(start_of(text), text.size(), reply) != 0 || reply[0] != 3) return 0;
-    size_t at = reply[3];
-    for (uint64_t k = 0; k < reply[2]; k++) {
-        if (wardrail_listed_at(start_of(text), text.size(), at, peer) != 0) return 0;
-        sum = stirred(sum, text.data() + peer[0], text.data() + peer[2], peer[3], peer[4]);
-        at = peer[5];
+    struct wardrail_reply reply;
+    struct wardrail_listed_at peer;
+    uint64_t sum = 0;
+    if (wardrail_reply(start_of(text), text.size(), &reply) != 0 || reply.form != WARDRAIL_FORM_LIST) return 0;
+    size_t at = reply.peers.first_at;
+    for (uint64_t k = 0; k < reply.peers.count; k++) {
+        if (wardrail_listed_at(start_of(text), text.size(), at, &peer) != 0) return 0;
+        const wardrail_part &ip = peer.named.ip;
+        sum = stirred(sum, text.data() + peer.named.id.from, text.data() + ip.from, ip.len, peer.port);
+        at = peer.next_at;
     }
     return sum;
 }
@@ -170,8 +173,8 @@ string torrent() {
 }
 
 uint64_t files_of(const string &text) {
-    uint64_t detail[14];
-    return wardrail_torrent(start_of(text), text.size(), detail) == 0 ? detail[12] : 0;
+    struct wardrail_torrent t;
+    return wardrail_torrent(start_of(text), text.size(), &t) == 0 ? t.files : 0;
 }
 
 uint64_t first_of(const void *digest) {
@@ -193,9 +196,9 @@ uint64_t hash_by_libtorrent(const string &text) {
 
 void torrents() {
     const string text = torrent();
-    uint64_t detail[14];
-    expect(wardrail_torrent(start_of(text), text.size(), detail) == 0 && detail[9] == 16384 && detail[12] == 1024, "the torrent is not read");
-    const string info = text.substr(detail[2], detail[3]);
+    struct wardrail_torrent t;
+    expect(wardrail_torrent(start_of(text), text.size(), &t) == 0 && t.piece_count == 16384 && t.files == 1024, "the torrent is not read");
+    const string info = text.substr(t.info.from, t.info.len);
     expect(hash_of(text) != 0 && hash_of(text) == hash_by_libtorrent(text), "another info hash");
     std::printf("A torrent of 1,024 files and 16,384 pieces, %zu bytes, %u values.\n\n", text.size(), unsigned(check(text).detail));
     race({{"wardrail_torrent", [&] { return files_of(text); }},

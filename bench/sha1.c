@@ -1,13 +1,12 @@
 /* Times SHA-1 of 16 MiB and of 256 KiB, which stay in the cache: wardrail_sha1 beside a plain C, an unrolled C and OpenSSL, in turn in one process, by the process's own time. bench/run builds and runs it. */
+#include "../host/wardrail.h"
+
 #include <openssl/evp.h>
 
-#include <stdint.h>
 #include <stdio.h>
 #include <stdlib.h>
 #include <string.h>
 #include <time.h>
-
-uint64_t wardrail_sha1(const uint8_t *message, size_t count, uint8_t *digest);
 
 enum { MOST = 16777216 };
 

@@ -51,8 +51,8 @@ static void check(void) {
 }
 
 static void torrent(void) {
-    uint64_t detail[14];
-    must(wardrail_torrent(text, length, detail), "torrent");
+    struct wardrail_torrent t;
+    must(wardrail_torrent(text, length, &t), "torrent");
 }
 
 static void info_hash(void) {

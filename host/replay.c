@@ -2,11 +2,12 @@
 #define _POSIX_C_SOURCE 200809L
 #include "wardrail_yard.h"
 
+#include <inttypes.h>
 #include <stdio.h>
 #include <stdlib.h>
 #include <string.h>
 
-enum { MOST_WORDS = 8, MOST_SEATS = 2000, LONGEST_TEXT = 1 << 20 };
+enum { MOST_WORDS = 8, MOST_SEATS = 2000, LONGEST_TEXT = 1 << 20, MOST_BYTES = 1 << 26 };
 
 /* ---- words of a line */
 
@@ -27,6 +28,15 @@ static void *lent(size_t count, size_t size) {
     return p;
 }
 
+/* Lent output, and whether it is still as it was lent, from some byte on. */
+static void *lent_out(size_t count, size_t size) { return memset(lent(count, size), 0xa5, count * size); }
+
+static bool untouched(const void *out, size_t from, size_t bytes) {
+    for (size_t i = from; i < bytes; i++)
+        if (((const uint8_t *)out)[i] != 0xa5) return false;
+    return true;
+}
+
 static uint64_t number(const char *word) {
     char *end;
     uint64_t n = strtoull(word, &end, 10);
@@ -42,31 +52,86 @@ static int digit(char c, const char *word) {
     return c - 'a' + 10;
 }
 
-/* The bytes of a word, for the caller to free. */
-static struct bytes unhex(const char *word) {
-    size_t length = strcmp(word, "-") ? strlen(word) : 0;
-    if (length % 2) stop("half a byte", word);
-    struct bytes b = {lent(length / 2, 1), length / 2};
-    for (size_t i = 0; i < b.count; i++) b.data[i] = (uint8_t)(digit(word[2 * i], word) * 16 + digit(word[2 * i + 1], word));
+/* Ends a word at each such byte, and tells how many there are then. */
+static size_t split(char *word, char at) {
+    size_t words = 1;
+    for (; (word = strchr(word, at)); words++) *word++ = 0;
+    return words;
+}
+
+/* How often WORD*COUNT has its word, which is ended there: once where there is no count. */
+static uint64_t times(char *word) {
+    char *star = strchr(word, '*');
+    if (!star) return 1;
+    *star = 0;
+    return number(star + 1);
+}
+
+/* The same memory with more bytes at its end, which has exactly that length again. */
+static void *longer(void *old, size_t bytes, size_t more) {
+    if (more > MOST_BYTES - bytes) stop("too many bytes", "");
+    void *p = memcpy(lent(bytes + more, 1), old, bytes);
+    free(old);
+    return p;
+}
+
+/* The bytes of a word, for the caller to free: parts joined by '.', each hex, HEX*COUNT or @COUNT. */
+static struct bytes unhex(char *word) {
+    struct bytes b = {lent(0, 1), 0};
+    for (size_t parts = strcmp(word, "-") ? split(word, '.') : 0; parts; parts--) {
+        char *next = word + strlen(word) + 1;
+        bool own = *word == '@';
+        uint64_t count = least(own ? number(word + 1) : times(word), MOST_BYTES + 1);
+        size_t unit = own ? 1 : strlen(word) / 2;
+        if (!own && strlen(word) % 2) stop("half a byte", word);
+        b.data = longer(b.data, b.count, unit * count);
+        for (size_t i = 0; i < unit * count; i++, b.count++) {
+            if (own) b.data[b.count] = (uint8_t)(b.count % 251);
+            else b.data[b.count] = i < unit ? (uint8_t)(digit(word[2 * i], word) * 16 + digit(word[2 * i + 1], word)) : b.data[b.count - unit];
+        }
+        word = next;
+    }
     return b;
 }
 
-/* The numbers of a word parted by commas, for the caller to free. */
+/* The numbers of a word, for the caller to free: parted by commas, each N or N*COUNT. */
 static uint64_t *numbers(char *word, size_t *count) {
+    uint64_t *list = lent(0, sizeof *list);
     *count = 0;
-    if (strcmp(word, "-")) *count = 1;
-    for (const char *at = word; (at = strchr(at, ',')); at++) ++*count;
-    uint64_t *list = lent(*count, sizeof *list);
-    for (size_t k = 0; k < *count; k++) {
-        char *end = strchr(word, ',');
-        if (end) *end = 0;
-        list[k] = number(word);
-        word = end ? end + 1 : word;
+    for (size_t items = strcmp(word, "-") ? split(word, ',') : 0; items; items--) {
+        char *next = word + strlen(word) + 1;
+        uint64_t often = least(times(word), MOST_BYTES), n = number(word);
+        list = longer(list, *count * sizeof *list, often * sizeof *list);
+        for (uint64_t i = 0; i < often; i++) list[(*count)++] = n;
+        word = next;
     }
     return list;
 }
 
+/* ---- lines: a call's words, the bytes of those that are bytes, and the yard so far */
+
+struct yard {
+    struct wardrail_head head;
+    struct wardrail_seat *seats;
+    uint8_t *rows;
+    uint16_t *holders;
+    size_t seats_count, rows_count, holders_count;
+};
+
+struct line {
+    char *word[MOST_WORDS];
+    struct bytes bytes[MOST_WORDS];
+    struct yard *yard;
+    bool sum; /* of what is written, how much it is and its digest */
+};
+
+/* A text or a slice of bytes, as calls take it. */
+#define LENT(b) (b).data, (b).count
+#define TABLES(y) &(y)->head, (y)->seats, (y)->seats_count, (y)->rows, (y)->rows_count, (y)->holders, (y)->holders_count
+
 /* ---- answers */
+
+#define N "%" PRIu64
 
 static void hex(const uint8_t *data, size_t count) {
     static const char digits[] = "0123456789abcdef";
@@ -77,13 +142,12 @@ static void hex(const uint8_t *data, size_t count) {
     }
 }
 
-static void part(const uint8_t *text, const uint64_t *from) { hex(text + from[0], from[1]); }
+static void part(struct bytes text, struct wardrail_part p) { hex(text.data + p.from, p.len); }
 
-static void refused(uint64_t n, uint64_t place) { printf("refused %llu at %llu", (unsigned long long)n, (unsigned long long)place); }
+/* Where a part stands, after a space. */
+static void place(struct wardrail_part p) { printf(" " N ":" N, p.from, p.len); }
 
-static void say(uint64_t n) { printf("%llu", (unsigned long long)n); }
-
-static void say_after(const char *word, uint64_t n) { printf("%s %llu", word, (unsigned long long)n); }
+static void refused(uint64_t n, uint64_t place) { printf("refused " N " at " N, n, place); }
 
 /* Two ways to the same answer. */
 static void agree(bool same, const char *what) {
@@ -92,225 +156,449 @@ static void agree(bool same, const char *what) {
 
 /* ---- texts */
 
-static void bencode_call(struct bytes text) {
-    uint64_t detail, r = wardrail_check(text.data, text.count, &detail);
-    if (r) refused(r, detail);
-    else say_after("taken", detail);
+static void bencode_call(struct line *l) {
+    uint64_t count, r = wardrail_check(LENT(l->bytes[1]), &count);
+    if (r) refused(r, count);
+    else printf("taken " N, count);
 }
 
-static void torrent_call(struct bytes text) {
-    uint64_t d[14], r = wardrail_torrent(text.data, text.count, d);
-    uint8_t hash[20];
+/* What stands at each place, from 0 to the text's end or to a refusal. */
+static void walk_call(struct line *l) {
+    struct bytes text = l->bytes[1];
+    struct wardrail_look s = {.next_at = 0};
+    do {
+        uint64_t at = s.next_at, r = wardrail_look(LENT(text), at, &s);
+        if (at) putchar(' ');
+        if (r) {
+            refused(r, s.place);
+            return;
+        }
+        putchar("?sinlde"[s.seen]);
+        if (s.seen == WARDRAIL_SEEN_STRING) part(text, s.bytes);
+        if (s.seen == WARDRAIL_SEEN_INTEGER) s.bytes = (struct wardrail_part){at + 1, s.next_at - at - 2};
+        if (s.seen == WARDRAIL_SEEN_INTEGER || s.seen == WARDRAIL_SEEN_LONG) fwrite(text.data + s.bytes.from, 1, s.bytes.len, stdout);
+    } while (s.next_at < text.count);
+}
+
+static void torrent_call(struct line *l) {
+    struct bytes text = l->bytes[1];
+    struct wardrail_torrent t;
+    uint64_t r = wardrail_torrent(LENT(text), &t);
+    uint8_t hash[20], again[20];
+    memset(hash, 0xa5, 20);
+    agree(wardrail_info_hash(LENT(text), hash) == r && (!r || untouched(hash, 0, 20)), "info_hash");
     if (r) {
-        refused(r, d[0]);
+        refused(r, t.place);
         return;
     }
-    wardrail_info_hash(text.data, text.count, hash);
+    agree(wardrail_sha1(text.data + t.info.from, t.info.len, again) == 0 && !memcmp(hash, again, 20), "info_hash");
+    agree(t.pieces.len == 20 * t.piece_count && t.single == (text.data[t.content_at] == 'i'), "torrent");
     printf("taken ");
-    part(text.data, d);
+    part(text, t.announce);
     putchar(' ');
-    part(text.data, d + 4);
-    printf(" %llu %llu %llu %llu ", (unsigned long long)d[8], (unsigned long long)d[9], (unsigned long long)d[12], (unsigned long long)d[13]);
+    part(text, t.name);
+    printf(" " N " " N " " N " " N " ", t.piece_length, t.piece_count, t.files, t.total);
     hex(hash, 20);
 }
 
 /* File i of many by walking there, from the first on. */
-static void agree_walked(struct bytes text, uint64_t i, const uint64_t *d) {
-    uint64_t t[14], e[3], offset = 0;
-    wardrail_torrent(text.data, text.count, t);
-    e[2] = t[11] + 1;
+static void agree_walked(struct bytes text, uint64_t at, uint64_t i, const struct wardrail_file *file) {
+    struct wardrail_file_at f = {.next_at = at};
+    uint64_t offset = 0;
     for (uint64_t k = 0; k <= i; k++) {
-        if (k) offset += e[0];
-        agree(wardrail_file_at(text.data, text.count, e[2], e) == 0, "file_at");
+        if (k) offset += f.length;
+        agree(wardrail_file_at(LENT(text), f.next_at, &f) == 0, "file_at");
     }
-    agree(offset == d[0] && e[0] == d[1] && e[1] == d[2], "file_at");
+    agree(offset == file->offset && f.length == file->length && f.path_at == file->path_at, "file_at");
 }
 
-static void file_call(struct bytes text, uint64_t i) {
-    uint64_t d[4], e[4], r = wardrail_file(text.data, text.count, i, d);
+static void file_call(struct line *l) {
+    struct bytes text = l->bytes[1];
+    uint64_t i = number(l->word[2]);
+    struct wardrail_file f;
+    struct wardrail_torrent t;
+    uint64_t r = wardrail_file(LENT(text), i, &f);
     if (r) {
-        refused(r, d[0]);
+        refused(r, f.place);
         return;
     }
-    printf("%llu %llu ", (unsigned long long)d[0], (unsigned long long)d[1]);
-    if (d[3]) {
-        /* a single file's path is its name */
-        uint64_t t[14];
-        wardrail_torrent(text.data, text.count, t);
-        part(text.data, t + 4);
+    wardrail_torrent(LENT(text), &t);
+    printf(N " " N " ", f.offset, f.length);
+    if (f.single) {
+        agree(f.path_at == t.name.from, "a single file's path");
+        part(text, t.name);
         return;
     }
-    agree_walked(text, i, d);
+    agree_walked(text, t.content_at + 1, i, &f);
+    struct wardrail_element_at e;
     const char *between = "";
-    for (uint64_t at = d[2]; wardrail_element_at(text.data, text.count, at, e) == 0 && e[0]; at = e[3]) {
+    for (uint64_t at = f.path_at; wardrail_element_at(LENT(text), at, &e) == 0 && e.found; at = e.next_at) {
         printf("%s", between);
-        part(text.data, e + 1);
+        part(text, e.element);
         between = "/";
     }
 }
 
-static void piece_call(struct bytes text, uint64_t i, struct bytes data) {
-    uint32_t piece = (uint32_t)least(i, UINT32_MAX);
-    uint64_t detail, hash[2], r = wardrail_piece_check(text.data, text.count, piece, data.data, data.count, &detail);
-    uint64_t h = wardrail_piece_hash(text.data, text.count, piece, hash);
+/* The place past a path, walked element by element. */
+static uint64_t past_path(struct bytes text, uint64_t at) {
+    struct wardrail_element_at e = {.found = 1, .next_at = at};
+    while (e.found) agree(wardrail_element_at(LENT(text), e.next_at, &e) == 0, "element_at");
+    return e.next_at;
+}
+
+/* Where the files of many stand: their list, its end, and the ends of the first path and the last. */
+static void places_of_files(struct bytes text, const struct wardrail_torrent *t) {
+    struct wardrail_file_at f = {.next_at = t->content_at + 1};
+    uint64_t first = 0, last = 0;
+    for (uint64_t k = 0; k < t->files; k++) {
+        agree(wardrail_file_at(LENT(text), f.next_at, &f) == 0, "file_at");
+        last = past_path(text, f.path_at);
+        if (!k) first = last;
+    }
+    uint64_t end = f.next_at;
+    printf(" files " N " " N " " N " " N " " N, t->content_at, end, wardrail_file_at(LENT(text), end, &f), first, last);
+}
+
+static void places_call(struct line *l) {
+    struct bytes text = l->bytes[1];
+    struct wardrail_torrent t;
+    struct wardrail_piece_hash h;
+    struct wardrail_file f;
+    uint64_t r = wardrail_torrent(LENT(text), &t);
     if (r) {
-        agree(r == WARDRAIL_LONG || r == WARDRAIL_OUTSIDE || (h == r && hash[0] == detail), "piece_hash");
+        refused(r, t.place);
+        return;
+    }
+    printf(N ":" N, t.announce.from, t.announce.len);
+    place(t.name);
+    place(t.info);
+    place(t.pieces);
+    agree(wardrail_piece_hash(LENT(text), 0, &h) == 0, "piece_hash");
+    place(h.hash);
+    agree(wardrail_piece_hash(LENT(text), (uint32_t)t.piece_count - 1, &h) == 0, "piece_hash");
+    place(h.hash);
+    printf(" " N, wardrail_piece_hash(LENT(text), (uint32_t)t.piece_count, &h));
+    if (!t.single) places_of_files(text, &t);
+    else {
+        agree(wardrail_file(LENT(text), 0, &f) == 0 && f.single, "file");
+        printf(" single " N, f.path_at);
+    }
+}
+
+static void piece_call(struct line *l) {
+    struct bytes text = l->bytes[1], bytes = l->bytes[3];
+    uint32_t piece = (uint32_t)least(number(l->word[2]), UINT32_MAX);
+    struct wardrail_piece_hash h;
+    uint64_t detail, r = wardrail_piece_check(LENT(text), piece, LENT(bytes), &detail);
+    uint64_t none = wardrail_piece_hash(LENT(text), piece, &h);
+    if (r) {
+        agree(r == WARDRAIL_LONG || r == WARDRAIL_OUTSIDE || (none == r && h.place == detail), "piece_hash");
         refused(r, detail);
         return;
     }
     uint8_t digest[20];
-    wardrail_sha1(data.data, data.count, digest);
-    agree(!h && hash[1] == 20 && !memcmp(text.data + hash[0], digest, 20) == (detail == 1), "piece_hash");
+    wardrail_sha1(LENT(bytes), digest);
+    agree(!none && h.hash.len == 20 && !memcmp(text.data + h.hash.from, digest, 20) == (detail == 1), "piece_hash");
     printf(detail ? "yes" : "no");
 }
 
-static void reply_call(struct bytes text) {
-    uint64_t d[4], r = wardrail_reply(text.data, text.count, d);
-    if (r) refused(r, d[0]);
-    else if (d[0] == 1) {
+static void reply_call(struct line *l) {
+    struct bytes text = l->bytes[1];
+    struct wardrail_reply reply;
+    uint64_t r = wardrail_reply(LENT(text), &reply);
+    if (r) refused(r, reply.place);
+    else if (reply.form == WARDRAIL_FORM_FAILURE) {
         printf("failure ");
-        part(text.data, d + 1);
-    } else printf("taken %llu %llu", (unsigned long long)d[1], (unsigned long long)d[2]);
+        part(text, reply.reason);
+    } else printf("taken " N " " N, reply.peers.interval, reply.peers.count);
 }
+
+static bool same_part(struct wardrail_part a, struct wardrail_part b) { return a.from == b.from && a.len == b.len; }
 
 /* Entry i by walking there, from the first on. */
-static void agree_listed(struct bytes text, uint64_t i, const uint64_t *d) {
-    uint64_t t[4], e[6];
-    wardrail_reply(text.data, text.count, t);
-    e[5] = t[3];
-    for (uint64_t k = 0; k <= i; k++) {
-        uint64_t at = e[5];
-        agree((t[0] == 2 ? wardrail_packed_at : wardrail_listed_at)(text.data, text.count, at, e) == 0, "an entry's place");
-    }
-    agree(t[0] == d[0] && !memcmp(d + 1, e, 5 * sizeof *e), "an entry's place");
+static void agree_entry(struct bytes text, uint64_t i, const struct wardrail_peer *peer) {
+    struct wardrail_reply reply;
+    struct wardrail_packed_at p;
+    struct wardrail_listed_at e;
+    wardrail_reply(LENT(text), &reply);
+    p.next_at = e.next_at = reply.peers.first_at;
+    bool same = reply.form == peer->form;
+    for (uint64_t k = 0; same && k <= i; k++)
+        same = (reply.form == WARDRAIL_FORM_COMPACT ? wardrail_packed_at(LENT(text), p.next_at, &p) : wardrail_listed_at(LENT(text), e.next_at, &e)) == 0;
+    if (reply.form == WARDRAIL_FORM_COMPACT) same = same && !memcmp(p.address, peer->address, sizeof p.address) && p.port == peer->port;
+    else same = same && same_part(e.named.id, peer->named.id) && same_part(e.named.ip, peer->named.ip) && e.port == peer->port;
+    agree(same, "an entry's place");
 }
 
-static void peer_call(struct bytes text, uint64_t i) {
-    uint64_t d[6], r = wardrail_peer(text.data, text.count, i, d);
+static void peer_call(struct line *l) {
+    struct bytes text = l->bytes[1];
+    uint64_t i = number(l->word[2]);
+    struct wardrail_peer p;
+    uint64_t r = wardrail_peer(LENT(text), i, &p);
     if (r) {
-        refused(r, d[0]);
+        refused(r, p.place);
         return;
     }
-    agree_listed(text, i, d);
-    if (d[0] == 2) {
-        uint8_t address[4] = {(uint8_t)d[1], (uint8_t)d[2], (uint8_t)d[3], (uint8_t)d[4]};
+    agree_entry(text, i, &p);
+    if (p.form == WARDRAIL_FORM_COMPACT) {
+        uint8_t address[4];
+        for (int k = 0; k < 4; k++) address[k] = (uint8_t)p.address[k];
         printf("none ");
         hex(address, 4);
     } else {
-        part(text.data, d + 1);
+        part(text, p.named.id);
         putchar(' ');
-        part(text.data, d + 3);
+        part(text, p.named.ip);
     }
-    putchar(' ');
-    say(d[5]);
+    printf(" " N, p.port);
 }
 
-static void sha1_call(struct bytes data) {
-    uint8_t digest[20], again[20];
-    uint64_t r = wardrail_sha1(data.data, data.count, digest);
-    /* the same in two parts, cut at a third */
-    struct wardrail_sha1_state s;
-    size_t cut = data.count / 3;
-    wardrail_sha1_start(s.words, s.tail);
-    wardrail_sha1_add(s.words, s.tail, data.data, cut);
-    wardrail_sha1_add(s.words, s.tail, data.data + cut, data.count - cut);
-    agree(wardrail_sha1_finish(s.words, s.tail, again) == r && (r || !memcmp(digest, again, 20)), "sha1 in parts");
+/* Where the entries of a reply stand: the first, and where they come to, walked one by one; of a list the first's and the last's parts. */
+static void entries_call(struct line *l) {
+    struct bytes text = l->bytes[1];
+    struct wardrail_reply reply;
+    struct wardrail_packed_at p;
+    struct wardrail_listed_at first = {.port = 0}, e = {.port = 0};
+    uint64_t r = wardrail_reply(LENT(text), &reply);
+    if (r) refused(r, reply.place);
+    else if (reply.form == WARDRAIL_FORM_FAILURE) {
+        printf("failure");
+        place(reply.reason);
+    } else {
+        bool compact = reply.form == WARDRAIL_FORM_COMPACT;
+        uint64_t at = reply.peers.first_at;
+        for (uint64_t k = 0; k < reply.peers.count; k++) {
+            agree((compact ? wardrail_packed_at(LENT(text), at, &p) : wardrail_listed_at(LENT(text), at, &e)) == 0, "an entry's place");
+            at = compact ? p.next_at : e.next_at;
+            if (!k) first = e;
+        }
+        printf("%s " N " " N, compact ? "compact" : "list", reply.peers.first_at, at);
+        if (compact || !reply.peers.count) return;
+        place(first.named.id);
+        place(first.named.ip);
+        place(e.named.id);
+        place(e.named.ip);
+    }
+}
+
+/* ---- digests */
+
+static void digest_said(uint64_t r, const uint8_t digest[20]) {
+    agree(!r || untouched(digest, 0, 20), "a refused digest's output");
     if (r) refused(r, 0);
     else hex(digest, 20);
 }
 
+static void sha1_call(struct line *l) {
+    uint8_t digest[20];
+    memset(digest, 0xa5, 20);
+    uint64_t r = wardrail_sha1(LENT(l->bytes[1]), digest);
+    digest_said(r, digest);
+}
+
+/* Each part stands in memory of its own. */
+static void sha1_parts_call(struct line *l) {
+    struct bytes b = l->bytes[1];
+    struct wardrail_sha1_state s;
+    size_t count, at = 0;
+    uint64_t *lengths = numbers(l->word[2], &count);
+    wardrail_sha1_start(s.words, s.tail);
+    for (size_t k = 0; k <= count; k++) {
+        size_t length = k < count ? least(lengths[k], b.count - at) : b.count - at;
+        uint8_t *bytes = memcpy(lent(length, 1), b.data + at, length);
+        wardrail_sha1_add(s.words, s.tail, bytes, length);
+        free(bytes);
+        at += length;
+    }
+    free(lengths);
+    uint8_t digest[20];
+    memset(digest, 0xa5, 20);
+    uint64_t r = wardrail_sha1_finish(s.words, s.tail, digest);
+    digest_said(r, digest);
+}
+
 /* ---- blocks; a number over 32 bits is no piece, offset or length, and neither is the greatest of 32 */
 
-static void block_call(char **w) {
-    size_t count, room = least(number(w[6]), 2048);
-    uint64_t *lengths = numbers(w[2], &count), *out = lent(room * 3, sizeof *out), detail;
+static void block_call(struct line *l) {
+    char *more = strchr(l->word[6], '+');
+    if (more) *more++ = 0;
+    size_t count, room = 3 * least(number(l->word[6]), 2048) + (more ? least(number(more), 2) : 0);
+    uint64_t *lengths = numbers(l->word[2], &count), piece_length = number(l->word[1]), detail, size;
+    uint64_t *out = lent_out(room, sizeof *out);
     uint32_t at[3];
-    for (int k = 0; k < 3; k++) at[k] = (uint32_t)least(number(w[3 + k]), UINT32_MAX);
-    uint64_t r = wardrail_block(lengths, count, number(w[1]), at[0], at[1], at[2], out, room * 3, &detail);
-    uint64_t size, p = wardrail_piece_size(lengths, count, number(w[1]), at[0], &size);
+    for (int k = 0; k < 3; k++) at[k] = (uint32_t)least(number(l->word[3 + k]), UINT32_MAX);
+    uint64_t r = wardrail_block(lengths, count, piece_length, at[0], at[1], at[2], out, room, &detail);
+    uint64_t p = wardrail_piece_size(lengths, count, piece_length, at[0], &size);
     /* the piece is asked for before the block */
     if (p) agree(r == p && detail == size, "piece_size");
     else if (!r) agree((uint64_t)at[1] + at[2] <= size, "piece_size");
     else agree(r == WARDRAIL_OUTSIDE || r == WARDRAIL_ROOM, "piece_size");
+    agree(untouched(out, r ? 0 : detail * sizeof(struct wardrail_span), room * sizeof *out), "a block's output");
+    const struct wardrail_span *spans = (const struct wardrail_span *)out;
     if (r) refused(r, detail);
     else
-        for (size_t k = 0; k < detail; k++) printf("%s%llu:%llu:%llu", k ? " " : "", (unsigned long long)out[3 * k], (unsigned long long)out[3 * k + 1], (unsigned long long)out[3 * k + 2]);
+        for (size_t k = 0; k < detail; k++) printf("%s" N ":" N ":" N, k ? " " : "", spans[k].file, spans[k].offset, spans[k].length);
     free(lengths);
     free(out);
 }
 
-static void byte_call(char **w) {
+static void byte_call(struct line *l) {
     size_t count;
-    uint64_t *lengths = numbers(w[2], &count), d[2];
-    uint64_t r = wardrail_byte(lengths, count, number(w[1]), number(w[3]), number(w[4]), d);
-    if (r) refused(r, d[0]);
-    else printf("%llu %llu", (unsigned long long)d[0], (unsigned long long)d[1]);
+    uint64_t *lengths = numbers(l->word[2], &count);
+    struct wardrail_byte b;
+    uint64_t r = wardrail_byte(lengths, count, number(l->word[1]), number(l->word[3]), number(l->word[4]), &b);
+    if (r) refused(r, b.place);
+    else printf(N " " N, b.piece, b.offset);
+    free(lengths);
+}
+
+static void size_call(struct line *l) {
+    size_t count;
+    uint64_t *lengths = numbers(l->word[2], &count), size;
+    uint64_t r = wardrail_piece_size(lengths, count, number(l->word[1]), (uint32_t)least(number(l->word[3]), UINT32_MAX), &size);
+    if (r) refused(r, size);
+    else printf(N, size);
     free(lengths);
 }
 
 /* ---- frames and handshakes */
 
-static void frame_call(struct bytes b) {
-    uint64_t d[8], r = wardrail_frame(b.data, b.count, d);
-    if (r) refused(r, d[0]);
-    else if (d[0] == WARDRAIL_WAIT) printf("wait");
-    else if (d[0] == WARDRAIL_KEEPALIVE) printf("taken %llu keepalive -", (unsigned long long)d[1]);
+static void frame_call(struct line *l) {
+    struct bytes b = l->bytes[1];
+    struct wardrail_frame f;
+    uint64_t r = wardrail_frame(LENT(b), &f);
+    if (r) refused(r, f.place);
+    else if (f.found == WARDRAIL_FRAME_WAIT) printf("wait");
+    else if (f.found == WARDRAIL_FRAME_KEEPALIVE) printf("taken " N " keepalive -", f.used);
     else {
-        printf("taken %llu %llu ", (unsigned long long)d[1], (unsigned long long)d[2]);
-        hex(b.data + 5, d[1] - 5);
+        printf("taken " N " " N " ", f.used, f.id);
+        hex(b.data + 5, f.used - 5);
     }
 }
 
-static void handshake_call(struct bytes b, struct bytes info) {
+/* How many of the bytes' beginnings wait, each in memory of its own; `info` is a handshake's hash, and of a frame there is none. */
+static uint64_t waits(struct bytes b, const uint8_t *info) {
+    uint64_t n = 0;
+    for (size_t k = 0; k < b.count; k++) {
+        uint8_t *cut = memcpy(lent(k, 1), b.data, k);
+        struct wardrail_frame f;
+        struct wardrail_handshake h;
+        if (info) n += wardrail_handshake(cut, k, info, &h) == 0 && h.found == WARDRAIL_HANDSHAKE_WAIT;
+        else n += wardrail_frame(cut, k, &f) == 0 && f.found == WARDRAIL_FRAME_WAIT;
+        free(cut);
+    }
+    return n;
+}
+
+/* What a frame of an id has: p a piece, b where it begins, l a length, c what it carries. */
+static const char *fields(uint64_t id) {
+    static const char *const of[] = {"", "", "", "", "p", "c", "pbl", "pbc", "pbl"};
+    return id < sizeof of / sizeof *of ? of[id] : "c";
+}
+
+static void frame_cuts_call(struct line *l) {
+    struct bytes b = l->bytes[1];
+    struct wardrail_frame f;
+    uint64_t r = wardrail_frame(LENT(b), &f);
+    printf(N " ", waits(b, NULL));
+    if (r) refused(r, f.place);
+    else if (f.found == WARDRAIL_FRAME_WAIT) printf("wait");
+    else if (f.found == WARDRAIL_FRAME_KEEPALIVE) printf("taken " N " keepalive", f.used);
+    else {
+        printf("taken " N " " N, f.used, f.id);
+        for (const char *field = fields(f.id); *field; field++) {
+            if (*field == 'c') place(f.carried);
+            else printf(" " N, *field == 'p' ? f.piece : *field == 'b' ? f.begin : f.length);
+        }
+    }
+}
+
+static void handshake_call(struct line *l) {
+    struct bytes b = l->bytes[1], info = l->bytes[2];
+    struct wardrail_handshake h;
     if (info.count != 20) stop("an info hash has 20 bytes", "");
-    uint64_t d[6], r = wardrail_handshake(b.data, b.count, info.data, d);
-    if (r) refused(r, d[0]);
-    else if (d[0] == WARDRAIL_WAIT) printf("wait");
+    uint64_t r = wardrail_handshake(LENT(b), info.data, &h);
+    if (r) refused(r, h.place);
+    else if (h.found == WARDRAIL_HANDSHAKE_WAIT) printf("wait");
     else {
+        agree(h.used == WARDRAIL_HANDSHAKE_BYTES, "a handshake's bytes");
         printf("taken ");
-        part(b.data, d + 2);
+        part(b, h.free_bytes);
         putchar(' ');
-        part(b.data, d + 4);
+        part(b, h.peer_id);
     }
 }
 
-/* ---- writers */
-
-static void write_call(char **w, struct bytes *b, const char *room_word) {
-    size_t room = least(number(room_word), LONGEST_TEXT + 1);
-    uint8_t *out = lent(room, 1);
-    uint64_t detail = 0, r;
-    if (!strcmp(w[0], "write-torrent")) {
-        r = wardrail_write_torrent(b[1].data, b[1].count, b[2].data, b[2].count, number(w[3]), b[5].data, b[5].count, number(w[4]), out, room, &detail);
-        uint64_t size, s = wardrail_torrent_size(b[1].data, b[1].count, b[2].data, b[2].count, number(w[3]), b[5].data, b[5].count, number(w[4]), &size);
-        agree(r == WARDRAIL_ROOM ? s == 0 && size > room : s == r && size == detail, "torrent_size");
-    } else if (!strcmp(w[0], "write-reply"))
-        r = wardrail_write_reply(number(w[1]), b[2].data, b[2].count, out, room, &detail);
-    else if (!strcmp(w[0], "write-handshake")) {
-        if (b[1].count != 20 || b[2].count != 20) stop("a hash and a peer id have 20 bytes", "");
-        r = wardrail_write_handshake(b[1].data, b[2].data, out, room, &detail);
-    } else if (!strcmp(w[1], "keepalive")) r = wardrail_write_keepalive(out, room, &detail);
+static void handshake_cuts_call(struct line *l) {
+    struct bytes b = l->bytes[1], info = l->bytes[2];
+    struct wardrail_handshake h;
+    if (info.count != 20) stop("an info hash has 20 bytes", "");
+    uint64_t r = wardrail_handshake(LENT(b), info.data, &h);
+    printf(N " ", waits(b, info.data));
+    if (r) refused(r, h.place);
+    else if (h.found == WARDRAIL_HANDSHAKE_WAIT) printf("wait");
     else {
-        uint64_t id = number(w[1]);
-        if (id > 8) stop("ids are 0 to 8", w[1]);
-        r = wardrail_write_frame((uint8_t)id, b[2].data, b[2].count, out, room, &detail);
+        printf("taken " N, h.used);
+        place(h.free_bytes);
+        place(h.peer_id);
     }
+}
+
+/* ---- writers: the last word is the room */
+
+static struct bytes room_of(const char *word) {
+    size_t room = least(number(word), LONGEST_TEXT + 1);
+    return (struct bytes){lent_out(room, 1), room};
+}
+
+static void written(struct line *l, uint64_t r, uint64_t detail, struct bytes out) {
+    agree(untouched(out.data, r ? 0 : detail, out.count), "a writer's output");
     if (r) refused(r, detail);
-    else hex(out, detail);
-    free(out);
+    else if (!l->sum) hex(out.data, detail);
+    else {
+        uint8_t digest[20];
+        agree(wardrail_sha1(out.data, detail, digest) == 0, "the digest of what was written");
+        printf(N ":", detail);
+        hex(digest, 20);
+    }
+    free(out.data);
+}
+
+static void write_torrent_call(struct line *l) {
+    struct bytes announce = l->bytes[1], name = l->bytes[2], pieces = l->bytes[5], out = room_of(l->word[6]);
+    uint64_t piece_length = number(l->word[3]), length = number(l->word[4]), detail, size;
+    uint64_t r = wardrail_write_torrent(LENT(announce), LENT(name), piece_length, LENT(pieces), length, LENT(out), &detail);
+    uint64_t s = wardrail_torrent_size(LENT(announce), LENT(name), piece_length, LENT(pieces), length, &size);
+    agree(r == WARDRAIL_ROOM ? s == 0 && size > out.count : s == r && size == detail, "torrent_size");
+    written(l, r, detail, out);
+}
+
+static void write_reply_call(struct line *l) {
+    struct bytes out = room_of(l->word[3]);
+    uint64_t detail, r = wardrail_write_reply(number(l->word[1]), LENT(l->bytes[2]), LENT(out), &detail);
+    written(l, r, detail, out);
+}
+
+static void write_handshake_call(struct line *l) {
+    struct bytes info = l->bytes[1], peer = l->bytes[2], out = room_of(l->word[3]);
+    if (info.count != 20 || peer.count != 20) stop("a hash and a peer id have 20 bytes", "");
+    uint64_t detail, r = wardrail_write_handshake(info.data, peer.data, LENT(out), &detail);
+    written(l, r, detail, out);
+}
+
+static void write_frame_call(struct line *l) {
+    struct bytes payload = l->bytes[2], out = room_of(l->word[3]);
+    uint64_t detail, r;
+    if (!strcmp(l->word[1], "keepalive")) r = wardrail_write_keepalive(LENT(out), &detail);
+    else {
+        uint64_t id = number(l->word[1]);
+        if (id > 255) stop("ids are 0 to 255", l->word[1]);
+        r = wardrail_write_frame((uint8_t)id, LENT(payload), LENT(out), &detail);
+    }
+    written(l, r, detail, out);
 }
 
 /* ---- the yard */
-
-struct yard {
-    struct wardrail_head head;
-    struct wardrail_seat *seats;
-    uint8_t *rows;
-    uint16_t *holders;
-    size_t seats_count, rows_count, holders_count;
-};
-
-#define TABLES &y->head, y->seats, y->seats_count, y->rows, y->rows_count, y->holders, y->holders_count
 
 static void end_yard(struct yard *y) {
     if (!y) return;
@@ -320,166 +608,195 @@ static void end_yard(struct yard *y) {
     free(y);
 }
 
-/* A script's sizes over the limits are lent as sizes just over them: no table is larger than it need be. */
-static struct yard *start_call(struct yard *old, char **w) {
+/* A script's sizes over the limits are lent as sizes just over them: no table is larger than it need be. A refused start leaves the
+ * yard as it was. */
+static void start_call(struct line *l) {
     struct yard *y = lent(1, sizeof *y);
-    uint64_t pieces = least(number(w[1]), 16385);
-    y->seats_count = least(number(w[4]), MOST_SEATS + 1);
+    uint64_t pieces = least(number(l->word[1]), 16385);
+    uint32_t piece_length = (uint32_t)least(number(l->word[2]), UINT32_MAX), last = (uint32_t)least(number(l->word[3]), UINT32_MAX);
+    y->seats_count = least(number(l->word[4]), MOST_SEATS + 1);
     y->rows_count = y->seats_count * ((pieces + 7) / 8);
     y->holders_count = pieces;
     y->seats = lent(y->seats_count, sizeof *y->seats);
     y->rows = lent(y->rows_count, 1);
     y->holders = lent(y->holders_count, sizeof *y->holders);
-    uint64_t r = wardrail_yard_start(TABLES, (uint32_t)pieces, (uint32_t)least(number(w[2]), UINT32_MAX), (uint32_t)least(number(w[3]), UINT32_MAX));
-    if (r) refused(r, 0);
-    else printf("started");
-    end_yard(r ? y : old);
-    return r ? old : y;
+    uint64_t r = wardrail_yard_start(TABLES(y), (uint32_t)pieces, piece_length, last);
+    if (r) {
+        refused(r, 0);
+        end_yard(y);
+        return;
+    }
+    printf("started");
+    end_yard(l->yard);
+    l->yard = y;
 }
 
-static void feed_call(struct yard *y, uint64_t seat, struct bytes b) {
-    struct wardrail_told told;
-    memset(&told, 0, sizeof told);
-    uint64_t r = wardrail_yard_feed(TABLES, seat, b.data, b.count, &told);
-    static const char *const words[] = {"taken", "serve", "drop"};
+/* What a call says by one number, after a word if it has one. */
+static void value(uint64_t r, const char *word, struct wardrail_told told) {
+    if (r) refused(r, 0);
+    else printf("%s" N, word, told.value);
+}
+
+static void sit_call(struct line *l) {
+    struct wardrail_told told = {0};
+    uint64_t r = wardrail_yard_sit(TABLES(l->yard), &told);
+    value(r, "seat ", told);
+}
+
+static void scarcest_call(struct line *l) {
+    struct wardrail_told told = {0};
+    uint64_t r = wardrail_yard_scarcest(TABLES(l->yard), &told);
+    value(r, "piece ", told);
+}
+
+static void count_call(struct line *l) {
+    struct wardrail_told told = {0};
+    uint64_t r = wardrail_yard_count(TABLES(l->yard), number(l->word[1]), &told);
+    value(r, "", told);
+}
+
+static void leave_call(struct line *l) {
+    uint64_t r = wardrail_yard_leave(TABLES(l->yard), number(l->word[1]));
+    if (r) refused(r, 0);
+    else printf("left");
+}
+
+static void feed_call(struct line *l) {
+    static const char *const words[] = {"taken ", "serve ", "drop "};
+    struct wardrail_told told = {0};
+    uint64_t r = wardrail_yard_feed(TABLES(l->yard), number(l->word[1]), LENT(l->bytes[2]), &told);
     if (r == WARDRAIL_YARD_WAIT) printf("wait");
-    else if (r) refused(r, 0);
-    else say_after(words[told.request], told.value);
+    else value(r, words[told.request], told);
 }
 
-static void mark_call(struct yard *y, char **w) {
-    size_t room = least(number(w[3]), 16);
-    uint8_t *frame = lent(room, 1);
-    bool on = number(w[2]) == 1;
-    uint64_t seat = number(w[1]);
-    uint64_t r = !strcmp(w[0], "choke") ? wardrail_yard_choke(TABLES, seat, on, frame, room) : wardrail_yard_interest(TABLES, seat, on, frame, room);
-    if (r) refused(r, 0);
-    else hex(frame, 5);
-    free(frame);
+/* Our own marks: which call sets it is the row's. */
+static void mark(struct line *l, bool choke) {
+    struct bytes frame = room_of(l->word[3]);
+    uint64_t seat = number(l->word[1]), on = number(l->word[2]);
+    uint64_t r = choke ? wardrail_yard_choke(TABLES(l->yard), seat, on == 1, LENT(frame)) : wardrail_yard_interest(TABLES(l->yard), seat, on == 1, LENT(frame));
+    written(l, r, r ? 0 : 5, frame);
 }
 
-static void missing_call(struct yard *y, char **w) {
-    size_t room = least(number(w[2]), MOST_SEATS + 1);
-    uint32_t *page = lent(room, sizeof *page);
-    struct wardrail_told told;
-    uint64_t r = wardrail_yard_missing(TABLES, number(w[1]), page, room, &told);
+static void choke_call(struct line *l) { mark(l, true); }
+static void interest_call(struct line *l) { mark(l, false); }
+
+static void missing_call(struct line *l) {
+    size_t room = least(number(l->word[2]), MOST_SEATS + 1);
+    uint32_t *page = lent_out(room, sizeof *page);
+    struct wardrail_told told = {0};
+    uint64_t r = wardrail_yard_missing(TABLES(l->yard), number(l->word[1]), page, room, &told);
+    agree(untouched(page, told.value * sizeof *page, room * sizeof *page), "a page's output");
     if (r) refused(r, 0);
     else {
         if (!told.value) putchar('-');
-        for (size_t k = 0; k < told.value; k++) printf("%s%u", k ? "," : "", (unsigned)page[k]);
-        printf(" of %llu next %llu", (unsigned long long)told.total, (unsigned long long)told.next);
+        for (size_t k = 0; k < told.value; k++) printf("%s%" PRIu32, k ? "," : "", page[k]);
+        printf(" of " N " next " N, told.total, told.next);
     }
     free(page);
 }
 
-static void seat_call(struct yard *y, uint64_t i) {
-    struct wardrail_seat s;
-    memset(&s, 0, sizeof s);
-    uint64_t r = wardrail_yard_look(TABLES, i, &s);
+static void head_call(struct line *l) { printf("%" PRIu32 " %" PRIu32, l->yard->head.taken, l->yard->head.complete); }
+
+static void seat_call(struct line *l) {
+    struct yard *y = l->yard;
+    uint64_t i = number(l->word[1]);
+    struct wardrail_seat s = {0};
+    uint64_t r = wardrail_yard_look(TABLES(y), i, &s);
     /* the pieces that the row has, one by one, and the one past the last */
     struct wardrail_told told;
-    uint32_t held = 0;
+    uint64_t held = 0;
     for (uint64_t p = 0; !r && p < y->head.pieces; p++) {
-        agree(wardrail_yard_has(TABLES, i, p, &told) == 0 && told.value <= 1, "has");
-        held += (uint32_t)told.value;
+        agree(wardrail_yard_has(TABLES(y), i, p, &told) == 0 && told.value <= 1, "has");
+        held += told.value;
     }
-    uint64_t past = wardrail_yard_has(TABLES, i, y->head.pieces, &told);
+    uint64_t past = wardrail_yard_has(TABLES(y), i, y->head.pieces, &told);
     agree(r ? past == r : past == WARDRAIL_BEYOND && held == s.held, "has");
     if (r) refused(r, 0);
     else if (!s.taken) printf("free");
     else printf("%s %u %d %d %d %d", s.fresh ? "fresh" : "used", (unsigned)s.held, s.am_choking, s.am_interested, s.peer_choking, s.peer_interested);
 }
 
-static void told_call(struct yard *y, char **w) {
-    struct wardrail_told told;
-    uint64_t r;
-    const char *word = NULL;
-    if (!strcmp(w[0], "sit")) r = wardrail_yard_sit(TABLES, &told), word = "seat";
-    else if (!strcmp(w[0], "scarcest")) r = wardrail_yard_scarcest(TABLES, &told), word = "piece";
-    else r = wardrail_yard_count(TABLES, number(w[1]), &told);
-    if (r) refused(r, 0);
-    else if (word) say_after(word, told.value);
-    else say(told.value);
-}
-
-static void yard_call(struct yard *y, char **w) {
-    if (!y) printf("no yard");
-    else if (!strcmp(w[0], "leave")) {
-        uint64_t r = wardrail_yard_leave(TABLES, number(w[1]));
-        if (r) refused(r, 0);
-        else printf("left");
-    } else if (!strcmp(w[0], "feed")) {
-        struct bytes b = unhex(w[2]);
-        feed_call(y, number(w[1]), b);
-        free(b.data);
-    } else if (!strcmp(w[0], "choke") || !strcmp(w[0], "interest")) mark_call(y, w);
-    else if (!strcmp(w[0], "missing")) missing_call(y, w);
-    else if (!strcmp(w[0], "head")) printf("%u %u", (unsigned)y->head.taken, (unsigned)y->head.complete);
-    else if (!strcmp(w[0], "seat")) seat_call(y, number(w[1]));
-    else told_call(y, w);
-}
-
 /* ---- a script */
 
-/* Every call: its words, and which of them are bytes (a bit for each word). */
+#define BYTES(k) (1 << (k))
+
+/* Every call: how many words it has, which of them are bytes, whether it needs a yard, and what answers it. */
 static const struct call {
     const char *name;
     int words, bytes;
     bool yard;
+    void (*answer)(struct line *);
 } calls[] = {
-    {"bencode", 2, 2, false},          {"torrent", 2, 2, false},     {"file", 3, 2, false},
-    {"piece", 4, 2 + 8, false},        {"reply", 2, 2, false},       {"peer", 3, 2, false},
-    {"block", 7, 0, false},            {"byte", 5, 0, false},        {"frame", 2, 2, false},
-    {"handshake", 3, 2 + 4, false},    {"write-torrent", 7, 2 + 4 + 32, false}, {"write-reply", 4, 4, false},
-    {"write-handshake", 4, 2 + 4, false}, {"write-frame", 4, 4, false}, {"sha1", 2, 2, false},
-    {"start", 5, 0, true},             {"sit", 1, 0, true},          {"leave", 2, 0, true},
-    {"feed", 3, 0, true},              {"choke", 4, 0, true},        {"interest", 4, 0, true},
-    {"missing", 3, 0, true},           {"scarcest", 1, 0, true},     {"head", 1, 0, true},
-    {"count", 2, 0, true},             {"seat", 2, 0, true},
+    {"bencode", 2, BYTES(1), false, bencode_call},
+    {"walk", 2, BYTES(1), false, walk_call},
+    {"torrent", 2, BYTES(1), false, torrent_call},
+    {"file", 3, BYTES(1), false, file_call},
+    {"places", 2, BYTES(1), false, places_call},
+    {"piece", 4, BYTES(1) | BYTES(3), false, piece_call},
+    {"reply", 2, BYTES(1), false, reply_call},
+    {"peer", 3, BYTES(1), false, peer_call},
+    {"entries", 2, BYTES(1), false, entries_call},
+    {"sha1", 2, BYTES(1), false, sha1_call},
+    {"sha1-parts", 3, BYTES(1), false, sha1_parts_call},
+    {"block", 7, 0, false, block_call},
+    {"byte", 5, 0, false, byte_call},
+    {"size", 4, 0, false, size_call},
+    {"frame", 2, BYTES(1), false, frame_call},
+    {"frame-cuts", 2, BYTES(1), false, frame_cuts_call},
+    {"handshake", 3, BYTES(1) | BYTES(2), false, handshake_call},
+    {"handshake-cuts", 3, BYTES(1) | BYTES(2), false, handshake_cuts_call},
+    {"write-torrent", 7, BYTES(1) | BYTES(2) | BYTES(5), false, write_torrent_call},
+    {"write-reply", 4, BYTES(2), false, write_reply_call},
+    {"write-handshake", 4, BYTES(1) | BYTES(2), false, write_handshake_call},
+    {"write-frame", 4, BYTES(2), false, write_frame_call},
+    {"start", 5, 0, false, start_call},
+    {"sit", 1, 0, true, sit_call},
+    {"leave", 2, 0, true, leave_call},
+    {"feed", 3, BYTES(2), true, feed_call},
+    {"choke", 4, 0, true, choke_call},
+    {"interest", 4, 0, true, interest_call},
+    {"missing", 3, 0, true, missing_call},
+    {"scarcest", 1, 0, true, scarcest_call},
+    {"head", 1, 0, true, head_call},
+    {"count", 2, 0, true, count_call},
+    {"seat", 2, 0, true, seat_call},
 };
 
-static void text_call(char **w, struct bytes *b, int count) {
-    if (!strcmp(w[0], "bencode")) bencode_call(b[1]);
-    else if (!strcmp(w[0], "torrent")) torrent_call(b[1]);
-    else if (!strcmp(w[0], "file")) file_call(b[1], number(w[2]));
-    else if (!strcmp(w[0], "piece")) piece_call(b[1], number(w[2]), b[3]);
-    else if (!strcmp(w[0], "reply")) reply_call(b[1]);
-    else if (!strcmp(w[0], "peer")) peer_call(b[1], number(w[2]));
-    else if (!strcmp(w[0], "block")) block_call(w);
-    else if (!strcmp(w[0], "byte")) byte_call(w);
-    else if (!strcmp(w[0], "frame")) frame_call(b[1]);
-    else if (!strcmp(w[0], "handshake")) handshake_call(b[1], b[2]);
-    else if (!strcmp(w[0], "sha1")) sha1_call(b[1]);
-    else write_call(w, b, w[count - 1]);
+static const struct call *call_of(const char *name, int words) {
+    for (size_t k = 0; k < sizeof calls / sizeof *calls; k++)
+        if (!strcmp(calls[k].name, name) && calls[k].words == words) return &calls[k];
+    stop("no such call", name);
+    return NULL;
+}
+
+/* `sum` may stand before a call that writes. */
+static void answer(struct line *l, char *text) {
+    l->sum = !strncmp(text, "sum write-", 10);
+    if (l->sum) text += 4;
+    int words = 0;
+    for (char *at = text; at; words++) {
+        if (words == MOST_WORDS) stop("too many words", text);
+        l->word[words] = at;
+        if ((at = strchr(at, ' '))) *at++ = 0;
+    }
+    const struct call *c = call_of(l->word[0], words);
+    for (int k = 1; k < words; k++) l->bytes[k] = c->bytes & BYTES(k) ? unhex(l->word[k]) : (struct bytes){NULL, 0};
+    if (c->yard && !l->yard) printf("no yard");
+    else c->answer(l);
+    putchar('\n');
+    for (int k = 1; k < words; k++) free(l->bytes[k].data);
 }
 
 int main(void) {
-    struct yard *y = NULL;
-    char *line = NULL;
+    struct line l = {.yard = NULL};
+    char *text = NULL;
     size_t room = 0;
     ssize_t length;
-    while ((length = getline(&line, &room, stdin)) > 0) {
-        if (line[length - 1] == '\n') line[--length] = 0;
-        if (!length || line[0] == '#') continue;
-        char *w[MOST_WORDS] = {line};
-        int count = 1;
-        for (char *at = line; (at = strchr(at, ' ')); w[count++] = at) {
-            *at++ = 0;
-            if (count == MOST_WORDS) stop("too many words", line);
-        }
-        const struct call *c = calls;
-        while (c < calls + sizeof calls / sizeof *calls && strcmp(c->name, w[0])) c++;
-        if (c == calls + sizeof calls / sizeof *calls || c->words != count) stop("no such call", line);
-        struct bytes b[MOST_WORDS] = {{0}};
-        for (int k = 1; k < count; k++)
-            if (c->bytes >> k & 1) b[k] = unhex(w[k]);
-        if (!strcmp(w[0], "start")) y = start_call(y, w);
-        else if (c->yard) yard_call(y, w);
-        else text_call(w, b, count);
-        putchar('\n');
-        for (int k = 1; k < count; k++) free(b[k].data);
+    while ((length = getline(&text, &room, stdin)) > 0) {
+        if (text[length - 1] == '\n') text[--length] = 0;
+        if (length && text[0] != '#') answer(&l, text);
     }
-    end_yard(y);
-    free(line);
+    end_yard(l.yard);
+    free(text);
     return 0;
 }

@@ -1,18 +1,21 @@
 /* wardrail.h: the C interface of libwardrail.a, for C11 and C++11 on 64-bit machines.
  *
  * EVERY CALL that can refuse answers 0, or the number of the refusal by the table of document 01. What else it has to say
- * goes into `detail`, a number or a short array that the call writes whole each time: on 0 what is said at the call below;
- * on a refusal its first number is the place (a byte offset, and 0 for every refusal from 20 on) and the others are 0.
- * On a refusal nothing else that is lent changes. A call keeps no state, takes no memory and never fails otherwise; calls may
- * run at once in several threads as long as none writes what another is passed.
+ * goes into its last argument, a struct or a number, which the call writes whole each time. On 0 it is what is said at the
+ * struct or the call. On a refusal it is the place: `place` of the struct, or the number (a byte offset, and 0 for every
+ * refusal from 20 on), and all else of it is 0. On a refusal nothing else that is lent changes. A call keeps no state, takes
+ * no memory and never fails otherwise; calls may run at once in several threads as long as none writes what another is passed.
+ *
+ *     struct wardrail_torrent t;
+ *     uint64_t refused = wardrail_torrent(text, count, &t);
+ *     if (refused) printf("refused %d at byte %d\n", (int)refused, (int)t.place);
+ *     else printf("%.*s: %d files\n", (int)t.name.len, (const char *)text + t.name.from, (int)t.files);
  *
  * WHAT A CALLER OWES. A slice is a pointer and a count: the pointer is not null, also where the count is 0, is aligned for
  * its type, and that many elements are there. An array has as many elements as is written. What a call writes (not const)
  * overlaps nothing else that is passed to it. Nothing is asked of the content: any bytes and any numbers are answered.
  * Numbers are 64 bits wide, but pieces, offsets inside a piece and lengths of blocks 32, as on the wire: for a larger number
- * the caller passes 2^32 - 1, which is no such piece (31) and no such offset or length (34), in the order of checks.
- *
- * "Part" means two numbers, the offset of the first byte in the text and how many bytes there are. */
+ * the caller passes 2^32 - 1, which is no such piece (31) and no such offset or length (34), in the order of checks. */
 #ifndef WARDRAIL_H
 #define WARDRAIL_H
 
@@ -27,6 +30,16 @@ extern "C" {
 #endif
 
 WARDRAIL_ASSERT(sizeof(size_t) == 8, "the library counts in 64 bits");
+
+/* An answer is a row of numbers of 64 bits with no gap: how many there are, and which is the last. */
+#define WARDRAIL_ROW(name, count, last) \
+    WARDRAIL_ASSERT(sizeof(struct name) == 8 * (count) && offsetof(struct name, last) == sizeof(struct name) - sizeof(((struct name *)0)->last), #name)
+
+/* Bytes of a text that was passed: the offset of the first, and how many there are. */
+struct wardrail_part {
+    uint64_t from, len;
+};
+WARDRAIL_ROW(wardrail_part, 2, len);
 
 /* ---- Refusals: what the numbers mean */
 
@@ -65,32 +78,104 @@ enum wardrail_refusal {
 /* Whether a text is one bencoded value within the limits: 1 to 8. On 0 `detail` is its count of values. */
 uint64_t wardrail_check(const uint8_t *text, size_t text_count, uint64_t *detail);
 
+/* What stands at a place of a text. */
+enum wardrail_seen {
+    WARDRAIL_SEEN_STRING = 1,
+    WARDRAIL_SEEN_INTEGER = 2, /* its sign and digits stand between the i and the e: strtoll from the byte after the i reads it */
+    WARDRAIL_SEEN_LONG = 3,    /* an integer outside 64 bits */
+    WARDRAIL_SEEN_LIST = 4,
+    WARDRAIL_SEEN_DICTIONARY = 5,
+    WARDRAIL_SEEN_END = 6 /* the e of a list or dictionary */
+};
+
+struct wardrail_look {
+    union {
+        uint64_t seen;  /* enum wardrail_seen */
+        uint64_t place; /* on a refusal */
+    };
+    struct wardrail_part bytes; /* a string's, or the sign and digits of an integer outside 64 bits; of the others 0 */
+    uint64_t next_at;           /* the offset past it; of a list or dictionary, of the first thing in it */
+};
+WARDRAIL_ROW(wardrail_look, 4, next_at);
+
+/* What stands at an offset, to walk over a text that was checked: from 0 on by next_at, as far as the text goes. Any text and
+ * offset is answered: 1, 2. */
+uint64_t wardrail_look(const uint8_t *text, size_t text_count, size_t at, struct wardrail_look *look);
+
 /* ---- Torrents */
 
-/* Reads a torrent: 1 to 13. On 0: the parts announce [0], info [2], name [4] and pieces [6], then [8] piece length,
- * [9] how many pieces, [10] 1 for a single file and else 0, [11] the offset of the value of length or files,
- * [12] how many files, [13] the total. */
-uint64_t wardrail_torrent(const uint8_t *text, size_t text_count, uint64_t detail[14]);
+struct wardrail_torrent {
+    union {
+        struct wardrail_part announce;
+        uint64_t place; /* on a refusal */
+    };
+    struct wardrail_part info, name, pieces;
+    uint64_t piece_length, piece_count;
+    uint64_t single;     /* 1 for a single file, and else 0 */
+    uint64_t content_at; /* the offset of the value of length or files */
+    uint64_t files;      /* how many */
+    uint64_t total;      /* bytes of all files */
+};
+WARDRAIL_ROW(wardrail_torrent, 14, total);
+
+/* Reads a torrent: 1 to 13. */
+uint64_t wardrail_torrent(const uint8_t *text, size_t text_count, struct wardrail_torrent *torrent);
 
 /* Writes the info hash, SHA-1 of the bytes of info. Refuses as wardrail_torrent does, which tells the place. */
 uint64_t wardrail_info_hash(const uint8_t *text, size_t text_count, uint8_t digest[20]);
 
-/* File `number` of a torrent, from 0: the torrent's refusals, then 31. On 0: [0] its offset in the joined content,
- * [1] its length, [2] where its path begins, [3] 1 for a single file, whose path is the name at [2], and else 0. */
-uint64_t wardrail_file(const uint8_t *text, size_t text_count, size_t number, uint64_t detail[4]);
+struct wardrail_file {
+    union {
+        uint64_t offset; /* in the joined content */
+        uint64_t place;  /* on a refusal */
+    };
+    uint64_t length;
+    uint64_t path_at; /* where its path begins */
+    uint64_t single;  /* 1 for a single file, whose path is the name at path_at, and else 0 */
+};
+WARDRAIL_ROW(wardrail_file, 4, single);
 
-/* The file of many at an offset, to walk all files in one pass: first [11] of wardrail_torrent and 1, then [2] of the answer
- * before, as many times as there are files. On 0: [0] its length, [1] where its path begins, [2] the next offset. Any text
- * and offset is answered: 1 to 7, 10, 11, 13. */
-uint64_t wardrail_file_at(const uint8_t *text, size_t text_count, size_t at, uint64_t detail[3]);
+/* File `number` of a torrent, from 0: the torrent's refusals, then 31. */
+uint64_t wardrail_file(const uint8_t *text, size_t text_count, size_t number, struct wardrail_file *file);
 
-/* The element of a path at an offset: first the path of wardrail_file, then [3] of the answer before, until [0] is 0.
- * On 0: [0] 1, [1] the part of the element, [3] the next offset; or [0] 0 at the path's end, [3] the offset past it.
+struct wardrail_file_at {
+    union {
+        uint64_t length;
+        uint64_t place; /* on a refusal */
+    };
+    uint64_t path_at; /* where its path begins */
+    uint64_t next_at; /* where the next file stands */
+};
+WARDRAIL_ROW(wardrail_file_at, 3, next_at);
+
+/* The file of many at an offset, to walk all files in one pass: first content_at of wardrail_torrent and 1, then next_at of
+ * the answer before, as many times as there are files. Any text and offset is answered: 1 to 7, 10, 11, 13. */
+uint64_t wardrail_file_at(const uint8_t *text, size_t text_count, size_t at, struct wardrail_file_at *file);
+
+struct wardrail_element_at {
+    union {
+        uint64_t found; /* 1 for an element, 0 at the path's end */
+        uint64_t place; /* on a refusal */
+    };
+    struct wardrail_part element;
+    uint64_t next_at; /* where the next element stands; at the path's end, the offset past it */
+};
+WARDRAIL_ROW(wardrail_element_at, 4, next_at);
+
+/* The element of a path at an offset: first path_at of wardrail_file, then next_at of the answer before, until none is found.
  * Any text and offset is answered: 1 to 7, 10 for another kind, 13 for what may not be a name. */
-uint64_t wardrail_element_at(const uint8_t *text, size_t text_count, size_t at, uint64_t detail[4]);
+uint64_t wardrail_element_at(const uint8_t *text, size_t text_count, size_t at, struct wardrail_element_at *element);
 
-/* A piece's hash: the torrent's refusals, then 31. On 0: [0] the part of the text that it is, 20 bytes. */
-uint64_t wardrail_piece_hash(const uint8_t *text, size_t text_count, uint32_t piece, uint64_t detail[2]);
+struct wardrail_piece_hash {
+    union {
+        struct wardrail_part hash; /* 20 bytes */
+        uint64_t place;            /* on a refusal */
+    };
+};
+WARDRAIL_ROW(wardrail_piece_hash, 2, hash);
+
+/* A piece's hash, a part of the text: the torrent's refusals, then 31. */
+uint64_t wardrail_piece_hash(const uint8_t *text, size_t text_count, uint32_t piece, struct wardrail_piece_hash *hash);
 
 /* Whether these bytes are a piece, by its hash: the torrent's refusals, then 31, 8 for more than 16,777,216 bytes, 34 for another
  * length than the piece has. On 0 `detail` is 1 for yes and 0 for no. */
@@ -99,52 +184,150 @@ uint64_t wardrail_piece_check(const uint8_t *text, size_t text_count, uint32_t p
 
 /* ---- Tracker replies */
 
-/* Reads a reply: 1 to 8, 10, 11, 15. On 0: [0] 1 for a failure reason and [1] its part; or [0] 2 for entries of six
- * bytes and 3 for a list, [1] the seconds to wait, [2] how many entries, [3] the offset of the first. */
-uint64_t wardrail_reply(const uint8_t *text, size_t text_count, uint64_t detail[4]);
+/* What a reply is, and what its entries are. */
+enum wardrail_form { WARDRAIL_FORM_FAILURE = 1, WARDRAIL_FORM_COMPACT = 2, WARDRAIL_FORM_LIST = 3 };
 
-/* Entry `number` of a reply, from 0: the reply's refusals, then 31. On 0: [0] 2, [1] to [4] the bytes of the address;
- * or [0] 3, [1] the part of the peer id, [3] the part of the ip. [5] is the port. It reads the reply anew:
- * who wants all entries walks them by the next two. */
-uint64_t wardrail_peer(const uint8_t *text, size_t text_count, size_t number, uint64_t detail[6]);
+struct wardrail_peers {
+    uint64_t interval; /* the seconds to wait */
+    uint64_t count;    /* how many entries */
+    uint64_t first_at; /* where the first stands */
+};
+WARDRAIL_ROW(wardrail_peers, 3, first_at);
 
-/* The entry of a list at an offset: first [3] of wardrail_reply, then [5] of the answer before, as many times as there are
- * entries. On 0: [0] the part of the peer id, [2] the part of the ip, [4] the port, [5] the next offset. Any text and offset is
- * answered: 1 to 7, 10, 11, 15. */
-uint64_t wardrail_listed_at(const uint8_t *text, size_t text_count, size_t at, uint64_t detail[6]);
+struct wardrail_reply {
+    union {
+        uint64_t form;  /* enum wardrail_form */
+        uint64_t place; /* on a refusal */
+    };
+    union {
+        struct wardrail_part reason; /* of a failure */
+        struct wardrail_peers peers; /* of the others */
+    };
+};
+WARDRAIL_ROW(wardrail_reply, 4, peers);
 
-/* The same for an entry of six bytes: 1. On 0: [0] to [3] the bytes of the address, [4] the port, [5] the next offset. */
-uint64_t wardrail_packed_at(const uint8_t *text, size_t text_count, size_t at, uint64_t detail[6]);
+/* Reads a reply: 1 to 8, 10, 11, 15. */
+uint64_t wardrail_reply(const uint8_t *text, size_t text_count, struct wardrail_reply *reply);
+
+struct wardrail_named {
+    struct wardrail_part id, ip; /* the peer id, and the address as it is written */
+};
+WARDRAIL_ROW(wardrail_named, 4, ip);
+
+struct wardrail_peer {
+    union {
+        uint64_t form;  /* WARDRAIL_FORM_COMPACT or WARDRAIL_FORM_LIST */
+        uint64_t place; /* on a refusal */
+    };
+    union {
+        uint64_t address[4];         /* of a compact entry, a byte each */
+        struct wardrail_named named; /* of a list's entry */
+    };
+    uint64_t port;
+};
+WARDRAIL_ROW(wardrail_peer, 6, port);
+
+/* Entry `number` of a reply, from 0: the reply's refusals, then 31. It reads the reply anew: who wants all entries walks them
+ * by the next two. */
+uint64_t wardrail_peer(const uint8_t *text, size_t text_count, size_t number, struct wardrail_peer *peer);
+
+struct wardrail_listed_at {
+    union {
+        struct wardrail_named named;
+        uint64_t place; /* on a refusal */
+    };
+    uint64_t port;
+    uint64_t next_at; /* where the next entry stands */
+};
+WARDRAIL_ROW(wardrail_listed_at, 6, next_at);
+
+/* The entry of a list at an offset: first first_at of wardrail_reply, then next_at of the answer before, as many times as there
+ * are entries. Any text and offset is answered: 1 to 7, 10, 11, 15. */
+uint64_t wardrail_listed_at(const uint8_t *text, size_t text_count, size_t at, struct wardrail_listed_at *peer);
+
+struct wardrail_packed_at {
+    union {
+        uint64_t address[4]; /* a byte each */
+        uint64_t place;      /* on a refusal */
+    };
+    uint64_t port;
+    uint64_t next_at; /* where the next entry stands */
+};
+WARDRAIL_ROW(wardrail_packed_at, 6, next_at);
+
+/* The same for an entry of six bytes: 1. */
+uint64_t wardrail_packed_at(const uint8_t *text, size_t text_count, size_t at, struct wardrail_packed_at *peer);
 
 /* ---- Where a block falls */
 
+/* A part of a file. */
+struct wardrail_span {
+    uint64_t file, offset, length;
+};
+WARDRAIL_ROW(wardrail_span, 3, length);
+
 /* The parts of files that `length` bytes at an offset of a piece fall into: 11, 31, 34, 37. On 0 `detail` is how many parts
- * there are, and `out` has three numbers for each: file, offset in it, length. The rest of `out` stays. `lengths` are the
- * files' lengths in the torrent's order. */
+ * there are, and `out` has three numbers for each, those of a wardrail_span: N of them are lent as `&spans[0].file, 3 * N`.
+ * The rest of `out` stays. `lengths` are the files' lengths in the torrent's order. */
 uint64_t wardrail_block(const uint64_t *lengths, size_t lengths_count, uint64_t piece_length, uint32_t piece, uint32_t offset,
                         uint32_t length, uint64_t *out, size_t out_count, uint64_t *detail);
 
-/* Where a byte of a file falls: 11, 31, 34. On 0: [0] the piece, [1] the offset in it. */
+struct wardrail_byte {
+    union {
+        uint64_t piece;
+        uint64_t place; /* on a refusal */
+    };
+    uint64_t offset; /* in the piece */
+};
+WARDRAIL_ROW(wardrail_byte, 2, offset);
+
+/* Where a byte of a file falls: 11, 31, 34. */
 uint64_t wardrail_byte(const uint64_t *lengths, size_t lengths_count, uint64_t piece_length, size_t file, uint64_t offset,
-                       uint64_t detail[2]);
+                       struct wardrail_byte *byte);
 
 /* How many bytes a piece has: 11, 31. On 0 `detail` is that number. */
 uint64_t wardrail_piece_size(const uint64_t *lengths, size_t lengths_count, uint64_t piece_length, uint32_t piece,
                              uint64_t *detail);
 
-/* ---- Frames and handshake, read */
+/* ---- Frames and handshake, read from the start of what came in */
 
-/* What [0] says of what the bytes begin with. A wait used nothing: call again with more bytes. */
-enum wardrail_found { WARDRAIL_WAIT = 0, WARDRAIL_KEEPALIVE = 1, WARDRAIL_MESSAGE = 2, WARDRAIL_HELLO = 1 };
+/* A wait: the bytes are the beginning of a frame or handshake, and no more of it has come. None of them was used: call again
+ * with these and more. It is no refusal: wardrail_frame and wardrail_handshake answer 0 and say it in `found`, and
+ * wardrail_yard_feed (wardrail_yard.h), which has no such field, answers WARDRAIL_YARD_WAIT. */
+enum wardrail_frame_found { WARDRAIL_FRAME_WAIT = 0, WARDRAIL_FRAME_KEEPALIVE = 1, WARDRAIL_FRAME_MESSAGE = 2 };
+enum wardrail_handshake_found { WARDRAIL_HANDSHAKE_WAIT = 0, WARDRAIL_HANDSHAKE_HELLO = 1 };
+enum { WARDRAIL_YARD_WAIT = 255 };
 
-/* The frame that the bytes begin with: 20, 21. On 0: [0] wait, keepalive or message, [1] how many bytes it used, [2] its
- * id, [3] piece, [4] begin, [5] length, [6] the part that is its bitfield, its block, or the payload of an id above 8.
- * What a frame does not have is 0. */
-uint64_t wardrail_frame(const uint8_t *bytes, size_t bytes_count, uint64_t detail[8]);
+/* The longest frame, its four bytes of length too: more are never waited for. */
+enum { WARDRAIL_FRAME_BYTES = 16397, WARDRAIL_HANDSHAKE_BYTES = 68 };
 
-/* The handshake that the bytes begin with, for an info hash: 22, 23. On 0: [0] wait or hello, [1] how many bytes it used,
- * [2] the part of its free bytes, [4] the part of its peer id. */
-uint64_t wardrail_handshake(const uint8_t *bytes, size_t bytes_count, const uint8_t info[20], uint64_t detail[6]);
+struct wardrail_frame {
+    union {
+        uint64_t found; /* enum wardrail_frame_found */
+        uint64_t place; /* on a refusal */
+    };
+    uint64_t used; /* how many bytes it has */
+    uint64_t id;
+    uint64_t piece, begin, length; /* what a frame does not have is 0 */
+    struct wardrail_part carried;  /* its bitfield, its block, or the payload of an id above 8 */
+};
+WARDRAIL_ROW(wardrail_frame, 8, carried);
+
+/* The frame that the bytes begin with: 20, 21. */
+uint64_t wardrail_frame(const uint8_t *bytes, size_t bytes_count, struct wardrail_frame *frame);
+
+struct wardrail_handshake {
+    union {
+        uint64_t found; /* enum wardrail_handshake_found */
+        uint64_t place; /* on a refusal */
+    };
+    uint64_t used; /* how many bytes it has */
+    struct wardrail_part free_bytes, peer_id;
+};
+WARDRAIL_ROW(wardrail_handshake, 6, peer_id);
+
+/* The handshake that the bytes begin with, for an info hash: 22, 23. */
+uint64_t wardrail_handshake(const uint8_t *bytes, size_t bytes_count, const uint8_t info[20], struct wardrail_handshake *handshake);
 
 /* ---- Writers: on 0 `detail` is how many bytes were written, from the start of `out` on; the rest of `out` stays */
 

@@ -4,8 +4,8 @@
  * takes all four and keeps nothing. Any content is answered; a flag of a seat is 0 or 1. Each call first refuses tables whose sizes
  * don't fit (38).
  *
- * A call answers 0, the number of the refusal, or WARDRAIL_YARD_WAIT where more bytes are needed. On the latter two nothing that
- * is lent changes. */
+ * A call answers 0, the number of the refusal, or WARDRAIL_YARD_WAIT (wardrail.h) where more bytes are needed. On the latter two
+ * nothing that is lent changes. */
 #ifndef WARDRAIL_YARD_H
 #define WARDRAIL_YARD_H
 
@@ -16,8 +16,6 @@
 #ifdef __cplusplus
 extern "C" {
 #endif
-
-enum { WARDRAIL_YARD_WAIT = 255 };
 
 struct wardrail_head {
     uint32_t pieces, piece_length, last_length; /* P, and the lengths of a piece and of the last one */
@@ -36,14 +34,17 @@ WARDRAIL_ASSERT(sizeof(bool) == 1, "a flag is a byte");
 WARDRAIL_ASSERT(sizeof(struct wardrail_seat) == 8, "six flags and a count, no padding");
 WARDRAIL_ASSERT(offsetof(struct wardrail_seat, held) == 6, "six flags and a count, no padding");
 
+/* What a frame that is a request is for us. */
+enum wardrail_request { WARDRAIL_REQUEST_NONE = 0, WARDRAIL_REQUEST_SERVE = 1, WARDRAIL_REQUEST_DROP = 2 };
+
 /* What a call says beside its number. What it does not have is 0. */
 struct wardrail_told {
     uint64_t value;   /* said at the call below */
-    uint64_t request; /* of a frame: 1 for a request to be served, 2 for one to be dropped */
+    uint64_t request; /* of a frame: enum wardrail_request */
     uint64_t total;   /* of a page: how many trucks of the whole yard lack a piece */
     uint64_t next;    /* of a page: the next missing seat that is not listed, or S */
 };
-WARDRAIL_ASSERT(sizeof(struct wardrail_told) == 32, "four numbers");
+WARDRAIL_ROW(wardrail_told, 4, next);
 
 #define WARDRAIL_TABLES                                                                                         \
     struct wardrail_head *head, struct wardrail_seat *seats, size_t seats_count, uint8_t *rows, size_t rows_count, \
