@@ -155,7 +155,7 @@ def random_text(rng):
 
 def texts(rng):
     while True:
-        yield f"bencode {to_hex(random_text(rng))}"
+        yield f"{rng.choice(['bencode', 'bencode', 'walk'])} {to_hex(random_text(rng))}"
 
 
 # Torrents.
@@ -238,8 +238,9 @@ def torrents(rng):
             f"torrent {text}",
             f"torrent {text}",
             f"file {text} {rng.randint(0, 5)}",
+            f"places {text}",
             piece_call(rng),
-            write_torrent_call(rng),
+            rng.choice(["", "sum "]) + write_torrent_call(rng),
         ])
 
 
@@ -274,7 +275,7 @@ def replies(rng):
     while True:
         text = to_hex(text_of(rng, random_reply(rng)))
         yield rng.choice([
-            f"reply {text}", f"reply {text}", f"peer {text} {rng.randint(0, 4)}", write_reply_call(rng),
+            f"reply {text}", f"peer {text} {rng.randint(0, 4)}", f"entries {text}", write_reply_call(rng),
         ])
 
 
@@ -319,7 +320,8 @@ def blocks(rng):
         content = f"{piece_length} {','.join(map(str, lengths))}"
         if rng.random() < 0.7:
             piece, offset, length = random_block(rng, piece_length, sum(lengths))
-            yield f"block {content} {piece} {offset} {length} {rng.choice([1024, 1024, rng.randint(0, 4)])}"
+            room = rng.choice([1024, 1024, rng.randint(0, 4), f"{rng.randint(0, 4)}+{rng.randint(0, 2)}"])
+            yield rng.choice([f"block {content} {piece} {offset} {length} {room}"] * 5 + [f"size {content} {piece}"])
         else:
             file = min(rng.randrange(len(lengths) + 1), rng.choice([3, 2000]))
             length = lengths[file] if file < len(lengths) else 0
@@ -362,14 +364,15 @@ def handshake_call(rng):
     info_hash = rng.randbytes(20)
     data = PROTOCOL + rng.randbytes(8) + info_hash + rng.randbytes(20)
     other = info_hash if rng.random() < 0.8 else damage(rng, info_hash)[:20].ljust(20, b"\0")
-    return f"handshake {to_hex(cut_or_joined(rng, data, rng.randbytes(9)))} {to_hex(other)}"
+    call = rng.choice(["handshake", "handshake-cuts"])
+    return f"{call} {to_hex(cut_or_joined(rng, data, rng.randbytes(9)))} {to_hex(other)}"
 
 
 def write_frame_call(rng):
     if rng.random() < 0.1:
         return f"write-frame keepalive - {rng.randint(0, 6)}"
     whole = random_frame(rng)
-    frame_id, payload = (whole[4] % 9, whole[5:]) if len(whole) > 4 else (0, b"")
+    frame_id, payload = (whole[4], whole[5:]) if len(whole) > 4 else (0, b"")
     room = rng.choice([20_000, 20_000, len(whole), len(whole) - 1, rng.randint(0, 20)])
     return f"write-frame {frame_id} {to_hex(payload)} {room}"
 
@@ -378,15 +381,33 @@ def write_handshake_call(rng):
     return f"write-handshake {rng.randbytes(20).hex()} {rng.randbytes(20).hex()} {rng.choice([68, 100, 67, 0])}"
 
 
+def long_bytes(rng):
+    """A word of a few hundred bytes in parts, with its short notations."""
+    ways = [
+        lambda: rng.randbytes(rng.randint(1, 40)).hex(),
+        lambda: f"{rng.randbytes(rng.randint(1, 3)).hex()}*{rng.randint(0, 200)}",
+        lambda: f"@{rng.randint(0, 300)}",
+    ]
+    return ".".join(rng.choice(ways)() for _ in range(rng.randint(1, 3)))
+
+
+def sha1_call(rng):
+    if rng.random() < 0.4:
+        return f"sha1 {long_bytes(rng)}"
+    lengths = [rng.choice(["0", "63", "64", "65", str(rng.randint(0, 200)), f"{rng.randint(1, 9)}*{rng.randint(0, 9)}"]) for _ in range(rng.randint(0, 5))]
+    return f"sha1-parts {long_bytes(rng)} {','.join(lengths) or '-'}"
+
+
 def wire(rng):
     while True:
         yield rng.choice([
             f"frame {to_hex(cut_or_joined(rng, random_frame(rng), random_frame(rng)))}",
             f"frame {to_hex(cut_or_joined(rng, random_frame(rng), random_frame(rng)))}",
+            f"frame-cuts {to_hex(cut_or_joined(rng, random_frame(rng), random_frame(rng))[:500])}",
             handshake_call(rng),
-            write_frame_call(rng),
+            rng.choice(["", "sum "]) + write_frame_call(rng),
             write_handshake_call(rng),
-            f"sha1 {to_hex(rng.randbytes(rng.randint(0, 200)))}",
+            sha1_call(rng),
         ])
 
 
