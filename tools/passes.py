@@ -1,14 +1,12 @@
-"""Writes the walks of `scans`' three passes over all seats: a `while` over the seats that calls a covered step.
+"""Writes the walks of `yard_scans`' three passes over all seats: a `while` over the seats that calls a covered step.
 
-Run in the repository: python3 tools/passes.py; then rt fmt. Of the step a walk knows the contract alone, and no field of a seat is named.
-A pass reads the seats or writes them, may carry a value along, and may lend a slice of numbers to each step.
+Of the step a walk knows the contract alone, and no field of a seat is named. A pass reads the seats or writes them, may carry a value
+along, and may lend a slice of numbers to each step.
 """
-import os, sys
-HERE = os.path.dirname(os.path.abspath(__file__)); sys.path.insert(0, HERE)
-from walkgen import Walk
+from walkgen import Walk, module_text
 from walker import Thin, tup, par, dash, W_
 
-CRATE, OWNER = 'yard_scans', 'yard_tables'
+CRATE = 'yard_scans'
 LOOP_USES = '''use mathlib.Core.WellFounded.{WellFounded, InvImage·wf}
 use native.Mathlib.Omega.{arith}
 use Prim.Native.Nat.{zero-le, _≤_, _-_}
@@ -44,26 +42,25 @@ le-fits i n l m = omega (arith, l, m)
 '''
 
 class Pass(Thin):
-    """fn: the pass; step: its covered step. params, in order, the seats first. locals: MIR types as text. at: local numbers of
-    i, len, test, place, seat, and of acc, page and sent where there are such. turn: fields of a turn beside i and le, as text;
-    starts, nexts: their values; end: the fact at exit; fact: the step's contract."""
-    def gen(s, P):
-        fn, step = P['fn'], P['step']; ps = s.fns[fn]['params']; res = s.fns[fn]['result']; sp = s.fns[step]['params']
-        writes = ps[0][1] == 'mslice'; page = P.get('page'); acc = P.get('acc'); L = P['at']; N = len(P['locals'])
+    """fn: the pass; step: its covered step; roles: what each parameter of the step is given; acc: the local that carries a value along,
+    and its type. locals: MIR types as text. at: local numbers of i, len, test, place and seat, and of lent, sent, new, len2 and place2
+    where there are such. tails: the names of the loop and of what follows it. turn: fields of a turn beside i and le; start, next: their
+    values; end: that the contract holds at exit; before: what the walk does before the loop; laws: what these cite."""
+    def __init__(s, P): super().__init__(f"{CRATE}::{P['fn']}", CRATE); s.P_ = P
+    def gen(s):
+        P = s.P_; fn, step = P['fn'], P['step']; F, G = s.fn(s.path), s.fn(f'{CRATE}::{step}')
+        ps, res, sp = F.params, F.result, G.params
+        page = next((p for p in ps if p[1] == 'mslice' and p is not ps[0]), None); P['page'] = page
+        writes = ps[0][1] == 'mslice'; acc = P.get('acc'); L = P['at']; N = len(P['locals'])
         refs = [p for p in ps if p[1] != 'val']; n = len(refs); J = {p[0]: j for j, p in enumerate(refs)}
         ks, qs = tup([f'κ{j}' for j in range(n)]), tup([f'q{j}' for j in range(n)])
         X = '𝓤 H A mem run'; K = f'Stp {X}'
         calls = [step] + ([P['first']] if 'first' in P else [])
-        used = sorted({t for f in [fn] + calls for t in [p[2] for p in s.fns[f]['params']] + [s.fns[f]['result']] if s.data(t)})
+        used = sorted({t for f in (s.fn(f'{CRATE}::{c}') for c in [fn] + calls) for t in [p[2] for p in f.params] + [f.result] if s.data(t)})
         vals = [p for p in ps if p[1] == 'val']; tel = ' '.join(f'({p[0]} : {s.den(p[2])})' for p in vals)
         TURN = f"Turn {' '.join(['ys'] + (['cs'] if page else []) + [p[0] for p in vals])}".strip()
         zs = 'x .zs' if writes else 'ys'
         o = []; A = o.append
-        A(f"-- `{CRATE}::{fn}` meets its contract: a walk of its MIR, by hand, with a loop, written by tools/passes.py. Of `{step}` it knows the contract alone, and no field of a seat is named.\n-- Assumes nothing.")
-        A(s.header()); A(LOOP_USES); A(s.uses)
-        for t in used: A(s.type_uses(t))
-        for k, c in enumerate(calls): g = 'gk'[k]; A(f"use {s.P(CRATE, c)} as {g}\nuse {s.P(CRATE, c)}.Symbol as {g}-def\nuse {s.P(CRATE, c)}.Symbol.{{name as #{dash(CRATE)}·{dash(c)}}}\nuse {s.P(CRATE, c)}.Met as {g}-thm")
-        A(f'use {s.P(CRATE, fn)}.Key.{{name as #{dash(CRATE)}·{dash(fn)}}}\nuse {s.P(CRATE, fn)} as f\nuse {s.P(CRATE, fn)}.Statement as stated\nuse {s.P(CRATE, fn)}.Code as code\nuse {s.P(CRATE, fn)}.Code.Mir as Mir\n')
         for t in used: A(f'abbrev R-{t} : RattleType\nR-{t} = T-{t}.the-row\n')
         A(f"abbrev SeatsTy : Ty\nSeatsTy = sliceTy (tyRef (named 0) {'mut' if writes else 'imm'} (pointee (R-Seat .written)))\n")
         if page: A(f"abbrev PageTy : Ty\nPageTy = sliceTy (tyRef (named 1) mut (tyInt {W_[page[2]]}))\n\nabbrev LentTy : Ty\nLentTy = tyRef erased mut (tyInt {W_[page[2]]})\n")
@@ -88,6 +85,8 @@ class Pass(Thin):
         had = f"Had ({zs}) ({'x .pg' if page else '[]'})"
         r0 = (f"{s.low(acc[1], 'x .acc')}", 'x .acc') if acc else ('vunit', 'tt')
         lastv = tup([zs if p is ps[0] and writes else 'x .pg' if p is page else 'tt' for p in ps]); fits = tup(['x .ns' if p is ps[0] and writes else 'x .np' if p is page else 'tt' for p in ps])
+        entry = {p[0]: 'ys' if p is ps[0] else 'cs' if p is page else p[0] for p in ps}
+        says = ' × '.join(s.facts(s.path, '(x .acc)', entry, {p[0]: 'x .pg' if p is page else 'x .zs' for p in ps}))
         e = Walk(TAB)
         if writes: e.fjoin('obs', 'bor', 'ob'); e.line("pureI ! (at-slice R-Seat (at-seats (x .zs)) (sv ∷ [])) (tt, (tt, tt)) (ap (λ (m : ℕ). sliceVal (b, o) m ∷ []) (sym (x .ns)), subst (Room R-Seat) (sym (x .ns)) gs) $"); e.c = ['fact'] + e.c; e.fjoin('fact', 'ob', 'seats')
         else: e.fjoin('res', 'frac', 'rf'); e.fjoin('fact', 'rf', 'seats')
@@ -100,10 +99,9 @@ class Pass(Thin):
             else: e.line(f"owned ! {s.owned(p[2], p[0], 'g-' + p[0])} $"); e.c = ['new'] + e.c; e.fjoin('new', 'o', 'o')
         e.move('t', 'o')
         ISA = 'x .is' if acc else 'refl'
-        A(f"  exits : (x : {TURN}) → Room R-Seat (length ys) → {''.join(t + ' → ' for _, t in facts)}{P['says']} → ent 𝓤 (⋆ 𝓤 H A ({had})) (Post ({r0[0]}))\n  exits x gs {FV} e =\n      qed W ({had}) ∵\n      suffices ! _ (ends-at 𝓤 H A f.ended stayed (f.clauses {X}) W bound ({r0[0]}) ({r0[1]}) {lastv} {fits}) $ says ! e $\n"
+        A(f"  exits : (x : {TURN}) → Room R-Seat (length ys) → {''.join(t + ' → ' for _, t in facts)}{says} → ent 𝓤 (⋆ 𝓤 H A ({had})) (Post ({r0[0]}))\n  exits x gs {FV} e =\n      qed W ({had}) ∵\n      suffices ! _ (ends-at 𝓤 H A f.ended stayed (f.clauses {X}) W bound ({r0[0]}) ({r0[1]}) {lastv} {fits}) $ says ! e $\n"
           + e.text(f"frame ! $ frame ! $ owned ! {s.owned(res, r0[1], ISA)} $ done !", '      ') + '\n')
         # ---- the call
-        sv = {'acc': 'c', 'seat': 's', 'i': 'i', 'page': 'ci'}
         binds = f"{'(ν : ℕ) (δ : GName) ' if page else ''}{'(c : ' + s.den(acc[1]) + ') ' if acc else ''}(s : Seat) {'(ci : List ℕ) ' if page else ''}(i : ℕ)"; bnames = f"{'ν δ ' if page else ''}{'c ' if acc else ''}s {'ci ' if page else ''}i"
         cκ = '(ν ∷ [], tt)' if page else 'tt'; cq = '(fullShare, tt)' if page else 'tt'
         role = dict(zip([p[0] for p in sp], P['roles']))
@@ -119,7 +117,9 @@ class Pass(Thin):
         for p in reversed(sp):
             if role[p[0]] == 'page': e.fjoin('sl', 'o', 'o')
             else: e.line(f"owned ! {own.get(role[p[0]], lambda p: s.owned(p[2], role[p[0]], 'g-' + role[p[0]]))(p)} $"); e.c = ['new'] + e.c; e.fjoin('new', 'o', 'o')
-        req = P.get('requires')
+        of = lambda at: {p[0]: at.get(role[p[0]], role[p[0]]) for p in sp}
+        asks = lambda at: ' × '.join(s.stated(G.path, r, '', '', of(at), {}) for r in G.requires)
+        req = asks({'acc': 'c', 'seat': 's', 'i': 'i'}); TURNED = {'acc': 'x .acc', 'seat': 'elem', 'i': 'x .i', 'page': 'x .pg'}
         if req: e.move('t', 'o')
         else: e.join('t', 'o', 'z')
         isc = f"Is {s.row(acc[1])} c ({s.low(acc[1], 'c')} ∷ []) → " if acc else ''
@@ -176,13 +176,13 @@ class Pass(Thin):
         opl = {'acc': f'_{acc[0]}' if acc else '', 'seat': _('seat'), 'i': _('i'), 'page': _('sent') if page else ''}
         byname = {p[0]: f'_{k + 1}' for k, p in enumerate(ps)}
         w.bind(f"calls-at ! (fmOf 𝓤 H (W .laws) 𝓣) ({K}) known (to-stp {ARGS}) {w.opds(*[w.var(opl.get(role[p[0]]) or byname[role[p[0]]]) for p in sp])} (λ v."); w.head('post')
-        rt = s.fns[step]['result']; AR = f'(stp-args {ARGS})'; tk = '‵ (flft (ν ∷ []) fullShare) ⊛ ‵ ftrue' if page else '‵ ftrue'
+        rt = G.result; AR = f'(stp-args {ARGS})'; tk = '‵ (flft (ν ∷ []) fullShare) ⊛ ‵ ftrue' if page else '‵ ftrue'
         w.use(f"later (some (λ (r : {s.den(rt)}). (({tk}) ⊛ ‵ ({s.row(rt)} .own r (v ∷ []))) ⊛ raw (ensured 𝓤 H A g.ended (g.clauses {X}) {cκ} {AR} tt r)))", "id⊢ 𝓤 _", ['post'], ['post'])
         w.bind("await ! tt $ pick ! (λ r."); w.split('post', 'back', 'ens')
         pgk = [k for k, p in enumerate(sp) if role[p[0]] == 'page']; zp = f"(ws{' .1' * pgk[0]} .0)" if page else ''
-        F = P['fact'](zp)
-        w.use(f"some (λ (ws : Lasts g.ended {cκ} {AR}). ‵ (lasts g.ended {cκ} {AR} ws) ⊛ raw (fact 𝓤 {F}))", "id⊢ 𝓤 _", ['ens'], ['ens'])
-        w.bind("pick ! (λ ws."); w.split('ens', 'lasts', 'fact₁'); w.move('fact₁'); w.bind(f"heard ! {F} (λ e."); w.c = w.c[1:]
+        FACT = f"({s.facts(G.path, 'r', of(TURNED), {p[0]: zp for p in sp})[0]})"
+        w.use(f"some (λ (ws : Lasts g.ended {cκ} {AR}). ‵ (lasts g.ended {cκ} {AR} ws) ⊛ raw (fact 𝓤 {FACT}))", "id⊢ 𝓤 _", ['ens'], ['ens'])
+        w.bind("pick ! (λ ws."); w.split('ens', 'lasts', 'fact₁'); w.move('fact₁'); w.bind(f"heard ! {FACT} (λ e."); w.c = w.c[1:]
         for p in sp:
             w.fsplit('lasts', 'x', 'lasts')
             if role[p[0]] == 'page': w.fsplit('x', 'fin', 'x'); w.move('x'); w.bind("feqL ! (λ n."); w.c = w.c[1:]
@@ -212,7 +212,7 @@ class Pass(Thin):
         w.line(' '.join(f"forget ! {w.p(k)} refl $" for k in temps)); w.keep(*INV)
         MORE = w.text(f"again ! Nearer At x (record {{ i = x .i + 1; le = next-le (x .i) (length ys) l; {P['next'](zp, better)} }}) (nearer-less (x .i) (length ys) l)", '          ')
         lz = ' → x .i < length (x .zs)' if writes else ''
-        A(f"      more : (x : {TURN}) → x .i < length ys{lz} → Sq W (At x) (runs C Λ En Mir.turn-1 (anyQ (Turned x)))\n      unfolding afterTurn\n      more x l{' lz' if writes else ''} =\n{MORE}\n        where\n          elem : Seat\n          elem = getD ({zs}) (x .i) cleared\n\n          gi : x .i < 2 ^ 64\n          gi = le-fits (x .i) (length ys) (x .le) (gs .0)\n" + (f"\n          ok : {P['ok'][0]}\n          ok = {P['ok'][1]}\n" if req else ''))
+        A(f"      more : (x : {TURN}) → x .i < length ys{lz} → Sq W (At x) (runs C Λ En Mir.turn-1 (anyQ (Turned x)))\n      unfolding afterTurn\n      more x l{' lz' if writes else ''} =\n{MORE}\n        where\n          elem : Seat\n          elem = getD ({zs}) (x .i) cleared\n\n          gi : x .i < 2 ^ 64\n          gi = le-fits (x .i) (length ys) (x .le) (gs .0)\n" + (f"\n          ok : {asks(TURNED)}\n          ok = {P['ok']}\n" if req else ''))
         w = Walk(INV); test(w, 'le-ltb'); w.line(f"leaves-loop ! {w.var(_('test'))} $ exec ! C Λ En Mir.{ta} (atRet En Post) $")
         if acc: w.assign(f"(of-opd ! {w.var(f'_{acc[0]}')})", '_0', s.typed(acc[1], 'x .acc', 'x .is'))
         else: w.assign("(of-opd ! (unit-lit !))", '_0', '(tt, tt)')
@@ -260,40 +260,30 @@ unfolding code.routine tablesOf
     (tables 𝓤 H 𝓜 𝓡 code.env .C) (tables 𝓤 H 𝓜 𝓡 code.env .Λ) #{dash(CRATE)}·{dash(fn)} code.function (code.unfolded 𝓤 H 𝓜 𝓡)
     (f-meets 𝓤 H (𝓖 .A) (givenOf 𝓤 H 𝓜 𝓖) (𝓜 .mem) (𝓡 .run) (tablesOf 𝓤 H 𝓜 (tables 𝓤 H 𝓜 𝓡 code.env))''')
         for k, c in enumerate(calls): g = 'gk'[k]; A(f"    (cited 𝓤 H ({'Stp' if k == 0 else 'Fst'} 𝓤 H (𝓖 .A) (𝓜 .mem) (𝓡 .run)) 𝓜 𝓡 code.env #{dash(CRATE)}·{dash(c)} {g}-def.routine code.calls-{CRATE}·{dash(c)} ({g}-thm.met 𝓤 H 𝓜 𝓖 𝓡))" + (')' if k == len(calls) - 1 else ''))
-        d = f'crates/{CRATE}/proofs/{fn}'; os.makedirs(d, exist_ok=True); open(d + '/Proof.antt', 'w').write('\n'.join(o) + '\n')
+        uses = [s.header(), LOOP_USES, *dict.fromkeys(s.imports), P['laws'], *map(s.type_uses, used)]
+        for k, c in enumerate(calls): g = 'gk'[k]; uses.append(f"use {s.P(CRATE, c)} as {g}\nuse {s.P(CRATE, c)}.Symbol as {g}-def\nuse {s.P(CRATE, c)}.Symbol.{{name as #{dash(CRATE)}·{dash(c)}}}\nuse {s.P(CRATE, c)}.Met as {g}-thm")
+        uses.append(f'use {s.P(CRATE, fn)}.Key.{{name as #{dash(CRATE)}·{dash(fn)}}}\nuse {s.P(CRATE, fn)} as f\nuse {s.P(CRATE, fn)}.Statement as stated\nuse {s.P(CRATE, fn)}.Code as code\nuse {s.P(CRATE, fn)}.Code.Mir as Mir\n')
+        head = f"-- `{CRATE}::{fn}` meets its contract: a walk of its MIR, by hand, with a loop, written by tools/walks.py. Of `{step}` it knows the contract alone, and no\n-- field of a seat is named. Assumes nothing."
+        return module_text(head, '\n'.join(uses), '\n'.join(o) + '\n')
 
-SEATS, SEATS_MUT = ('seats', 'slice', 'Seat'), ('seats', 'mslice', 'Seat')
-ASKED, PAGE = ('asked', 'val', 'Asked'), ('page', 'mslice', 'u32')
-fns = {
-    'lowest_free': dict(params=[SEATS], result='usize'),
-    'free_step': dict(params=[('at', 'val', 'usize'), ('s', 'val', 'Seat'), ('i', 'val', 'usize')], result='usize'),
-    'clear_seats': dict(params=[SEATS_MUT, ('on', 'val', 'bool')], result='unit'),
-    'clear_step': dict(params=[('on', 'val', 'bool'), ('s', 'val', 'Seat')], result='Seat'),
-    'list_missing': dict(params=[SEATS, PAGE, ASKED], result='Page'),
-    'list_step': dict(params=[ASKED, ('p', 'val', 'Page'), ('s', 'val', 'Seat'), ('i', 'val', 'usize'), PAGE], result='Page'),
-    'empty_page': dict(params=[('n', 'val', 'usize')], result='Page'),
-}
-make = lambda uses: Pass(CRATE, {'Seat': None, 'Page': None, 'Asked': None}, set(), fns, uses, owner={'Seat': OWNER, 'Page': OWNER}, kit=CRATE)
-
-make('use mathlib.Core.Bool.{_||_}\nuse mathlib.Core.Bool.{cond}\nuse Rattle.yard_tables.specs.Seating.{lowestFree}\nuse Rattle.yard_scans.proofs.Passes.{freeStep, freeFrom, free-all, free-next, free-end}').gen(dict(
-    fn='lowest_free', step='free_step', roles=['acc', 'seat', 'i'], acc=(2, 'usize'),
+PROOFS = 'use Rattle.yard_scans.proofs.'
+LOWEST_FREE = dict(
+    laws=PROOFS + 'Passes.{freeFrom, free-all, free-next, free-end}', fn='lowest_free', step='free_step', roles=['acc', 'seat', 'i'], acc=(2, 'usize'),
     locals=['tyInt w64', 'SeatsTy', 'tyInt w64', 'tyInt w64', 'tyInt w64', 'tyBool', 'tyPtr', 'L-Seat.mir'], at=dict(i=3, len=4, test=5, place=6, seat=7), tails=('t-3', 't-4'),
     turn=['acc : ℕ', 'is : Is usize acc (vint w64 acc ∷ [])', 'so : freeFrom (dropped i ys) i acc ≡ lowestFree ys'],
-    fact=lambda z: '(r ≡ freeStep (x .acc) elem (x .i))',
     next=lambda z, better: f'acc = r; is = {better}; so = ap (λ (k : ℕ). freeFrom (dropped (x .i + 1) ys) (x .i + 1) k) e ∙ free-next ys (x .i) (x .acc) l ∙ x .so',
-    says='x .acc ≡ lowestFree ys', end='free-end ys (x .i) (x .acc) l ∙ x .so',
+    end='free-end ys (x .i) (x .acc) l ∙ x .so',
     before=lambda s, w: w.assign(f"(of-opd ! {w.fld('_1', 1)})", '_2', '(tt, record { fits = gs .0 })'),
-    start='acc = length ys; is = (refl, gs .0); so = free-all ys'))
+    start='acc = length ys; is = (refl, gs .0); so = free-all ys')
 
-make('use mathlib.Core.Bool.{cond}\nuse mathlib.Core.List.{_++_, map}\nuse lib.ListN.{replicate}\nuse Rattle.yard_scans.proofs.Passes.{clearBy, clear-next, clear-end}').gen(dict(
-    fn='clear_seats', step='clear_step', roles=['on', 'seat'],
+CLEAR_SEATS = dict(
+    laws='use mathlib.Core.List.{_++_, map}\n' + PROOFS + 'Passes.{clearBy, clear-next, clear-end}', fn='clear_seats', step='clear_step', roles=['on', 'seat'],
     locals=['tyUnit', 'SeatsTy', 'tyBool', 'tyInt w64', 'tyInt w64', 'tyBool', 'L-Seat.mir', 'tyPtr', 'L-Seat.mir', 'tyInt w64', 'tyPtr'],
     at=dict(i=3, len=4, test=5, new=6, place=7, seat=8, len2=9, place2=10), tails=('t-2', 't-3'),
     turn=['zs : List Seat', 'ns : length zs ≡ length ys', 'so : take i zs ++ map (clearBy on) (dropped i zs) ≡ map (clearBy on) ys'],
-    fact=lambda z: '(r ≡ clearBy on elem)',
     next=lambda z, better: 'zs = set (x .zs) (x .i) r; ns = length-set (x .zs) (x .i) r ∙ x .ns; so = clear-next on (x .zs) (x .i) r lz e ∙ x .so',
-    says='x .zs ≡ cond on (replicate (length ys) cleared) ys', end='clear-end on ys (x .zs) (x .i) (subst (λ (m : ℕ). m ≤ x .i) (sym (x .ns)) l) (x .so)',
-    before=lambda s, w: None, start='zs = ys; ns = refl; so = refl'))
+    end='clear-end on ys (x .zs) (x .i) (subst (λ (m : ℕ). m ≤ x .i) (sym (x .ns)) l) (x .so)',
+    before=lambda s, w: None, start='zs = ys; ns = refl; so = refl')
 
 def from_empty(s, w):
     """The length, and `empty_page` of it."""
@@ -302,11 +292,11 @@ def from_empty(s, w):
     to = f'((tt, tt, tt, ({n}, tt), (vint w64 {n} ∷ [], tt)), tt)'
     e = Walk([]); e.line("nothing ! $"); e.c = ['t']; e.line("nothing ! $"); e.c = ['o'] + e.c
     e.line(f"owned ! {s.owned('usize', n, '(refl, gs .0)')} $"); e.c = ['new'] + e.c; e.fjoin('new', 'o', 'o'); e.join('t', 'o', 'z')
-    w.line(f"use0 W (raw (Fst {X} .pre {to})) (qed W [] ∵ {e.text('frame ! $ done !', '')}) $"); w.c = ['pre'] + w.c
+    w.line(f"use0 W (raw (Fst {X} .pre {to})) (qed W [] ∵ {e.inline('frame ! $ done !')}) $"); w.c = ['pre'] + w.c
     w.bind(f"calls-at ! (fmOf 𝓤 H (W .laws) 𝓣) (Fst {X}) known₁ {to} {w.opds(w.var('_6'))} (λ v₀."); w.head('post')
     w.use(f"later (some (λ (r₀ : Page). (‵ ftrue ⊛ ‵ (R-Page .own r₀ (v₀ ∷ []))) ⊛ raw (ensured 𝓤 H A k.ended (k.clauses {X}) tt ({n}, tt) tt r₀)))", "id⊢ 𝓤 _", ['post'], ['post'])
     w.bind("await ! tt $ pick ! (λ r₀."); w.split('post', 'back', 'ens')
-    F = f'(r₀ ≡ emptyPage {n})'
+    F = f"({s.facts(f'{CRATE}::empty_page', 'r₀', {'n': n}, {})[0]})"
     w.use(f"some (λ (ws : Lasts k.ended tt ({n}, tt)). ‵ (lasts k.ended tt ({n}, tt) ws) ⊛ raw (fact 𝓤 {F}))", "id⊢ 𝓤 _", ['ens'], ['ens'])
     w.bind("pick ! (λ ws₀."); w.split('ens', 'lasts', 'fact₁'); w.move('fact₁'); w.bind(f"heard ! {F} (λ e₀."); w.c = w.c[1:]
     w.drop('lasts'); w.split('back', 't', 'own'); w.drop('t'); w.move('own'); w.bind(f"{s.peek('Page', 'r₀', 'v₀')} (λ is₀."); w.drop('own')
@@ -316,22 +306,21 @@ def from_empty(s, w):
 
 WHOLE = 'pageOf (asked .pieces) (asked .first) (asked .lines) ys'; LINES = 'sets cs 0 (asLines (linesOf (asked .pieces) (asked .first) (asked .lines) ys))'
 STEPPED = 'asked (x .acc) elem (x .i)'
-make('''use lib.Seq.{sets}
-use Rattle.yard_tables.specs.Looks.{pageOf, linesOf}
-use Rattle.yard_scans.specs.Pages.{emptyPage, pageStep, lineStep, asLines}
-use Rattle.yard_scans.proofs.Steps.{step-bounds}
-use Rattle.yard_scans.proofs.Passes.{Listing, listing, listFrom, list-all, list-next, list-end}''').gen(dict(
-    fn='list_missing', step='list_step', first='empty_page', roles=['asked', 'acc', 'seat', 'i', 'page'], acc=(4, 'Page'), page=PAGE,
+LIST_MISSING = dict(
+    laws=PROOFS + 'Steps.{step-bounds}\n' + PROOFS + 'Passes.{Listing, listing, listFrom, list-all, list-next, list-end}',
+    fn='list_missing', step='list_step', first='empty_page', roles=['asked', 'acc', 'seat', 'i', 'page'], acc=(4, 'Page'),
     locals=['L-Page.mir', 'SeatsTy', 'PageTy', 'L-Asked.mir', 'L-Page.mir', 'tyInt w64', 'tyInt w64', 'tyInt w64', 'tyBool', 'tyPtr', 'L-Seat.mir', 'LentTy', 'sliceTy LentTy'],
     at=dict(i=5, len=7, test=8, place=9, seat=10, lent=11, sent=12), tails=('t-4', 't-5'),
     turn=['acc : Page', 'is : Is R-Page acc (L-Page.lowered acc ∷ [])', 'pg : List ℕ', 'np : length pg ≡ length cs', 'wt : acc .written ≤ acc .total', 'tl : acc .total ≤ i',
           f'so : listFrom asked (dropped i ys) i (listing acc pg) ≡ listing ({WHOLE}) ({LINES})'],
-    requires='(c .written ≤ c .total) × (c .total + 1 < 2 ^ 64)', ok=('(x .acc .written ≤ x .acc .total) × (x .acc .total + 1 < 2 ^ 64)', '(x .wt, omega (arith, x .tl, l, gs .0))'),
-    fact=lambda z: f'((r ≡ pageStep {STEPPED}) × ({z} ≡ lineStep {STEPPED} (x .pg)))',
+    ok='(x .wt, omega (arith, x .tl, l, gs .0))',
     next=lambda z, better: f'''acc = r; is = {better}; pg = {z}; np = n ∙ x .np; wt = subst (λ (p : Page). p .written ≤ p .total) (sym (e .0)) (step-bounds {STEPPED} (x .pg) (x .wt) (x .tl) .0); tl = subst (λ (p : Page). p .total ≤ x .i + 1) (sym (e .0)) (step-bounds {STEPPED} (x .pg) (x .wt) (x .tl) .1);
             so = ap (λ (p : Page). listFrom asked (dropped (x .i + 1) ys) (x .i + 1) (listing p {z})) (e .0) ∙ ap (λ (l : List ℕ). listFrom asked (dropped (x .i + 1) ys) (x .i + 1) (listing (pageStep {STEPPED}) l)) (e .1) ∙ list-next asked ys (x .i) (listing (x .acc) (x .pg)) l ∙ x .so''',
-    says=f'(x .acc ≡ {WHOLE}) × (x .pg ≡ {LINES})',
     end='(ap (λ (t : Listing). t .page) (list-end asked ys (x .i) (listing (x .acc) (x .pg)) l ∙ x .so), ap (λ (t : Listing). t .lines) (list-end asked ys (x .i) (listing (x .acc) (x .pg)) l ∙ x .so))',
     before=from_empty,
     start='''acc = r₀; is = subst (Is R-Page r₀) (L-Page.lowers .val-is r₀ _ is₀) is₀; pg = cs; np = refl; wt = subst (λ (p : Page). p .written ≤ p .total) (sym e₀) zero-le; tl = subst (λ (p : Page). p .total ≤ 0) (sym e₀) zero-le;
-            so = ap (λ (p : Page). listFrom asked ys 0 (listing p cs)) e₀ ∙ list-all asked ys cs'''))
+            so = ap (λ (p : Page). listFrom asked ys 0 (listing p cs)) e₀ ∙ list-all asked ys cs''')
+
+
+def walks():
+    for table in (LOWEST_FREE, CLEAR_SEATS, LIST_MISSING): yield f"{CRATE}::{table['fn']}", Pass(table).gen()

@@ -1,10 +1,14 @@
 """Writes the walk of a straight-line thin function by its MIR: copies, stores through a `&mut` record, slices lent to calls, and
-calls of functions whose contracts are given. A slice that is passed on is lent for a lifetime of the call and comes back, so
-any number of calls may use it. tools/calls.py has the tables of `yard`'s calls."""
-import sys, os; sys.path.insert(0, os.path.dirname(__file__))
-from walkgen import Walk, Framed
-import mirlib
-ROOT = os.getcwd()
+calls of functions of whose contracts, which are read in their sources, the walk knows no more. A slice that is passed on is lent
+for a lifetime of the call and comes back, so any number of calls may use it.
+
+That the facts which the calls leave are the function's own contract is a law by its name: `NAME-is`, of the parameters, what each
+`&mut` slice holds at exit, what each call answers, and what each call's contract says, in their order.
+"""
+import re
+import mir
+import sources
+from walkgen import Walk, Framed, module_text
 W_ = {'u8':'w8','u16':'w16','u32':'w32','u64':'w64','usize':'w64'}; B_ = {'u8':8,'u16':16,'u32':32,'u64':64,'usize':64}
 def tup(xs):
     s = 'tt'
@@ -67,25 +71,87 @@ CELLS = '''use types.Run.{look, look-raw, init, store, store-raw, forget, stop, 
 use types.Part.{agg, whole, sub, look-in}'''
 FRAMED = '''use types.Run.{look-raw, store-raw, stop, hop, fld, from, load, lit, unit-lit, true-lit, false-lit, addr, of-opd, and-then, no-more, assigns, land, returns, enter}
 use types.Part.{agg, sub, look-in}'''
+REF = 'abbrev ref : {A : Type 0} → ℕ → ℕ → GName → A → RefT A\nref b o γ x = record { ptr = (b, o); name = γ; now = x }\n'
 LOCALS = 'use Rattle.KIT.Locals.{at-local, puts, respells, allots, takes, frees-all}'
 
+MODES = [(r'&mut \[(\w+)\]', 'mslice'), (r'&\[(\w+)\]', 'slice'), (r'&mut ([\w:]+)', 'mref'), (r'([\w:]+)', 'val')]
+# names of the rules, which no parameter may have
+RULES = {n for m in re.findall(r'\.\{([^}]*)\}', HEADER + CELLS) for n in m.split(', ')}
+NOW = r'now \((«?\w+»?) \.(entry|exit)\)'
+BOUND = re.compile(r'\(((?:[^\s(){}.;,:]+ )+): ')
+
+
 class Thin:
-    # structs: name -> [(field, type)], or None where the code reads no field of it; enums: set of names. A type is u8.., usize, bool, or the name of a struct or an enum.
-    # fn(params=[(name, mode, type)], result=type): mode is val, mref (&mut T), mslice (&mut [T]), slice (&[T])
-    def __init__(s, crate, structs, enums, fns, uses, owner, kit): s.cr, s.st, s.en, s.fns, s.uses, s.owner, s.kit = crate, structs, enums, fns, uses, owner, kit
-    # owner: type -> the crate that declares it; kit: the crate that has Again, Shared, Local and Locals
+    """A walk of one function. A type is u8.., usize, bool, unit, or the name of a struct or an enum; a parameter is its name, how it is
+    passed (val, mref for `&mut T`, mslice for `&mut [T]`, slice for `&[T]`) and its type."""
+    def __init__(s, path, kit):
+        s.path, s.kit = path, kit      # kit: the crate that has Again, Shared, Local and Locals
+        s.cr = path.split('::')[0]
+        s.owner, s.found, s.imports = {}, {}, []
+        s.opened = set()               # the structs of which the code reads a field
+
+    # ---- what the sources say
+    def fn(s, path):
+        if path not in s.found:
+            f = sources.function(path)
+            f.params = []
+            for name, written in f.given:
+                mode, kind = next((mode, m[1]) for form, mode in MODES if (m := re.fullmatch(form, written)))
+                f.params.append((s.local(name), mode, s.type(kind, f)))
+            f.result = s.type(f.answer, f) if f.answer else 'unit'
+            s.found[path] = f
+        return s.found[path]
+    def local(s, name):
+        name = dash(name)
+        return name + '₀' if name in RULES else name
+    def type(s, t, f):
+        if t in W_ or t == 'bool': return t
+        s.owner[t.split('::')[-1]] = f.owner(t)
+        return t.split('::')[-1]
+    def fields(s, t):
+        """A struct's fields with their types, or None for an enum."""
+        at = s.owner[t] + '::' + t
+        listed = sources.declared(at)
+        if listed is None: return None
+        crate, *modules = s.owner[t].split('::')
+        there = sources.source_of(crate, modules).read_text()
+        for _, u in listed:
+            if u not in W_ and u != 'bool': s.owner.setdefault(u, m[1] if (m := re.search(rf'^use ([\w:]+)::{u};', there, re.M)) else s.owner[t])
+        return listed
+    def stated(s, path, text, called, r, entry, exit):
+        """A clause of a contract, of these values; what it names is imported."""
+        f = s.fn(path)
+        names = dict(zip((sources.antt(n) for n, _ in f.given), (p[0] for p in f.params)))
+        values = {n: par(entry[p]) for n, p in names.items()} | {called: r}
+        values |= {n: n + '′' for bound in BOUND.findall(text) for n in bound.split()}
+        def word(m):
+            if m[1] or m[3]: n, end = (m[1], m[2]) if m[1] else (m[3], m[4]); return par((entry if end == 'entry' else exit)[names[n]])
+            n, before, after = m[0], text[:m.start()], text[m.end():]
+            if before.endswith('.') or re.match(r'\s*=(?!=)', after): return n
+            if n not in values and n in f.uses: s.imported(n, f)
+            return values.get(n, n)
+        return re.sub(rf'\({NOW}\)|{NOW}|«[^»]*»|{sources.NAME}', word, text)
+    def imported(s, n, f):
+        module, _, real = sources.through_facade(f.uses[n], f.crate if f.crate != s.cr else '').rpartition('.')
+        s.imports.append(f"use {module}.{{{real if real in (n, f'_{n}_') else f'{real} as {n}'}}}\n")
+    def facts(s, path, r, entry, exit):
+        f = s.fn(path)
+        return [s.stated(path, text, called, r, entry, exit) for called, text in zip(f.called, f.clauses)]
+
+    # ---- words
+    def struct(s, t): return sources.declared(s.owner[t] + '::' + t) is not None
     def P(s, crate, m): return f'Rattle.{crate}.proofs.{m}' if crate == s.cr else f'Rattle.{crate}.proofs.{m}'
     def S(s, crate, m): return f'Rattle.{crate}.specs.{m}' if crate == s.cr else f'Rattle.{crate}.specs.{m}'
-    def data(s, t): return t in s.st or t in s.en
+    def data(s, t): return t not in W_ and t not in ('bool', 'unit')
     def row(s, t): return t if t in W_ else 'Boolean' if t=='bool' else 'Nothing' if t=='unit' else f'R-{t}'
     def den(s, t): return 'ℕ' if t in W_ else 'Bool' if t=='bool' else 'Unit {0}' if t=='unit' else t
     def low(s, t, x): return f'vint {W_[t]} {par(x)}' if t in W_ else f'vbool {par(x)}' if t=='bool' else 'vunit' if t=='unit' else f'L-{t}.lowered {par(x)}'
-    def L(s, t): return 'EL' if t in s.en else 'LL'
+    def L(s, t): return 'LL' if s.struct(t) else 'EL'
     def typed(s, t, x, i):
         if t in W_ and i.startswith('(refl, '): return f'(tt, record {{ fits = {i[7:-1]} }})'
         if t in W_: return f'(tt, record {{ fits = {par(i)} .1 }})'
         if t in ('bool','unit'): return '(tt, tt)'
-        return f"({s.L(t)}.lawful T-{t}.the-type L-{t}.the-laws 𝓤 H A W{' tt' if t in s.en else ''} .typed {par(x)} _ {par(i)} .0)"
+        return f"({s.L(t)}.lawful T-{t}.the-type L-{t}.the-laws 𝓤 H A W{'' if s.struct(t) else ' tt'} .typed {par(x)} _ {par(i)} .0)"
     def makes(s, t):
         return f'(uint-makes 𝓤 H A W {W_[t]})' if t in W_ else '(bool-makes 𝓤 H A W)' if t=='bool' else '(nothing-makes 𝓤 H A W)' if t=='unit' else f'({s.L(t)}.makes T-{t}.the-type L-{t}.the-plain 𝓤 H A)'
     def owned(s, t, x, i): return f'{s.row(t)} (Is {s.row(t)}) {s.makes(t)} {par(x)} ({s.low(t,x)} ∷ []) {par(i)}'
@@ -100,54 +166,32 @@ class Thin:
         return {'val':s.row(t),'mref':f'MutRef (named {ℓ}) {κ} {s.row(t)}','mslice':f'MutSlice (named {ℓ}) {κ} {s.row(t)}','slice':f'ShrSlice (named {ℓ}) {κ} {s.row(t)}'}[mode]
 
     def landed(s, t, r, i): # a value that a call gave, typed
-        law = f'uint-lawful 𝓤 H A W {W_[t]}' if t in W_ else 'bool-lawful 𝓤 H A W' if t=='bool' else 'nothing-lawful 𝓤 H A W' if t=='unit' else f"{s.L(t)}.lawful T-{t}.the-type L-{t}.the-laws 𝓤 H A W{' tt' if t in s.en else ''}"
+        law = f'uint-lawful 𝓤 H A W {W_[t]}' if t in W_ else 'bool-lawful 𝓤 H A W' if t=='bool' else 'nothing-lawful 𝓤 H A W' if t=='unit' else f"{s.L(t)}.lawful T-{t}.the-type L-{t}.the-laws 𝓤 H A W{'' if s.struct(t) else ' tt'}"
         return f'({law} .typed {r} _ {i} .0)'
     def header(s, framed=False): return HEADER.replace('RUN', FRAMED if framed else CELLS).replace('LOCALS\n', LOCALS + '\n' if framed else '').replace('Rattle.KIT.', s.P(s.kit, ''))
     def type_uses(s, t): c, *m = s.owner.get(t, s.cr).split('::'); at = '.'.join([*m, t]); return f'use {s.S(c, "declared." + at)}.{{{t}}}\nuse {s.P(c, at)} as T-{t}\nuse {s.P(c, at)}.Laws as L-{t}'
     def stay(s, p, J): return {'val':f'stay-none (λ _. {s.row(p[2])}) yes','mref':f'stay-ref ({J.get(p[0])} ∷ []) tt (plain (λ _. {s.row(p[2])}))','mslice':f'stay-slice ({J.get(p[0])} ∷ []) tt (plain (λ _. {s.row(p[2])}))','slice':f'stay-none-slice ({J.get(p[0])} ∷ []) tt (plain (λ _. {s.row(p[2])})) yes'}[p[1]]
     def goes(s, p, J, n): return {'val':f'goes-none 𝓤 H A W {n} (λ _. {s.row(p[2])}) yes (λ κs x f. refl)','mref':f'goes-ref 𝓤 H A W {n} {J.get(p[0])} tt (plain (λ _. {s.row(p[2])}))','mslice':f'goes-slice 𝓤 H A W {n} {J.get(p[0])} tt (plain (λ _. {s.row(p[2])}))','slice':f'goes-none-slice 𝓤 H A W {n} ({J.get(p[0])} ∷ []) tt (plain (λ _. {s.row(p[2])})) yes'}[p[1]]
 
-    def gen(s, fn, says):
-        cr = s.cr; F = s.fns[f'{cr}::{fn}']; ps = F['params']; res = F['result']
+    def gen(s):
+        me = s.path; fn = '::'.join(me.split('::')[1:])
+        cr = s.cr; F = s.fn(me); ps = F.params
         refs = [p for p in ps if p[1] != 'val']; J = {p[0]: j for j,p in enumerate(refs)}; n = len(refs)
-        types, stmts = mirlib.get(cr, ROOT, fn); N = len(types)
+        types, stmts = mir.get(me)
         callees = []
         for sm in stmts:
             if sm[0] == 'call':
                 c = sm[1][1][1].strip('"')
                 if c not in callees: callees.append(c)
         key = lambda c: '·'.join(dash(x) for x in c.split('::')); mod = lambda c: s.P(c.split('::')[0], '.'.join(c.split('::')[1:]))
-        used = set()
-        def note(t):
-            if s.data(t):
-                used.add(t)
-                for f, u in s.st.get(t) or []: note(u)
-        for f in [f'{cr}::{fn}']+callees:
-            for p in s.fns[f]['params']: note(p[2])
-            note(s.fns[f]['result'])
-        used = sorted(used)
+        used = {t for f in map(s.fn, [me] + callees) for t in [p[2] for p in f.params] + [f.result] if s.data(t)}
         X = '𝓤 H A mem run'
         ks = tup([f'κ{j}' for j in range(n)]); qs = tup([f'q{j}' for j in range(n)])
         vdt = lambda p: s.den(p[2]) if p[1] in ('val','mref') else f'List {par(s.den(p[2]))}'
-        ptr = lambda p, x=None, γ=None: f'record {{ ptr = (b{J[p[0]]}, o{J[p[0]]}); name = {γ or "γ%d" % J[p[0]]}; now = {x or p[0]} }}'
+        ptr = lambda p, x=None, γ=None: f'ref b{J[p[0]]} o{J[p[0]]} {γ or "γ%d" % J[p[0]]} {par(x or p[0])}'
         mach = lambda p: s.low(p[2],p[0]) if p[1]=='val' else f'vptr b{J[p[0]]} o{J[p[0]]}' if p[1]=='mref' else f'sliceVal (b{J[p[0]]}, o{J[p[0]]}) (length {p[0]})'
         facts = [(f'g-{p[0]}', f'Is {s.row(p[2])} {p[0]} ({mach(p)} ∷ [])' if p[1]=='val' else f'Room {s.row(p[2])} (length {p[0]})') for p in ps if p[1]!='mref']
         o = []; A = o.append
-        A(f"-- `{cr}::{fn}` meets its contract: a walk of its MIR, by hand, written by tools/walker.py. Of its callees the proof knows the contracts alone. No field that the code does not name is named.\n-- Assumes nothing.")
-        A(s.header(framed=True)); A(s.uses)
-        for t in used: A(s.type_uses(t))
-        for k,c in enumerate(callees): A(f'use {mod(c)} as c{k}\nuse {mod(c)}.Symbol as c{k}-def\nuse {mod(c)}.Symbol.{{name as #{key(c)}}}\nuse {mod(c)}.Met as c{k}-thm')
-        me = f'{cr}::{fn}'; A(f'use {mod(me)}.Key.{{name as #{key(me)}}}\nuse {mod(me)} as f\nuse {mod(me)}.Statement as stated\nuse {mod(me)}.Code as code\n')
-        for t in used: A(f'abbrev R-{t} : RattleType\nR-{t} = T-{t}.the-row\n')
-        A('abbrev stayed : Stays (f.ended .signature .params) (f.ended .kept)\nstayed = '+tup([s.stay(p, J) for p in ps])+'\n')
-        for t in used:
-            if s.st.get(t):
-                ty = 'Unit {0}'
-                for f,u in reversed(s.st[t]): ty = f"(Is {s.row(u)} (r .{f}) ({s.low(u,f'r .{f}')} ∷ []) × {ty})"
-                def pt(k,f,u):
-                    e = f"fs{' .1'*k} .0"
-                    return e if not s.data(u) else f"subst (Is R-{u} (r .{f})) (L-{u}.lowers .val-is (r .{f}) _ ({e})) ({e})"
-                A(f'-- what whoever holds a {t} knows of its fields\nparts-{t} : (r : {t}) (vs : List Val) → Is R-{t} r vs → {ty}\nparts-{t} r vs is = let fs = LL.owed T-{t}.the-type L-{t}.the-laws r vs is in {tup([pt(k,f,u) for k,(f,u) in enumerate(s.st[t])])}\n')
         A('-- the contracts that the proof cites\nmodule _ {M : Type 1} (𝓤 : URA M) (H : Heap 𝓤) (A : Atoms 𝓤) (mem : Memory → SProp 𝓤) (run : Routine → Fun 𝓤) where')
         for k,c in enumerate(callees): A(f'  abbrev K{k} : Contract 𝓤\n  K{k} = tripleOf 𝓤 H A c{k}.signature (c{k}.spec {X})\n')
         binds = ' '.join((f'(b{J[p[0]]} o{J[p[0]]} : ℕ) (γ{J[p[0]]} : GName) ' if p[0] in J else '')+f'({p[0]} : {vdt(p)})' for p in ps)
@@ -188,14 +232,14 @@ class Thin:
         live = set(range(1,len(ps)+1)); kcall = [0]
         def field(t, x, i, path):
             for k in path:
-                f,u = s.st[t][k]; i = f"parts-{t} {par(x)} _ {par(i)}{' .1'*k} .0"; x = f'{par(x)} .{f}'; t = u
+                s.opened.add(t); f,u = s.fields(t)[k]; i = f"parts-{t} {par(x)} _ {par(i)}{' .1'*k} .0"; x = f'{par(x)} .{f}'; t = u
             return t, x, i
         def operand(op):  # (text, type, denotation, Is)
             if op[0] == 'int':
                 ty = {'8':'u8','16':'u16','32':'u32','64':'u64'}[op[1]]; return '(lit ! tt)', ty, op[2], '(refl, lit< tt)'
             if op in ('true','false'): return f'({op}-lit !)', 'bool', op, 'refl'
             if op == 'unit': return '(unit-lit !)', 'unit', 'tt', 'refl'
-            l, steps = mirlib.place(op[1])
+            l, steps = mir.place(op[1])
             if steps and steps[0] == ('deref',):
                 p = loc[l][1]; path = [k[1] for k in steps[1:]]; assert not path, 'copy the record first'
                 return f"(load ! (from ! (hop ! ({w.look(f'_{l}')}) (stop !))) (look-raw ! {w.p('cell-'+p[0])} refl))", p[2], cur[p[0]], isc[p[0]]
@@ -207,17 +251,17 @@ class Thin:
         def put(dl, txt, t, x, i, what='assigns'):
             wr = (w.store if dl in live else w.init)(f'_{dl}', s.typed(t,x,i)); loc[dl] = (t,x,i); live.add(dl)
             w.line(f"assigns ! (of-opd ! {txt}) (from ! (stop !)) {wr} $")
-        ev = []                                   # the facts learned: names
+        results, learnt = [], []                  # what the calls answer, and what their contracts say
         for sm in stmts:
             if sm == 'return': continue
             if sm[0] == 'assign':
-                dl, ds = mirlib.place(sm[1]); rv = sm[2]
+                dl, ds = mir.place(sm[1]); rv = sm[2]
                 if rv[0] == 'addrOf':
-                    sl, ss = mirlib.place(rv[1]); wr = (w.store if dl in live else w.init)(f'_{dl}','(tt, tt)'); live.add(dl); loc[dl] = ('lent', loc[sl][1])
+                    sl, ss = mir.place(rv[1]); wr = (w.store if dl in live else w.init)(f'_{dl}','(tt, tt)'); live.add(dl); loc[dl] = ('lent', loc[sl][1])
                     if ss == [('deref',)]: w.line(f"assigns ! (addr ! (from ! (hop ! ({w.look(f'_{sl}')}) (stop !)))) (from ! (stop !)) {wr} $")
                     else: w.line(f"assigns ! (addr ! (from ! (fld ! refl (hop ! ({w.lookin(f'_{sl}',0)}) (stop !))))) (from ! (stop !)) {wr} $")
                 elif rv[0] == 'aggregate':
-                    os_ = next(mirlib.lst(x) for x in rv if isinstance(x,list) and x and x[0]=='lcons'); p = loc[mirlib.place(os_[0][1])[0]][1]
+                    os_ = next(mir.items(x) for x in rv if isinstance(x,list) and x and x[0]=='lcons'); p = loc[mir.place(os_[0][1])[0]][1]
                     wr = (w.store if dl in live else w.init)(f'_{dl}', f'(tt, (tt, (record {{ fits = g-{p[0]} .0 }}, tt)))'); live.add(dl); loc[dl] = ('lent', p)
                     w.line(f"assigns ! (agg ! {w.opds(*[operand(x)[0] for x in os_])}) (from ! (stop !)) {wr} $")
                 elif ds: # a store through the `&mut` record
@@ -225,8 +269,8 @@ class Thin:
                     w.line(f"assigns ! (of-opd ! {txt}) (from ! (hop ! ({w.look(f'_{dl}')}) (stop !))) (store-raw ! {w.p('cell-'+p[0])} refl {s.typed(t,x,i)}) $"); cur[p[0]] = par(x); isc[p[0]] = i
                 else: assert rv[0]=='rvOpd', rv; put(dl, *operand(rv[1]))
                 continue
-            c = sm[1][1][1].strip('"'); ck = callees.index(c); os_ = [operand(x) for x in mirlib.lst(sm[2])]; dl, _ = mirlib.place(sm[3]); kcall[0] += 1; K = kcall[0]
-            cps = s.fns[c]['params']; cres = s.fns[c]['result']
+            c = sm[1][1][1].strip('"'); ck = callees.index(c); os_ = [operand(x) for x in mir.items(sm[2])]; dl, _ = mir.place(sm[3]); kcall[0] += 1; K = kcall[0]
+            cps = s.fn(c).params; cres = s.fn(c).result; results += [] if cres == 'unit' else [f'r{K}']
             w.note(f"the call of `{c.split('::')[-1]}`")
             cκ, cq, args, mvs, toks, own, ctxi, after = [], [], [], [], [], [], [], []
             crefs = [q for q in cps if q[1] != 'val']
@@ -265,23 +309,23 @@ class Thin:
                 if z in own_names: e.fjoin(z,'o','o')
                 else: e.line(f"owned ! {z} $"); e.c=['new']+e.c; e.fjoin('new','o','o')
             e.join('t','o','z')
-            proof = f"qed W ({' ∷ '.join(items+['[]'])}) ∵ " + e.text("frame ! $ done !","").replace('\n',' ')
+            proof = f"qed W ({' ∷ '.join(items+['[]'])}) ∵ " + e.inline("frame ! $ done !")
             if items: w.use(f"raw (K{ck} {X} .pre {to})", proof, toks+own_names, ['pre'])
             else: w.line(f"use0 W (raw (K{ck} {X} .pre {to})) ({proof}) $"); w.c=['pre']+w.c
             v = f'v{K}'; r = f'r{K}'
-            w.bind(f"calls-at ! fm (K{ck} {X}) k{ck} {to} {w.opds(*[operand(x)[0] for x in mirlib.lst(sm[2])])} (λ {v}."); w.head('post')
+            w.bind(f"calls-at ! fm (K{ck} {X}) k{ck} {to} {w.opds(*[operand(x)[0] for x in mir.items(sm[2])])} (λ {v}."); w.head('post')
             tk = ' ⊛ '.join(tkf+['‵ ftrue'])
             w.use(f"later (some (λ ({r} : {s.den(cres)}). (({tk}) ⊛ ‵ ({s.row(cres)} .own {r} ({v} ∷ []))) ⊛ raw (ensured 𝓤 H A c{ck}.ended (c{ck}.clauses {X}) ({tup(cκ)}) ({ga}) tt {r})))", "id⊢ 𝓤 _", ['post'], ['post'])
             w.bind(f"await ! tt $ pick ! (λ {r}."); w.split('post','back','ens')
             z = f'z{K}'; zp = {q[0]: f"{z}{' .1'*k} .0" for k,q in enumerate(cps) if q[1] in ('mslice','mref')}
             env = {q[0]: (cur[op[2][0]] if q[1]!='val' else par(op[2])) for q,op in zip(cps,os_)}
-            facts_ = s.fns[c]['ensures'](r, {**env}, zp); facts_ = [facts_] if isinstance(facts_, str) else facts_
+            facts_ = s.facts(c, r, env, zp)
             said = ' ⊛ '.join(f'raw (fact 𝓤 ({x}))' for x in facts_)
             w.use(f"some (λ ({z} : Lasts c{ck}.ended ({tup(cκ)}) ({ga})). ‵ (lasts c{ck}.ended ({tup(cκ)}) ({ga}) {z}) ⊛ ({said}))", "id⊢ 𝓤 _", ['ens'], ['ens'])
             w.bind(f"pick ! (λ {z}."); w.split('ens','lasts','fact'); w.move('fact')
             for m, x in enumerate(facts_):
                 if m < len(facts_) - 1: w.line('split ! $'); w.head('fact','more')
-                w.bind(f"heard ! ({x}) (λ e{K}{'' if m == 0 else chr(96 + m)}."); w.c=w.c[1:]
+                learnt.append(f"e{K}{'' if m == 0 else chr(96 + m)}"); w.bind(f"heard ! ({x}) (λ {learnt[-1]}."); w.c=w.c[1:]
                 if m < len(facts_) - 1: w.c[w.p('more')] = 'fact'
             for q in cps:
                 w.fsplit('lasts','x','lasts')
@@ -336,8 +380,9 @@ class Thin:
             if p[0] in J: e.fjoin('o-'+p[0],'o','o')
             else: e.line(f"owned ! {s.owned(p[2],p[0],'g-'+p[0])} $"); e.c=['new']+e.c; e.fjoin('new','o','o')
         e.move('t','o')
+        law = ' '.join([f"{fn.split('::')[-1].removeprefix('wardrail_yard_')}-is"] + [p[0] for p in ps] + [cur[p[0]] for p in ps if p[1] == 'mslice'] + results + learnt)
         lastv = tup([cur[p[0]] if p[1] in ('mref','mslice') else 'tt' for p in ps]); fits = tup([f'({ln[p[0]]})' if p[1]=='mslice' else 'tt' for p in ps])
-        EX = f"by ! (qed W ({' ∷ '.join(hadf+['[]'])}) ∵ suffices ! _ (ends-at 𝓤 H A f.ended stayed (f.clauses {X}) W bound ({s.low(t0,x0)}) {par(x0)} {lastv} {fits}) $ says ! ({says(cur) if callable(says) else says}) $ " + e.text(f"frame ! $ frame ! $ owned ! {s.owned(t0,x0,i0)} $ done !","").replace('\n',' ')+")"
+        EX = f"by ! (qed W ({' ∷ '.join(hadf+['[]'])}) ∵ suffices ! _ (ends-at 𝓤 H A f.ended stayed (f.clauses {X}) W bound ({s.low(t0,x0)}) {par(x0)} {lastv} {fits}) $ says ! ({law}) $ " + e.inline(f"frame ! $ frame ! $ owned ! {s.owned(t0,x0,i0)} $ done !")+")"
         mvs = ' ∷ '.join(mach(p) for p in ps)+' ∷ []'
         kn = lambda C: [f'Triple 𝓤 ({C} #{key(c)}) (K{k} {X})' for k,c in enumerate(callees)]
         A(f'''  module _ (C : Calls 𝓤 H) (Λ : Loops 𝓤 H) (fm : FmC 𝓤 H (W .laws) C) {' '.join(f'(k{k} : {t})' for k,t in enumerate(kn('C')))} where
@@ -370,4 +415,22 @@ unfolding code.routine tablesOf
     (tables 𝓤 H 𝓜 𝓡 code.env .C) (tables 𝓤 H 𝓜 𝓡 code.env .Λ) #{key(me)} code.function (code.unfolded 𝓤 H 𝓜 𝓡)
     (f-meets 𝓤 H (𝓖 .A) (givenOf 𝓤 H 𝓜 𝓖) (𝓜 .mem) (𝓡 .run) (tablesOf 𝓤 H 𝓜 (tables 𝓤 H 𝓜 𝓡 code.env))''')
         for k,c in enumerate(callees): A(f"    (cited 𝓤 H (K{k} 𝓤 H (𝓖 .A) (𝓜 .mem) (𝓡 .run)) 𝓜 𝓡 code.env #{key(c)} c{k}-def.routine code.calls-{key(c)} (c{k}-thm.met 𝓤 H 𝓜 𝓖 𝓡))"+(')' if k==len(callees)-1 else ''))
-        d = f"{ROOT}/crates/{cr}/proofs/{fn.replace('::', '/')}"; os.makedirs(d, exist_ok=True); open(d+'/Proof.antt','w').write('\n'.join(o)+'\n')
+        uses = [s.header(framed=True), ''.join(dict.fromkeys(s.imports)) + f"use {s.P(cr, 'Calls')}.{{{law.split(' ')[0]}}}"]
+        for t in s.opened: used |= {u for _, u in s.fields(t) if s.data(u)}
+        uses += [s.type_uses(t) for t in sorted(used)]
+        uses += [f'use {mod(c)} as c{k}\nuse {mod(c)}.Symbol as c{k}-def\nuse {mod(c)}.Symbol.{{name as #{key(c)}}}\nuse {mod(c)}.Met as c{k}-thm' for k,c in enumerate(callees)]
+        uses += [f'use {mod(me)}.Key.{{name as #{key(me)}}}\nuse {mod(me)} as f\nuse {mod(me)}.Statement as stated\nuse {mod(me)}.Code as code\n']
+        o[:0] = [REF, *[f'abbrev R-{t} : RattleType\nR-{t} = T-{t}.the-row\n' for t in sorted(used)],
+                 'abbrev stayed : Stays (f.ended .signature .params) (f.ended .kept)\nstayed = '+tup([s.stay(p, J) for p in ps])+'\n', *map(s.parts, sorted(s.opened))]
+        head = f"-- `{me}` meets its contract: a walk of its MIR, by hand, written by tools/walks.py. Of its callees the proof knows the contracts alone.\n-- No field that the code does not name is named. Assumes nothing."
+        return module_text(head, '\n'.join(uses), '\n'.join(o) + '\n')
+
+    def parts(s, t):
+        """What whoever holds a struct knows of its fields."""
+        ty = 'Unit {0}'
+        for f, u in reversed(s.fields(t)): ty = f"(Is {s.row(u)} (r .{f}) ({s.low(u,f'r .{f}')} ∷ []) × {ty})"
+        def part(k, f, u):
+            e = f"fs{' .1'*k} .0"
+            return e if not s.data(u) else f"subst (Is R-{u} (r .{f})) (L-{u}.lowers .val-is (r .{f}) _ ({e})) ({e})"
+        return (f'-- what whoever holds a {t} knows of its fields\nparts-{t} : (r : {t}) (vs : List Val) → Is R-{t} r vs → {ty}\n'
+                f'parts-{t} r vs is = let fs = LL.owed T-{t}.the-type L-{t}.the-laws r vs is in {tup([part(k,f,u) for k,(f,u) in enumerate(s.fields(t))])}\n')

@@ -1,5 +1,8 @@
 """A context tracker for walks by hand: the author names the entries of the context, and the positions are counted here.
 Each method appends a line of the walk, or a part of one; `text` closes the parentheses that binders opened."""
+import re
+
+
 class Walk:
     def __init__(self, ctx=None):
         self.c = list(ctx or [])
@@ -73,6 +76,7 @@ class Walk:
         self.line("free0 ! $")
     def keep(self, *ns):
         self.line("keep ! (" + " ∷ ".join(str(self.p(n)) for n in ns) + " ∷ []) $"); self.c = list(ns)
+    def inline(self, last): return " ".join(self.out + [last]) + ")" * self.open
     def text(self, last, indent="        "):
         # comments stand on their own lines, the rest is run together
         lines, cur = [], ""
@@ -80,7 +84,7 @@ class Walk:
             if s.startswith("--"):
                 if cur: lines.append(cur)
                 cur = ""; lines.append(s)
-            elif len(cur) + len(s) > 230: lines.append(cur); cur = s
+            elif cur and len(cur) + len(s) > 140: lines.append(cur); cur = s
             else: cur = (cur + " " + s).strip()
         if cur: lines.append(cur)
         return "\n".join(indent + l for l in lines)
@@ -100,3 +104,70 @@ class Framed(Walk):
     def passes(self, wts): self.line(f"takes ! {wts} $")
     def ends(self): # the function returns: its locals are freed, whatever they hold
         self.line(f"returns ! ({self.look('_0')}) $"); self.move('locals'); self.line("frees-all ! $"); self.c = self.c[1:]
+
+
+USE = re.compile(r'^use ([^\s{]+)\.\{([^}]*)\}\n', re.M)
+AS = re.compile(r'^use (\S+) as (\S+)\n', re.M)
+WIDTH = 150
+
+
+def module_text(head, imports, body):
+    """A proof file: the comment, of the imports those that the body uses, each once, and the body with its long lines broken."""
+    tokens = set(re.findall(r'[^\s(){};,"`.]+', re.sub(r'^ *--.*$', '', body, flags=re.M)))
+    used = lambda name: all(part in tokens for part in name.split('_') if part) if name.startswith('_') or name.endswith('_') else name in tokens
+    listed, whole = {}, []
+    for module, names in USE.findall(imports):
+        for name in names.split(','):
+            if used(name.split(' as ')[-1].strip()): listed.setdefault(module, {})[name.strip()] = None
+    whole = [f'use {module} as {name}' for module, name in dict.fromkeys(AS.findall(imports)) if used(name)]
+    local = {}
+    for module, names in listed.items():
+        for name in names:
+            assert local.setdefault(name.split(' as ')[-1], module) == module, f'{name} is of {module} and of {local[name]}'
+    lines = []
+    for module, names in listed.items():
+        row = []
+        for name in [*names, None]:
+            if row and (name is None or len(f"use {module}.{{{', '.join(row + [name])}}}") > WIDTH):
+                lines.append(f"use {module}.{{{', '.join(row)}}}"); row = []
+            row.append(name)
+    return '\n'.join([head, *lines, *whole, '', broken(body)])
+
+
+def broken(text):
+    """Long lines are broken where no comma stands in any bracket around: `rt fmt` keeps such breaks."""
+    return '\n'.join(piece for line in text.split('\n') for piece in pieces(line))
+
+
+def pieces(line):
+    indent = ' ' * (len(line) - len(line.lstrip()) + 4)
+    while len(line) > WIDTH and not line.lstrip().startswith('--'):
+        places = breaks(line)
+        # the outermost place in the second half of the width, or else the last one before it, or the first one past it
+        near = [p for p in places if WIDTH // 2 < p[0] <= WIDTH] or [p for p in places if len(indent) + 8 < p[0] <= WIDTH][-1:] or [p for p in places if p[0] > WIDTH][:1]
+        if not near: break
+        at = min(near, key=lambda p: (p[1], -p[0]))[0]
+        yield line[:at]
+        line = indent + line[at + 1:]
+    yield line
+
+
+def breaks(line):
+    """The spaces at which the line may be broken, each with how deep it stands."""
+    stack, found, closed = [], [], {}
+    for at, letter in enumerate(line):
+        if letter in '([{': stack.append(at)
+        elif letter in ')]}': closed[stack.pop() if stack else -1] = at
+    commas, stack = set(), []
+    for at, letter in enumerate(line):
+        if letter in '([{':
+            stack.append(at)
+            if letter == '{': commas.add(at)
+        elif letter in ')]}' and stack: stack.pop()
+        elif letter == ',' and stack: commas.add(stack[-1])
+    stack = []
+    for at, letter in enumerate(line):
+        if letter in '([{': stack.append(at)
+        elif letter in ')]}' and stack: stack.pop()
+        elif letter == ' ' and line[:at].strip() and not any(b in commas for b in stack): found.append((at, len(stack)))
+    return found

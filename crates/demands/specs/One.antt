@@ -12,7 +12,6 @@ use Rattle.yard_tables.specs.Tables.{Said, wait}
 pub mod Doors
 pub mod Inner
 pub mod Yard
-pub mod HostYard
 pub mod Numbers
 pub mod Only
 

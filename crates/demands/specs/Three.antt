@@ -2,24 +2,25 @@
 -- Nothing is asked of what stands in the tables that are lent first: the first call of a run is a start that is accepted, and from there on the tables are handed
 -- from call to call as each leaves them. A history holds the calls with their answers, the newest first; `seated`, `announced`, `fresh` and the four marks are
 -- recursions on it that look at no table (yard_laws/specs/History.antt).
-use mathlib.Core.Path.{_≡_, sym, ap, ap₂, _∙_, subst}
+use mathlib.Core.Path.{_≡_, refl, sym, ap, ap₂, _∙_, subst}
 use mathlib.Core.Logic.{_↔_}
 use mathlib.Core.Bool.{true, false, not, _&&_}
 use mathlib.Core.List.{List, _++_}
 use mathlib.Core.List.{List·Memᴰ as In}
 use Prim.Native.Nat.{ℕ, _*_, _≤_, _<_, min}
+use native.Mathlib.Omega.{arith}
 use lib.Dec.{eqb}
 use lib.ListN.{length, getD, take, drop}
 use lib.Seq.{sets}
-use Rattle.refusal.specs.Paper.{taken, refused}
+use Rattle.refusal.specs.Paper.{Outcome, taken, refused}
 use Rattle.yard_tables.specs.Counting.{count, Least}
 use Rattle.yard_tables.specs.Rows.{width, hasIn}
 use Rattle.yard_tables.specs.Seats.{cleared}
 use Rattle.yard_tables.specs.Looks.{firstOr}
-use Rattle.yard_tables.specs.Tables.{Yard, Said, wait, done, serve, dropped, listed, scarce, paper}
+use Rattle.yard_tables.specs.Tables.{Yard, Said, wait, done, serve, dropped, listed, scarce}
 use Rattle.yard_tables.specs.Tables.{seated as givesSeat}
 use Rattle.yard_tables.specs.Step.{Call, start, sit, missing, scarcest, step, written}
-use Rattle.yard_tables.specs.declared.Answer.{Answer}
+use Rattle.yard_tables.specs.declared.Seat.{Seat}
 use Rattle.yard_tables.specs.declared.Page.{Page}
 use Rattle.yard_laws.specs.History.{History, seated, announced, fresh, weAreChoking, weAreInterested, theyAreChoking, theyAreInterested, pieces, sizesSet}
 use Rattle.yard_laws.specs.Says.{Ascending, recordOf, holders, Lowest}
@@ -28,16 +29,22 @@ use Rattle.yard_laws.specs.Causes.{Cause, WaitCause, Serves, Drops}
 use Rattle.yard_laws.specs.Run.{State, SizesFit, after}
 use Rattle.yard_laws.proofs.Theorem as theorem
 use Rattle.yard_laws.proofs.Demand as demand
-use Rattle.demands.specs.Three.Program.{Made, made-run}
+use Rattle.yard_telling.specs.Telling.{codeOf, toldOf, shownOf, Looks}
+use Rattle.yard_telling.specs.declared.Told.{Told}
+use Rattle.demands.specs.Three.Program.{Made, made-run, start-taken}
+use Rattle.demands_laws.proofs.Numbered.{refuses, waits, few, page-there}
 use Rattle.demands_laws.proofs.Paging.{page-total, page-listed}
 use Rattle.demands_laws.proofs.Loaded.{nobody-lacks}
 use Rattle.demands.specs.Three.Fitting.{tables-fit}
 pub mod Program
 mod Fitting
 
+past-few : 255 ≤ 38 → ⊥
+past-few l = omega (arith, l)
+
 -- a start is accepted exactly when the sizes are legal and the lent tables have them, whatever stands in the tables
-pub start-exact : (p l k : ℕ) (lent : Yard) (r : Answer) → paper r ≡ step (start p l k) lent .answer → paper r ≡ taken done ↔ SizesFit p l k lent
-start-exact p l k lent r c = let x = theorem.accepted-exactly p l k lent in (λ e. x .0 (sym c ∙ e), λ s. c ∙ x .1 s)
+pub start-exact : (p l k : ℕ) (lent : Yard) (r : ℕ) → r ≡ codeOf (step (start p l k) lent .answer) → r ≡ 0 ↔ SizesFit p l k lent
+start-exact p l k lent r c = let x = theorem.accepted-exactly p l k lent in (λ e. x .0 (start-taken p l k lent (sym c ∙ e)), λ s. c ∙ ap codeOf (x .1 s))
 
 -- `lent` are the tables as they were lent first; after any calls h is the history, and y are the tables
 module _ (lent : Yard) (h : History) (y : Yard) (made : Made lent h y) where
@@ -91,8 +98,18 @@ module _ (lent : Yard) (h : History) (y : Yard) (made : Made lent h y) where
       (f .row ∙ ap₂ (λ (n p : ℕ). n * width p) (z .0) (z .1), f .counts ∙ z .1)
 
   -- every call's answer, and all that it writes, is the one that the history before it says: document 01's checks in their order, with no table in them
-  pub answer-right : (c : Call) (r : Answer) → paper r ≡ step c y .answer → paper r ≡ answer seats h c
-  answer-right c r e = e ∙ here (λ g z. step c z .answer ≡ answer seats g c) (λ p l k ok cs. theorem.answered p l k lent ok cs c)
+  pub answer-right : (c : Call) → step c y .answer ≡ answer seats h c
+  answer-right c = here (λ g z. step c z .answer ≡ answer seats g c) (λ p l k ok cs. theorem.answered p l k lent ok cs c)
+
+  -- and so are the number that C gets of it, the record and the seat: r and t are what the contracts permit (One/Yard.antt)
+  pub number-right : (c : Call) (r : ℕ) → r ≡ codeOf (step c y .answer) → r ≡ codeOf (answer seats h c)
+  number-right c r e = e ∙ ap codeOf (answer-right c)
+
+  pub told-right : (c : Call) (was t : Told) → t ≡ toldOf (step c y .answer) was → t ≡ toldOf (answer seats h c) was
+  told-right c was t e = e ∙ ap (λ (a : Outcome Said). toldOf a was) (answer-right c)
+
+  pub shown-right : (c : Call) (was t : Seat) → t ≡ shownOf (step c y .answer) was → t ≡ shownOf (answer seats h c) was
+  shown-right c was t e = e ∙ ap (λ (a : Outcome Said). shownOf a was) (answer-right c)
 
   pub written-right : (c : Call) → written c y ≡ output seats h c
   written-right c = here (λ g z. written c z ≡ output seats g c) (λ p l k ok cs. theorem.wrote p l k lent ok cs c)
@@ -103,74 +120,85 @@ module _ (lent : Yard) (h : History) (y : Yard) (made : Made lent h y) where
   tops = here (λ g z. ((p : ℕ) → p < pieces g → getD (z .holders) p 0 ≤ seats) × ((i : ℕ) → i < seats → getD (z .seats) i cleared .held ≤ pieces g) × (z .head .taken ≤ seats) × (z .head .complete ≤ seats))
       (λ p l k ok cs. demand.tops p l k lent ok cs)
 
-  -- ---- 12. A refusal or a wait has its listed cause in the history, and where a cause holds it is given, in document 01's order. r is any answer that the
-  -- contract of the call c permits on these tables
+  -- ---- 12. A refusal or a wait has its listed cause in the history, and where a cause holds it is given, in document 01's order
 
-  module _ (c : Call) (r : Answer) (e : paper r ≡ step c y .answer) where
-    pub fair : (number place : ℕ) → paper r ≡ refused number place ↔ (Cause seats h c number × (place ≡ 0))
-    fair number place =
-        let x = here (λ g z. step c z .answer ≡ refused number place ↔ (Cause seats g c number × (place ≡ 0))) (λ p l k ok cs. demand.fair p l k lent ok cs c number place) in
-        (λ q. x .0 (sym e ∙ q), λ q. e ∙ x .1 q)
+  module _ (c : Call) where
+    pub fair : (number place : ℕ) → step c y .answer ≡ refused number place ↔ (Cause seats h c number × (place ≡ 0))
+    fair number place = here (λ g z. step c z .answer ≡ refused number place ↔ (Cause seats g c number × (place ≡ 0))) (λ p l k ok cs. demand.fair p l k lent ok cs c number place)
 
-    pub fair-wait : paper r ≡ taken wait ↔ WaitCause seats h c
-    fair-wait = let x = here (λ g z. step c z .answer ≡ taken wait ↔ WaitCause seats g c) (λ p l k ok cs. demand.fair-wait p l k lent ok cs c) in (λ q. x .0 (sym e ∙ q), λ q. e ∙ x .1 q)
+    pub fair-wait : step c y .answer ≡ taken wait ↔ WaitCause seats h c
+    fair-wait = here (λ g z. step c z .answer ≡ taken wait ↔ WaitCause seats g c) (λ p l k ok cs. demand.fair-wait p l k lent ok cs c)
 
     -- without a cause the call is taken
-    pub fair-taken : ((number : ℕ) → Cause seats h c number → ⊥) → (a : Said) × (paper r ≡ taken a)
-    fair-taken f =
-        let x = here (λ g z. ((number : ℕ) → Cause seats g c number → ⊥) → (a : Said) × (step c z .answer ≡ taken a)) (λ p l k ok cs. demand.fair-taken p l k lent ok cs c) in
-        let t = x f in (t .0, e ∙ t .1)
+    pub fair-taken : ((number : ℕ) → Cause seats h c number → ⊥) → (a : Said) × (step c y .answer ≡ taken a)
+    fair-taken = here (λ g z. ((number : ℕ) → Cause seats g c number → ⊥) → (a : Said) × (step c z .answer ≡ taken a)) (λ p l k ok cs. demand.fair-taken p l k lent ok cs c)
 
     -- none is 39
-    pub never-damaged : (place : ℕ) → paper r ≡ refused 39 place → ⊥
-    never-damaged place q = here (λ g z. (place : ℕ) → step c z .answer ≡ refused 39 place → ⊥) (λ p l k ok cs. demand.never-damaged p l k lent ok cs c) place (sym e ∙ q)
+    pub never-damaged : (place : ℕ) → step c y .answer ≡ refused 39 place → ⊥
+    never-damaged = here (λ g z. (place : ℕ) → step c z .answer ≡ refused 39 place → ⊥) (λ p l k ok cs. demand.never-damaged p l k lent ok cs c)
+
+    -- as C sees it, r being the number that it gets: 255 is a wait, and any other but 0 a refusal
+    module _ (r : ℕ) (e : r ≡ codeOf (step c y .answer)) where
+      pub number-fair : (number : ℕ) → (number ≡ 0 → ⊥) → (number ≡ 255 → ⊥) → r ≡ number ↔ Cause seats h c number
+      number-fair number z w = (
+        λ q. let a = refuses (step c y .answer) number z w (sym e ∙ q) in fair number (a .0) .0 (a .1) .0,
+        λ k. e ∙ ap codeOf (fair number 0 .1 (k, refl)),
+      )
+
+      pub number-wait : r ≡ 255 ↔ WaitCause seats h c
+      number-wait = (λ q. fair-wait .0 (waits (step c y .answer) (λ p d. past-few (few (fair 255 p .0 d .0))) (sym e ∙ q)), λ k. e ∙ ap codeOf (fair-wait .1 k))
 
     -- "A request is answered "serve" exactly if we don't choke and they are interested, else "drop"."
-    pub serves-right : (bytes : ℕ) → paper r ≡ taken (serve bytes) ↔ Serves seats h c bytes
-    serves-right bytes =
-        let x = here (λ g z. step c z .answer ≡ taken (serve bytes) ↔ Serves seats g c bytes) (λ p l k ok cs. demand.serves-right p l k lent ok cs c bytes) in
-        (λ q. x .0 (sym e ∙ q), λ q. e ∙ x .1 q)
+    pub serves-right : (bytes : ℕ) → step c y .answer ≡ taken (serve bytes) ↔ Serves seats h c bytes
+    serves-right bytes = here (λ g z. step c z .answer ≡ taken (serve bytes) ↔ Serves seats g c bytes) (λ p l k ok cs. demand.serves-right p l k lent ok cs c bytes)
 
-    pub drops-right : (bytes : ℕ) → paper r ≡ taken (dropped bytes) ↔ Drops seats h c bytes
-    drops-right bytes =
-        let x = here (λ g z. step c z .answer ≡ taken (dropped bytes) ↔ Drops seats g c bytes) (λ p l k ok cs. demand.drops-right p l k lent ok cs c bytes) in
-        (λ q. x .0 (sym e ∙ q), λ q. e ∙ x .1 q)
+    pub drops-right : (bytes : ℕ) → step c y .answer ≡ taken (dropped bytes) ↔ Drops seats h c bytes
+    drops-right bytes = here (λ g z. step c z .answer ≡ taken (dropped bytes) ↔ Drops seats g c bytes) (λ p l k ok cs. demand.drops-right p l k lent ok cs c bytes)
 
   -- "Sitting down takes the lowest free seat": seat i is one, a truck sits at each lower seat, and none at i
-  pub sits-lowest : (r : Answer) → paper r ≡ step sit y .answer → (i : ℕ) → paper r ≡ taken (givesSeat i) → (i < seats) × ((j : ℕ) → j < i → seated h j ≡ true) × (seated h i ≡ false)
-  sits-lowest r e i q =
-      let x = here (λ g z. step sit z .answer ≡ taken (givesSeat i) → Lowest (seated g) seats i × (i < seats)) (λ p l k ok cs. demand.sits-lowest p l k lent ok cs i) (sym e ∙ q) in
+  pub sits-lowest : (i : ℕ) → step sit y .answer ≡ taken (givesSeat i) → (i < seats) × ((j : ℕ) → j < i → seated h j ≡ true) × (seated h i ≡ false)
+  sits-lowest i q =
+      let x = here (λ g z. step sit z .answer ≡ taken (givesSeat i) → Lowest (seated g) seats i × (i < seats)) (λ p l k ok cs. demand.sits-lowest p l k lent ok cs i) q in
       (x .1, x .0 .below, x .0 .lacks (x .1))
 
   -- ---- 13. "As many as fit; with it how many were written, the yard's whole missing total from seat 0, and the next unlisted missing seat at or after the first, or S."
 
   -- a page of any room from a first seat on; l is the missing list from there: ascending, with every seat whose truck lacks a piece and no other
-  pub missing-total : (first : ℕ) (page out : List ℕ) (r : Answer) → paper r ≡ step (missing first (length page)) y .answer
-      → out ≡ sets page 0 (written (missing first (length page)) y)
-      → (x : Page) → paper r ≡ taken (listed x)
+  pub missing-total : (first : ℕ) (page out : List ℕ) → out ≡ sets page 0 (written (missing first (length page)) y)
+      → (x : Page) → step (missing first (length page)) y .answer ≡ taken (listed x)
       → (x .total ≡ count seats (λ i. seated h i && not (eqb (count (pieces h) (λ p. seated h i && announced h i p)) (pieces h))))
       × ((l : List ℕ) × Ascending first l
       × ((j : ℕ) → In j l ↔ ((first ≤ j) × (j < seats) × ((seated h j && not (eqb (count (pieces h) (λ p. seated h j && announced h j p)) (pieces h))) ≡ true)))
       × (x .written ≡ min (length page) (length l))
       × (out ≡ take (length page) l ++ drop (x .written) page)
       × (x .next ≡ firstOr seats (drop (length page) l)))
-  missing-total first page out r e w x q =
-      page-listed seats h first page out x (sym (answer-right (missing first (length page)) r e) ∙ q) (w ∙ ap (sets page 0) (written-right (missing first (length page))))
+  missing-total first page out w x q =
+      page-listed seats h first page out x (sym (answer-right (missing first (length page))) ∙ q) (w ∙ ap (sets page 0) (written-right (missing first (length page))))
 
   -- "All loaded": the total is 0 exactly when every truck now seated has announced every piece since it sat down
-  pub all-loaded : (first space : ℕ) (r : Answer) → paper r ≡ step (missing first space) y .answer → (x : Page) → paper r ≡ taken (listed x)
+  pub all-loaded : (first space : ℕ) (x : Page) → step (missing first space) y .answer ≡ taken (listed x)
       → x .total ≡ 0 ↔ ((i p : ℕ) → i < seats → seated h i ≡ true → p < pieces h → announced h i p ≡ true)
-  all-loaded first space r e x q =
-      let t = page-total seats h first space x (sym (answer-right (missing first space) r e) ∙ q) in
+  all-loaded first space x q =
+      let t = page-total seats h first space x (sym (answer-right (missing first space)) ∙ q) in
       let k = nobody-lacks seats (pieces h) (seated h) (announced h) in
       (λ z. k .0 (sym t ∙ z), λ f. t ∙ k .1 f)
 
+  -- as C sees it: where a page's number is 0, `total` of its record is 0 exactly then
+  pub board-right : (first space : ℕ) (was t : Told) → Looks (step (missing first space) y .answer) was 0 t
+      → t .total ≡ 0 ↔ ((i p : ℕ) → i < seats → seated h i ≡ true → p < pieces h → announced h i p ≡ true)
+  board-right first space was t e =
+      let x = page-there seats h first space (sym (number-right (missing first space) 0 (e .0))) in
+      let q = answer-right (missing first space) ∙ x .1 in
+      let l = all-loaded first space (x .0) q in
+      let g : t .total ≡ x .0 .total = ap (λ (u : Told). u .total) (e .1 ∙ ap (λ (a : Outcome Said). toldOf a was) q) in
+      (λ z. l .0 (sym g ∙ z), λ f. g ∙ l .1 f)
+
   -- ---- 14. "The scarcest piece is the smallest number among those with fewest holders."
 
-  pub scarcest-right : (r : Answer) → paper r ≡ step scarcest y .answer → (p : ℕ) → paper r ≡ taken (scarce p)
+  pub scarcest-right : (p : ℕ) → step scarcest y .answer ≡ taken (scarce p)
       → (p < pieces h)
       × ((q : ℕ) → q < pieces h → count seats (λ i. seated h i && announced h i p) ≤ count seats (λ i. seated h i && announced h i q))
       × ((q : ℕ) → q < p → count seats (λ i. seated h i && announced h i p) < count seats (λ i. seated h i && announced h i q))
-  scarcest-right r e p q =
-      let x = here (λ g z. step scarcest z .answer ≡ taken (scarce p) → Least (holders seats g) (pieces g) p) (λ a l k ok cs. demand.scarcest-right a l k lent ok cs p) (sym e ∙ q) in
+  scarcest-right p q =
+      let x = here (λ g z. step scarcest z .answer ≡ taken (scarce p) → Least (holders seats g) (pieces g) p) (λ a l k ok cs. demand.scarcest-right a l k lent ok cs p) q in
       (x .within, x .least, x .first)

@@ -15,3 +15,4 @@ pub mod Places
 pub mod Rewriting
 pub mod Paging
 pub mod Loaded
+pub mod Numbered

@@ -2,5 +2,4 @@
 pub mod Faults
 pub mod Heard
 pub mod Calls
-pub mod Determined
 pub mod Looking
