@@ -1,12 +1,12 @@
 // SHA-1 of one block: 6.1.2 of FIPS 180-4.
 ghost use mathlib.Core.Path.{_≡_};
-ghost use Prim.Native.Nat.{ℕ, _+_, _<_, _≤_};
-ghost use mathlib.Core.List.{List};
+ghost use Prim.Native.Nat.{_+_, _<_, _≤_};
 ghost use lib.ListN.{length};
 ghost use Rattle.hash_digest.specs.Message.{hashed};
 ghost use Rattle.hash_sha1.specs.declared.block.Hash.{Hash};
-ghost use Rattle.hash_sha1.specs.Sha1.{step, plus, mixed, compress, output};
-ghost use Rattle.hash_sha1.specs.Rounds.{Made, Done, Five, roundOf};
+ghost use Rattle.hash_sha1.specs.Sha1.{plus, mixed, compress, output};
+ghost use Rattle.hash_digest.specs.Words.{ch, parity, maj};
+ghost use Rattle.hash_sha1.specs.Rounds.{Made, word, fiveWords, fiveFrom, turned, roundBy, five, fiveAt, ahead, fiveOn, twenty, twentyAt};
 use hash_digest::word::add;
 use hash_digest::word::byte0;
 use hash_digest::word::byte1;
@@ -90,8 +90,8 @@ pub fn spread(h: Hash) -> [u8; 20]
 }
 
 // Steps 1 to 4. Words are made twenty rounds before they are used, so that no round waits for its word. What `w` holds before does not matter.
-fn compressed(h: Hash, b: &[u8], w: &mut [u32]) -> Hash
-    requires { ⌜ (length (now b) ≡ 64) × (length (now w) ≡ 80) ⌝ }
+fn compressed(h: Hash, b: &[u8], w: &mut [u32; 80]) -> Hash
+    requires { ⌜ length (now b) ≡ 64 ⌝ }
     ensures { λ r. ⌜ r ≡ compress h (now (b .entry)) ⌝ }
 {
     words_to_16(b, w);
@@ -114,63 +114,46 @@ fn words_to_16(b: &[u8], w: &mut [u32])
     }
 }
 
-fn words_to_20(w: &mut [u32])
-    requires { ⌜ length (now w) ≡ 80 ⌝ }
-    ensures { λ _. ⌜ ((b : List ℕ) → Made b 16 (now (w .entry)) → Made b 20 (now (w .exit))) ⌝ }
+// The words 16 to 19, for the rounds that come before any others are made.
+fn words_to_20(w: &mut [u32; 80])
+    ensures { λ _. ⌜ now (w .exit) ≡ word 19 (word 18 (word 17 (word 16 (now (w .entry))))) ⌝ }
 {
-    let mut t = 16;
-    while t < 20 {
-        next_word(w, t);
-        t += 1;
-    }
+    next_word(w, 16);
+    next_word(w, 17);
+    next_word(w, 18);
+    next_word(w, 19);
 }
 
 // The rounds by twenties, written out: where every place is a number, the compiler keeps the words in registers.
-fn rounds_to_20(before: Hash, w: &mut [u32]) -> Hash
-    requires { ⌜ length (now w) ≡ 80 ⌝ }
-    ensures { λ r. ⌜ ((h : Hash) (b : List ℕ) → Done h b 0 before → Made b 20 (now (w .entry)) → Done h b 20 r × Made b 40 (now (w .exit))) ⌝ }
+fn rounds_to_20(before: Hash, w: &mut [u32; 80]) -> Hash
+    ensures { λ r. ⌜ ahead r (now (w .exit)) ≡ twenty ch 0x5a827999 0 (ahead before (now (w .entry))) ⌝ }
 {
-    five_words(w, 20);
     let one = first_at(before, w, 0);
-    five_words(w, 25);
     let two = first_at(one, w, 5);
-    five_words(w, 30);
     let three = first_at(two, w, 10);
-    five_words(w, 35);
     first_at(three, w, 15)
 }
 
-fn rounds_to_40(before: Hash, w: &mut [u32]) -> Hash
-    requires { ⌜ length (now w) ≡ 80 ⌝ }
-    ensures { λ r. ⌜ ((h : Hash) (b : List ℕ) → Done h b 20 before → Made b 40 (now (w .entry)) → Done h b 40 r × Made b 60 (now (w .exit))) ⌝ }
+fn rounds_to_40(before: Hash, w: &mut [u32; 80]) -> Hash
+    ensures { λ r. ⌜ ahead r (now (w .exit)) ≡ twenty parity 0x6ed9eba1 20 (ahead before (now (w .entry))) ⌝ }
 {
-    five_words(w, 40);
     let one = second_at(before, w, 20);
-    five_words(w, 45);
     let two = second_at(one, w, 25);
-    five_words(w, 50);
     let three = second_at(two, w, 30);
-    five_words(w, 55);
     second_at(three, w, 35)
 }
 
-fn rounds_to_60(before: Hash, w: &mut [u32]) -> Hash
-    requires { ⌜ length (now w) ≡ 80 ⌝ }
-    ensures { λ r. ⌜ ((h : Hash) (b : List ℕ) → Done h b 40 before → Made b 60 (now (w .entry)) → Done h b 60 r × Made b 80 (now (w .exit))) ⌝ }
+fn rounds_to_60(before: Hash, w: &mut [u32; 80]) -> Hash
+    ensures { λ r. ⌜ ahead r (now (w .exit)) ≡ twenty maj 0x8f1bbcdc 40 (ahead before (now (w .entry))) ⌝ }
 {
-    five_words(w, 60);
     let one = third_at(before, w, 40);
-    five_words(w, 65);
     let two = third_at(one, w, 45);
-    five_words(w, 70);
     let three = third_at(two, w, 50);
-    five_words(w, 75);
     third_at(three, w, 55)
 }
 
-fn rounds_to_80(before: Hash, w: &[u32]) -> Hash
-    requires { ⌜ length (now w) ≡ 80 ⌝ }
-    ensures { λ r. ⌜ ((h : Hash) (b : List ℕ) → Done h b 60 before → Made b 80 (now (w .entry)) → Done h b 80 r) ⌝ }
+fn rounds_to_80(before: Hash, w: &[u32; 80]) -> Hash
+    ensures { λ r. ⌜ r ≡ twentyAt parity 0xca62c1d6 60 before (now (w .entry)) ⌝ }
 {
     let one = last_at(before, w, 60);
     let two = last_at(one, w, 65);
@@ -178,39 +161,43 @@ fn rounds_to_80(before: Hash, w: &[u32]) -> Hash
     last_at(three, w, 75)
 }
 
-// Five rounds from t on.
-fn first_at(g: Hash, w: &[u32], t: usize) -> Hash
-    requires { ⌜ (t + 5 ≤ 20) × (length (now w) ≡ 80) ⌝ }
-    ensures { λ r. ⌜ ((h : Hash) (b : List ℕ) (n : ℕ) → Done h b t g → Made b n (now (w .entry)) → t + 5 ≤ n → n ≤ 80 → Done h b (t + 5) r) ⌝ }
+// Five rounds from t on, once the words of those twenty on are made.
+fn first_at(g: Hash, w: &mut [u32; 80], t: usize) -> Hash
+    requires { ⌜ t + 25 ≤ 80 ⌝ }
+    ensures { λ r. ⌜ ahead r (now (w .exit)) ≡ fiveOn ch 0x5a827999 t (ahead g (now (w .entry))) ⌝ }
 {
+    five_words(w, t + 20);
     five_first(g, words_at(w, t))
 }
 
-fn second_at(g: Hash, w: &[u32], t: usize) -> Hash
-    requires { ⌜ (20 ≤ t) × (t + 5 ≤ 40) × (length (now w) ≡ 80) ⌝ }
-    ensures { λ r. ⌜ ((h : Hash) (b : List ℕ) (n : ℕ) → Done h b t g → Made b n (now (w .entry)) → t + 5 ≤ n → n ≤ 80 → Done h b (t + 5) r) ⌝ }
+fn second_at(g: Hash, w: &mut [u32; 80], t: usize) -> Hash
+    requires { ⌜ t + 25 ≤ 80 ⌝ }
+    ensures { λ r. ⌜ ahead r (now (w .exit)) ≡ fiveOn parity 0x6ed9eba1 t (ahead g (now (w .entry))) ⌝ }
 {
+    five_words(w, t + 20);
     five_second(g, words_at(w, t))
 }
 
-fn third_at(g: Hash, w: &[u32], t: usize) -> Hash
-    requires { ⌜ (40 ≤ t) × (t + 5 ≤ 60) × (length (now w) ≡ 80) ⌝ }
-    ensures { λ r. ⌜ ((h : Hash) (b : List ℕ) (n : ℕ) → Done h b t g → Made b n (now (w .entry)) → t + 5 ≤ n → n ≤ 80 → Done h b (t + 5) r) ⌝ }
+fn third_at(g: Hash, w: &mut [u32; 80], t: usize) -> Hash
+    requires { ⌜ t + 25 ≤ 80 ⌝ }
+    ensures { λ r. ⌜ ahead r (now (w .exit)) ≡ fiveOn maj 0x8f1bbcdc t (ahead g (now (w .entry))) ⌝ }
 {
+    five_words(w, t + 20);
     five_third(g, words_at(w, t))
 }
 
-fn last_at(g: Hash, w: &[u32], t: usize) -> Hash
-    requires { ⌜ (60 ≤ t) × (t + 5 ≤ 80) × (length (now w) ≡ 80) ⌝ }
-    ensures { λ r. ⌜ ((h : Hash) (b : List ℕ) (n : ℕ) → Done h b t g → Made b n (now (w .entry)) → t + 5 ≤ n → n ≤ 80 → Done h b (t + 5) r) ⌝ }
+// The last, for which all words are made.
+fn last_at(g: Hash, w: &[u32; 80], t: usize) -> Hash
+    requires { ⌜ t + 5 ≤ 80 ⌝ }
+    ensures { λ r. ⌜ r ≡ fiveAt parity 0xca62c1d6 t g (now (w .entry)) ⌝ }
 {
     five_last(g, words_at(w, t))
 }
 
 // Step 1, five words from t on.
-fn five_words(w: &mut [u32], t: usize)
-    requires { ⌜ (16 ≤ t) × (t + 5 ≤ 80) × (length (now w) ≡ 80) ⌝ }
-    ensures { λ _. ⌜ (length (now (w .exit)) ≡ 80) × ((b : List ℕ) → Made b t (now (w .entry)) → Made b (t + 5) (now (w .exit))) ⌝ }
+fn five_words(w: &mut [u32; 80], t: usize)
+    requires { ⌜ (16 ≤ t) × (t + 5 ≤ 80) ⌝ }
+    ensures { λ _. ⌜ now (w .exit) ≡ fiveWords t (now (w .entry)) ⌝ }
 {
     next_word(w, t);
     next_word(w, t + 1);
@@ -221,7 +208,7 @@ fn five_words(w: &mut [u32], t: usize)
 
 fn next_word(w: &mut [u32], t: usize)
     requires { ⌜ (16 ≤ t) × (t < 80) × (length (now w) ≡ 80) ⌝ }
-    ensures { λ _. ⌜ (length (now (w .exit)) ≡ 80) × ((b : List ℕ) (n : ℕ) → n ≡ t + 1 → Made b t (now (w .entry)) → Made b n (now (w .exit))) ⌝ }
+    ensures { λ _. ⌜ now (w .exit) ≡ word t (now (w .entry)) ⌝ }
 {
     w[t] = mixed(w, t);
 }
@@ -229,7 +216,7 @@ fn next_word(w: &mut [u32], t: usize)
 // The five words from t on.
 fn words_at(w: &[u32], t: usize) -> Words
     requires { ⌜ (t + 5 ≤ 80) × (length (now w) ≡ 80) ⌝ }
-    ensures { λ r. ⌜ ((b : List ℕ) (n : ℕ) → Made b n (now (w .entry)) → t + 5 ≤ n → n ≤ 80 → Five b t r) ⌝ }
+    ensures { λ r. ⌜ r ≡ fiveFrom (now (w .entry)) t ⌝ }
 {
     Words {
         a: w[t],
@@ -242,7 +229,7 @@ fn words_at(w: &[u32], t: usize) -> Words
 
 // Step 3, five rounds: after five each value stands where it stood, so that none is moved.
 fn five_first(g: Hash, w: Words) -> Hash
-    ensures { λ r. ⌜ ((h : Hash) (b : List ℕ) (t : ℕ) → t + 5 ≤ 20 → Done h b t g → Five b t w → Done h b (t + 5) r) ⌝ }
+    ensures { λ r. ⌜ r ≡ five ch 0x5a827999 g w ⌝ }
 {
     let one = first(g, w.a);
     let two = first(one, w.b);
@@ -252,7 +239,7 @@ fn five_first(g: Hash, w: Words) -> Hash
 }
 
 fn five_second(g: Hash, w: Words) -> Hash
-    ensures { λ r. ⌜ ((h : Hash) (b : List ℕ) (t : ℕ) → 20 ≤ t → t + 5 ≤ 40 → Done h b t g → Five b t w → Done h b (t + 5) r) ⌝ }
+    ensures { λ r. ⌜ r ≡ five parity 0x6ed9eba1 g w ⌝ }
 {
     let one = second(g, w.a);
     let two = second(one, w.b);
@@ -262,7 +249,7 @@ fn five_second(g: Hash, w: Words) -> Hash
 }
 
 fn five_third(g: Hash, w: Words) -> Hash
-    ensures { λ r. ⌜ ((h : Hash) (b : List ℕ) (t : ℕ) → 40 ≤ t → t + 5 ≤ 60 → Done h b t g → Five b t w → Done h b (t + 5) r) ⌝ }
+    ensures { λ r. ⌜ r ≡ five maj 0x8f1bbcdc g w ⌝ }
 {
     let one = third(g, w.a);
     let two = third(one, w.b);
@@ -272,7 +259,7 @@ fn five_third(g: Hash, w: Words) -> Hash
 }
 
 fn five_last(g: Hash, w: Words) -> Hash
-    ensures { λ r. ⌜ ((h : Hash) (b : List ℕ) (t : ℕ) → 60 ≤ t → t + 5 ≤ 80 → Done h b t g → Five b t w → Done h b (t + 5) r) ⌝ }
+    ensures { λ r. ⌜ r ≡ five parity 0xca62c1d6 g w ⌝ }
 {
     let one = last(g, w.a);
     let two = last(one, w.b);
@@ -282,25 +269,25 @@ fn five_last(g: Hash, w: Words) -> Hash
 }
 
 fn first(g: Hash, w: u32) -> Hash
-    ensures { λ r. ⌜ ((t : ℕ) → t < 20 → r ≡ roundOf t g w) ⌝ }
+    ensures { λ r. ⌜ r ≡ roundBy ch 0x5a827999 g w ⌝ }
 {
     round(g, choose(g.b, g.c, g.d), 0x5a827999, w)
 }
 
 fn second(g: Hash, w: u32) -> Hash
-    ensures { λ r. ⌜ ((t : ℕ) → 20 ≤ t → t < 40 → r ≡ roundOf t g w) ⌝ }
+    ensures { λ r. ⌜ r ≡ roundBy parity 0x6ed9eba1 g w ⌝ }
 {
     round(g, odd(g.b, g.c, g.d), 0x6ed9eba1, w)
 }
 
 fn third(g: Hash, w: u32) -> Hash
-    ensures { λ r. ⌜ ((t : ℕ) → 40 ≤ t → t < 60 → r ≡ roundOf t g w) ⌝ }
+    ensures { λ r. ⌜ r ≡ roundBy maj 0x8f1bbcdc g w ⌝ }
 {
     round(g, most(g.b, g.c, g.d), 0x8f1bbcdc, w)
 }
 
 fn last(g: Hash, w: u32) -> Hash
-    ensures { λ r. ⌜ ((t : ℕ) → 60 ≤ t → t < 80 → r ≡ roundOf t g w) ⌝ }
+    ensures { λ r. ⌜ r ≡ roundBy parity 0xca62c1d6 g w ⌝ }
 {
     round(g, odd(g.b, g.c, g.d), 0xca62c1d6, w)
 }
@@ -314,7 +301,7 @@ fn mixed(w: &[u32], t: usize) -> u32
 }
 
 fn round(h: Hash, f: u32, k: u32, w: u32) -> Hash
-    ensures { λ r. ⌜ r ≡ step h f k w ⌝ }
+    ensures { λ r. ⌜ r ≡ turned f k h w ⌝ }
 {
     Hash {
         a: add(add(add(add(rotl5(h.a), f), h.e), k), w),

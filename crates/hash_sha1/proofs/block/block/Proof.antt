@@ -6,11 +6,8 @@ use mathlib.Core.Path.{_∙_}
 use Rattle.hash_sha1.proofs.block.block.Statement.{statement}
 use Rattle.hash_sha1.proofs.block.block.Tie as tie
 
-whole-requires : tie.Need-whole-requires
-whole-requires c κs = search needs
-
 returns : tie.Need-returns
 returns c = c .whole .ensures ∙ hashed-one compress (c .before .before .args .h) (c .before .before .args .b .now) (c .before .before .pre)
 
 pub block-spec : {M : Type 1} → statement M
-block-spec = tie.close (tie.spec whole-requires returns)
+block-spec = tie.close (tie.spec (λ c κs. search needs) returns)

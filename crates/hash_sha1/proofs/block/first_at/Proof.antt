@@ -1,16 +1,14 @@
--- `first_at` meets its contract: the words that are there, and five rounds on them. Assumes nothing.
+-- `first_at` meets its contract: the words of five rounds twenty on are made, and five rounds done. Assumes nothing.
 use borrow.Author.Needs.{needs}
+use Rattle.hash_digest.specs.Words.{ch}
+use Rattle.hash_sha1.proofs.Rounds.{on-joined}
 use Rattle.hash_sha1.proofs.block.first_at.Statement.{statement}
 use Rattle.hash_sha1.proofs.block.first_at.Tie as tie
 
-words-at-requires : tie.Need-words-at-requires
-words-at-requires c κs = search needs
-
-five-first-requires : tie.Need-five-first-requires
-five-first-requires c κs = search needs
-
 returns : tie.Need-returns
-returns c = λ h b n d m p q. c .five-first .ensures h b (c .before .before .before .args .t) (c .before .before .before .pre .0) d (c .before .words-at .ensures b n m p q)
+returns c =
+    let a = c .before .before .before .before .before .before .args in
+    on-joined ch 0x5a827999 (a .t) (a .g) (a .w .now) (c .before .before .before .before .five-words .ensures) (c .before .words-at .ensures) (c .five-first .ensures)
 
 pub first-at-spec : {M : Type 1} → statement M
-first-at-spec = tie.close (tie.spec words-at-requires five-first-requires returns)
+first-at-spec = tie.close (tie.spec (λ c. search needs) (λ c κs. search needs) (λ c κs. search needs) (λ c κs. search needs) returns)

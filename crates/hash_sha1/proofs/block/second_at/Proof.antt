@@ -1,16 +1,14 @@
--- `second_at` meets its contract: the words that are there, and five rounds on them. Assumes nothing.
+-- `second_at` meets its contract: the words of five rounds twenty on are made, and five rounds done. Assumes nothing.
 use borrow.Author.Needs.{needs}
+use Rattle.hash_digest.specs.Words.{parity}
+use Rattle.hash_sha1.proofs.Rounds.{on-joined}
 use Rattle.hash_sha1.proofs.block.second_at.Statement.{statement}
 use Rattle.hash_sha1.proofs.block.second_at.Tie as tie
 
-words-at-requires : tie.Need-words-at-requires
-words-at-requires c κs = search needs
-
-five-second-requires : tie.Need-five-second-requires
-five-second-requires c κs = search needs
-
 returns : tie.Need-returns
-returns c = λ h b n d m p q. c .five-second .ensures h b (c .before .before .before .args .t) (c .before .before .before .pre .0) (c .before .before .before .pre .1) d (c .before .words-at .ensures b n m p q)
+returns c =
+    let a = c .before .before .before .before .before .before .args in
+    on-joined parity 0x6ed9eba1 (a .t) (a .g) (a .w .now) (c .before .before .before .before .five-words .ensures) (c .before .words-at .ensures) (c .five-second .ensures)
 
 pub second-at-spec : {M : Type 1} → statement M
-second-at-spec = tie.close (tie.spec words-at-requires five-second-requires returns)
+second-at-spec = tie.close (tie.spec (λ c. search needs) (λ c κs. search needs) (λ c κs. search needs) (λ c κs. search needs) returns)

@@ -4,31 +4,8 @@ use Rattle.hash_sha1.proofs.Rounds.{summed}
 use Rattle.hash_sha1.proofs.block.sum.Statement.{statement}
 use Rattle.hash_sha1.proofs.block.sum.Tie as tie
 
-add-requires : tie.Need-add-requires
-add-requires c κs = search needs
-
-add-requires-2 : tie.Need-add-requires-2
-add-requires-2 c κs = search needs
-
-add-requires-3 : tie.Need-add-requires-3
-add-requires-3 c κs = search needs
-
-add-requires-4 : tie.Need-add-requires-4
-add-requires-4 c κs = search needs
-
-add-requires-5 : tie.Need-add-requires-5
-add-requires-5 c κs = search needs
-
 returns : tie.Need-returns
 returns c = summed (c .before .before .before .before .before .args .g) (c .before .before .before .before .before .args .h) (c .before .before .before .before .add .ensures) (c .before .before .before .add2 .ensures) (c .before .before .add3 .ensures) (c .before .add4 .ensures) (c .add5 .ensures)
 
 pub sum-spec : {M : Type 1} → statement M
-sum-spec =
-    tie.close
-    (tie.spec
-    add-requires
-    add-requires-2
-    add-requires-3
-    add-requires-4
-    add-requires-5
-    returns)
+sum-spec = tie.close (tie.spec (λ c κs. search needs) (λ c κs. search needs) (λ c κs. search needs) (λ c κs. search needs) (λ c κs. search needs) returns)

@@ -6,35 +6,14 @@ use native.Mathlib.Omega.{arith}
 use Rattle.hash_sha1.proofs.stream.add.Statement.{statement}
 use Rattle.hash_sha1.proofs.stream.add.Tie as tie
 
-cast-before : tie.Need-cast-before
-cast-before c = search needs
-
-too-long-requires : tie.Need-too-long-requires
-too-long-requires c κs = search needs
-
 returns : tie.Need-returns
 returns c = c .too-long .ensures ∙ sym (add-over (c .before .before .before .before .args .s) (c .before .before .before .before .args .part .now) (omega arith))
 
-too-long-requires-2 : tie.Need-too-long-requires-2
-too-long-requires-2 c κs = search needs
-
 returns-2 : tie.Need-returns-2
 returns-2 c = c .too-long2 .ensures ∙ sym (add-over (c .before .before .before .before .before .args .s) (c .before .before .before .before .before .args .part .now) (omega arith))
-
-longer-requires : tie.Need-longer-requires
-longer-requires c κs = search needs
 
 returns-3 : tie.Need-returns-3
 returns-3 c = c .longer .ensures ∙ sym (add-whole (c .before .before .before .before .before .before .args .s) (c .before .before .before .before .before .before .args .part .now) (omega arith))
 
 pub add-spec : {M : Type 1} → statement M
-add-spec =
-    tie.close
-    (tie.spec
-    cast-before
-    too-long-requires
-    returns
-    too-long-requires-2
-    returns-2
-    longer-requires
-    returns-3)
+add-spec = tie.close (tie.spec (λ c. search needs) (λ c κs. search needs) returns (λ c κs. search needs) returns-2 (λ c κs. search needs) returns-3)

@@ -5,24 +5,11 @@ use native.Mathlib.Omega.{arith}
 use Rattle.hash_sha1.proofs.stream.finish.Statement.{statement}
 use Rattle.hash_sha1.proofs.stream.finish.Tie as tie
 
-cast-length : tie.Need-cast-length
-cast-length c = search needs
-
-long-requires : tie.Need-long-requires
-long-requires c κs = search needs
-
 returns : tie.Need-returns
 returns c = finish-refused (c .before .before .before .args .s) (c .before .before .before .args .out .now) (omega arith) (c .long .ensures)
-
-last-requires : tie.Need-last-requires
-last-requires c κs = search needs
-
-spread-requires : tie.Need-spread-requires
-spread-requires c κs = search needs
 
 returns-2 : tie.Need-returns-2
 returns-2 c = finish-written (c .before .before .before .before .before .args .s) (c .before .before .before .before .before .args .out .now) (omega arith) (c .before .last .ensures) (c .spread .ensures)
 
 pub finish-spec : {M : Type 1} → statement M
-finish-spec =
-    tie.close (tie.spec cast-length long-requires returns last-requires spread-requires returns-2)
+finish-spec = tie.close (tie.spec (λ c. search needs) (λ c κs. search needs) returns (λ c κs. search needs) (λ c κs. search needs) returns-2)
