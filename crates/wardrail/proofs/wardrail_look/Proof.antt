@@ -5,18 +5,9 @@ use borrow.Author.Needs.{needs}
 use Rattle.wardrail.proofs.wardrail_look.Statement.{statement}
 use Rattle.wardrail.proofs.wardrail_look.Tie as tie
 
-look-requires : tie.Need-look-requires
-look-requires c κs = search needs
-
-look-detail-requires : tie.Need-look-detail-requires
-look-detail-requires c κs = search needs
-
-look-number-requires : tie.Need-look-number-requires
-look-number-requires c κs = search needs
-
 returns : tie.Need-returns
 returns c = tells lookDetail (c .before .before .look .ensures) (c .look-number .ensures) (c .before .look-detail .ensures)
 
 pub wardrail-look-spec : {M : Type 1} → statement M
 wardrail-look-spec =
-    tie.close (tie.spec look-requires look-detail-requires look-number-requires returns)
+    tie.close (tie.spec (λ c κs. search needs) (λ c κs. search needs) (λ c κs. search needs) returns)

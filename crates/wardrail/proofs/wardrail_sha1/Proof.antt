@@ -4,14 +4,8 @@ use borrow.Author.Needs.{needs}
 use Rattle.wardrail.proofs.wardrail_sha1.Statement.{statement}
 use Rattle.wardrail.proofs.wardrail_sha1.Tie as tie
 
-digest-requires : tie.Need-digest-requires
-digest-requires c κs = search needs
-
-hashed-number-requires : tie.Need-hashed-number-requires
-hashed-number-requires c κs = search needs
-
 returns : tie.Need-returns
 returns c = digested (c .before .digest .ensures) (c .hashed-number .ensures)
 
 pub wardrail-sha1-spec : {M : Type 1} → statement M
-wardrail-sha1-spec = tie.close (tie.spec digest-requires hashed-number-requires returns)
+wardrail-sha1-spec = tie.close (tie.spec (λ c κs. search needs) (λ c κs. search needs) returns)

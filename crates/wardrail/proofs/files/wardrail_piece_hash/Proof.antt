@@ -5,18 +5,9 @@ use borrow.Author.Needs.{needs}
 use Rattle.wardrail.proofs.files.wardrail_piece_hash.Statement.{statement}
 use Rattle.wardrail.proofs.files.wardrail_piece_hash.Tie as tie
 
-piece-hash-requires : tie.Need-piece-hash-requires
-piece-hash-requires c κs = search needs
-
-hash-detail-requires : tie.Need-hash-detail-requires
-hash-detail-requires c κs = search needs
-
-hash-number-requires : tie.Need-hash-number-requires
-hash-number-requires c κs = search needs
-
 returns : tie.Need-returns
 returns c = tells partDetail (c .before .before .piece-hash .ensures) (c .hash-number .ensures) (c .before .hash-detail .ensures)
 
 pub wardrail-piece-hash-spec : {M : Type 1} → statement M
 wardrail-piece-hash-spec =
-    tie.close (tie.spec piece-hash-requires hash-detail-requires hash-number-requires returns)
+    tie.close (tie.spec (λ c κs. search needs) (λ c κs. search needs) (λ c κs. search needs) returns)

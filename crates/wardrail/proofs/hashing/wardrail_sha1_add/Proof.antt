@@ -7,17 +7,8 @@ use borrow.Author.Needs.{needs}
 use Rattle.wardrail.proofs.hashing.wardrail_sha1_add.Statement.{statement}
 use Rattle.wardrail.proofs.hashing.wardrail_sha1_add.Tie as tie
 
-state-requires : tie.Need-state-requires
-state-requires c κs = search needs
-
-add-requires : tie.Need-add-requires
-add-requires c κs = search needs
-
-words-of-requires : tie.Need-words-of-requires
-words-of-requires c κs = search needs
-
 returns : tie.Need-returns
 returns c = let f = c .before .before .add .ensures ∙ ap (λ (s : Stream). addOf s (c .before .before .before .before .before .before .before .args .part .now)) (c .before .before .before .state .ensures) in (c .before .words-of .ensures ∙ ap wordsOf f, ap (λ (s : Stream). s .tail) f)
 
 pub wardrail-sha1-add-spec : {M : Type 1} → statement M
-wardrail-sha1-add-spec = tie.close (tie.spec state-requires add-requires words-of-requires returns)
+wardrail-sha1-add-spec = tie.close (tie.spec (λ c κs. search needs) (λ c κs. search needs) (λ c κs. search needs) returns)

@@ -7,18 +7,9 @@ use borrow.Author.Needs.{needs}
 use Rattle.wardrail.proofs.hashing.wardrail_sha1_finish.Statement.{statement}
 use Rattle.wardrail.proofs.hashing.wardrail_sha1_finish.Tie as tie
 
-state-requires : tie.Need-state-requires
-state-requires c κs = search needs
-
-finish-requires : tie.Need-finish-requires
-finish-requires c κs = search needs
-
-hashed-number-requires : tie.Need-hashed-number-requires
-hashed-number-requires c κs = search needs
-
 returns : tie.Need-returns
 returns c = digested (c .before .finish .ensures ∙ ap (λ (s : Stream). finishOf s (c .before .before .before .before .before .before .args .digest .now)) (c .before .before .before .state .ensures)) (c .hashed-number .ensures)
 
 pub wardrail-sha1-finish-spec : {M : Type 1} → statement M
 wardrail-sha1-finish-spec =
-    tie.close (tie.spec state-requires finish-requires hashed-number-requires returns)
+    tie.close (tie.spec (λ c κs. search needs) (λ c κs. search needs) (λ c κs. search needs) returns)

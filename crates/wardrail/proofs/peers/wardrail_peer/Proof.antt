@@ -5,18 +5,9 @@ use borrow.Author.Needs.{needs}
 use Rattle.wardrail.proofs.peers.wardrail_peer.Statement.{statement}
 use Rattle.wardrail.proofs.peers.wardrail_peer.Tie as tie
 
-peer-requires : tie.Need-peer-requires
-peer-requires c κs = search needs
-
-peer-detail-requires : tie.Need-peer-detail-requires
-peer-detail-requires c κs = search needs
-
-peer-number-requires : tie.Need-peer-number-requires
-peer-number-requires c κs = search needs
-
 returns : tie.Need-returns
 returns c = tells peerDetail (c .before .before .peer .ensures) (c .peer-number .ensures) (c .before .peer-detail .ensures)
 
 pub wardrail-peer-spec : {M : Type 1} → statement M
 wardrail-peer-spec =
-    tie.close (tie.spec peer-requires peer-detail-requires peer-number-requires returns)
+    tie.close (tie.spec (λ c κs. search needs) (λ c κs. search needs) (λ c κs. search needs) returns)

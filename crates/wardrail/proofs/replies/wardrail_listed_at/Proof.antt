@@ -5,18 +5,9 @@ use Rattle.wardrail_rows.specs.Replies.{entryDetail}
 use Rattle.wardrail.proofs.replies.wardrail_listed_at.Statement.{statement}
 use Rattle.wardrail.proofs.replies.wardrail_listed_at.Tie as tie
 
-listed-at-requires : tie.Need-listed-at-requires
-listed-at-requires c κs = search needs
-
-listed-detail-requires : tie.Need-listed-detail-requires
-listed-detail-requires c κs = search needs
-
-listed-number-requires : tie.Need-listed-number-requires
-listed-number-requires c κs = search needs
-
 returns : tie.Need-returns
 returns c = tells entryDetail (c .before .before .listed-at .ensures) (c .listed-number .ensures) (c .before .listed-detail .ensures)
 
 pub wardrail-listed-at-spec : {M : Type 1} → statement M
 wardrail-listed-at-spec =
-    tie.close (tie.spec listed-at-requires listed-detail-requires listed-number-requires returns)
+    tie.close (tie.spec (λ c κs. search needs) (λ c κs. search needs) (λ c κs. search needs) returns)

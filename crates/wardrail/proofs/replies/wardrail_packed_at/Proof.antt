@@ -5,18 +5,9 @@ use Rattle.wardrail_rows.specs.Replies.{entryDetail}
 use Rattle.wardrail.proofs.replies.wardrail_packed_at.Statement.{statement}
 use Rattle.wardrail.proofs.replies.wardrail_packed_at.Tie as tie
 
-packed-at-requires : tie.Need-packed-at-requires
-packed-at-requires c κs = search needs
-
-packed-detail-requires : tie.Need-packed-detail-requires
-packed-detail-requires c κs = search needs
-
-packed-number-requires : tie.Need-packed-number-requires
-packed-number-requires c κs = search needs
-
 returns : tie.Need-returns
 returns c = tells entryDetail (c .before .before .packed-at .ensures) (c .packed-number .ensures) (c .before .packed-detail .ensures)
 
 pub wardrail-packed-at-spec : {M : Type 1} → statement M
 wardrail-packed-at-spec =
-    tie.close (tie.spec packed-at-requires packed-detail-requires packed-number-requires returns)
+    tie.close (tie.spec (λ c κs. search needs) (λ c κs. search needs) (λ c κs. search needs) returns)

@@ -4,14 +4,8 @@ use borrow.Author.Needs.{needs}
 use Rattle.wardrail.proofs.torrents.wardrail_info_hash.Statement.{statement}
 use Rattle.wardrail.proofs.torrents.wardrail_info_hash.Tie as tie
 
-info-hash-requires : tie.Need-info-hash-requires
-info-hash-requires c κs = search needs
-
-hashed-number-requires : tie.Need-hashed-number-requires
-hashed-number-requires c κs = search needs
-
 returns : tie.Need-returns
 returns c = digested (c .before .info-hash .ensures) (c .hashed-number .ensures)
 
 pub wardrail-info-hash-spec : {M : Type 1} → statement M
-wardrail-info-hash-spec = tie.close (tie.spec info-hash-requires hashed-number-requires returns)
+wardrail-info-hash-spec = tie.close (tie.spec (λ c κs. search needs) (λ c κs. search needs) returns)

@@ -5,18 +5,9 @@ use Rattle.wardrail_rows.specs.Torrents.{torrentDetail}
 use Rattle.wardrail.proofs.torrents.wardrail_torrent.Statement.{statement}
 use Rattle.wardrail.proofs.torrents.wardrail_torrent.Tie as tie
 
-read-requires : tie.Need-read-requires
-read-requires c κs = search needs
-
-torrent-detail-requires : tie.Need-torrent-detail-requires
-torrent-detail-requires c κs = search needs
-
-torrent-number-requires : tie.Need-torrent-number-requires
-torrent-number-requires c κs = search needs
-
 returns : tie.Need-returns
 returns c = tells torrentDetail (c .before .before .read .ensures) (c .torrent-number .ensures) (c .before .torrent-detail .ensures)
 
 pub wardrail-torrent-spec : {M : Type 1} → statement M
 wardrail-torrent-spec =
-    tie.close (tie.spec read-requires torrent-detail-requires torrent-number-requires returns)
+    tie.close (tie.spec (λ c κs. search needs) (λ c κs. search needs) (λ c κs. search needs) returns)

@@ -5,18 +5,9 @@ use borrow.Author.Needs.{needs}
 use Rattle.wardrail.proofs.writers.wardrail_torrent_size.Statement.{statement}
 use Rattle.wardrail.proofs.writers.wardrail_torrent_size.Tie as tie
 
-size-requires : tie.Need-size-requires
-size-requires c κs = search needs
-
-sized-detail-requires : tie.Need-sized-detail-requires
-sized-detail-requires c κs = search needs
-
-sized-number-requires : tie.Need-sized-number-requires
-sized-number-requires c κs = search needs
-
 returns : tie.Need-returns
 returns c = tells detailOf (c .before .before .size .ensures) (c .sized-number .ensures) (c .before .sized-detail .ensures)
 
 pub wardrail-torrent-size-spec : {M : Type 1} → statement M
 wardrail-torrent-size-spec =
-    tie.close (tie.spec size-requires sized-detail-requires sized-number-requires returns)
+    tie.close (tie.spec (λ c κs. search needs) (λ c κs. search needs) (λ c κs. search needs) returns)

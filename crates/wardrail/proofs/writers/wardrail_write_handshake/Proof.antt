@@ -4,22 +4,10 @@ use borrow.Author.Needs.{needs}
 use Rattle.wardrail.proofs.writers.wardrail_write_handshake.Statement.{statement}
 use Rattle.wardrail.proofs.writers.wardrail_write_handshake.Tie as tie
 
-handshake-requires : tie.Need-handshake-requires
-handshake-requires c κs = search needs
-
-put-detail-requires : tie.Need-put-detail-requires
-put-detail-requires c κs = search needs
-
-put-number-requires : tie.Need-put-number-requires
-put-number-requires c κs = search needs
-
-same-length : tie.Need-same-length
-same-length c = search needs
-
 returns : tie.Need-returns
 returns c = wrote (c .before .before .before .before .handshake .ensures) (c .put-number .ensures) (c .before .put-detail .ensures)
 
 pub wardrail-write-handshake-spec : {M : Type 1} → statement M
 wardrail-write-handshake-spec =
     tie.close
-    (tie.spec handshake-requires put-detail-requires put-number-requires same-length returns)
+    (tie.spec (λ c κs. search needs) (λ c κs. search needs) (λ c κs. search needs) (λ c. search needs) returns)

@@ -4,22 +4,10 @@ use borrow.Author.Needs.{needs}
 use Rattle.wardrail.proofs.writers.wardrail_write_keepalive.Statement.{statement}
 use Rattle.wardrail.proofs.writers.wardrail_write_keepalive.Tie as tie
 
-keepalive-requires : tie.Need-keepalive-requires
-keepalive-requires c κs = search needs
-
-put-detail-requires : tie.Need-put-detail-requires
-put-detail-requires c κs = search needs
-
-put-number-requires : tie.Need-put-number-requires
-put-number-requires c κs = search needs
-
-same-length : tie.Need-same-length
-same-length c = search needs
-
 returns : tie.Need-returns
 returns c = wrote (c .before .before .before .before .keepalive .ensures) (c .put-number .ensures) (c .before .put-detail .ensures)
 
 pub wardrail-write-keepalive-spec : {M : Type 1} → statement M
 wardrail-write-keepalive-spec =
     tie.close
-    (tie.spec keepalive-requires put-detail-requires put-number-requires same-length returns)
+    (tie.spec (λ c κs. search needs) (λ c κs. search needs) (λ c κs. search needs) (λ c. search needs) returns)

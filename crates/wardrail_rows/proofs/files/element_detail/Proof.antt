@@ -7,24 +7,6 @@ use borrow.Author.Needs.{needs}
 use Rattle.wardrail_rows.proofs.files.element_detail.Statement.{statement}
 use Rattle.wardrail_rows.proofs.files.element_detail.Tie as tie
 
-enum-known-e : tie.Need-enum-known-e
-enum-known-e c = search needs
-
-four-requires : tie.Need-four-requires
-four-requires c κs = search needs
-
-enum-known-e-2 : tie.Need-enum-known-e-2
-enum-known-e-2 c = search needs
-
-four-requires-2 : tie.Need-four-requires-2
-four-requires-2 c κs = search needs
-
-enum-known-e-3 : tie.Need-enum-known-e-3
-enum-known-e-3 c = search needs
-
-four-requires-3 : tie.Need-four-requires-3
-four-requires-3 c κs = search needs
-
 returns : tie.Need-returns
 returns c = c .four .ensures ∙ ap (λ (x : Element). elementDetail (elementPaper x)) (sym (c .before .before .e .given .1))
 
@@ -38,12 +20,12 @@ pub element-detail-spec : {M : Type 1} → statement M
 element-detail-spec =
     tie.close
     (tie.spec
-    enum-known-e
-    four-requires
-    enum-known-e-2
-    four-requires-2
-    enum-known-e-3
-    four-requires-3
+    (λ c. search needs)
+    (λ c κs. search needs)
+    (λ c. search needs)
+    (λ c κs. search needs)
+    (λ c. search needs)
+    (λ c κs. search needs)
     returns
     returns-2
     returns-3)

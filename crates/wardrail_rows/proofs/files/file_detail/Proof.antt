@@ -7,18 +7,6 @@ use borrow.Author.Needs.{needs}
 use Rattle.wardrail_rows.proofs.files.file_detail.Statement.{statement}
 use Rattle.wardrail_rows.proofs.files.file_detail.Tie as tie
 
-enum-known-f : tie.Need-enum-known-f
-enum-known-f c = search needs
-
-entry-words-requires : tie.Need-entry-words-requires
-entry-words-requires c κs = search needs
-
-enum-known-f-2 : tie.Need-enum-known-f-2
-enum-known-f-2 c = search needs
-
-four-requires : tie.Need-four-requires
-four-requires c κs = search needs
-
 returns : tie.Need-returns
 returns c = c .entry-words .ensures ∙ ap (λ (x : Found). fileDetail (foundPaper x)) (sym (c .before .before .f .given .1))
 
@@ -28,4 +16,4 @@ returns-2 c = c .four .ensures ∙ ap (λ (x : Found). fileDetail (foundPaper x)
 pub file-detail-spec : {M : Type 1} → statement M
 file-detail-spec =
     tie.close
-    (tie.spec enum-known-f entry-words-requires enum-known-f-2 four-requires returns returns-2)
+    (tie.spec (λ c. search needs) (λ c κs. search needs) (λ c. search needs) (λ c κs. search needs) returns returns-2)

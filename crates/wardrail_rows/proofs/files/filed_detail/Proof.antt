@@ -7,18 +7,6 @@ use borrow.Author.Needs.{needs}
 use Rattle.wardrail_rows.proofs.files.filed_detail.Statement.{statement}
 use Rattle.wardrail_rows.proofs.files.filed_detail.Tie as tie
 
-enum-known-f : tie.Need-enum-known-f
-enum-known-f c = search needs
-
-three-requires : tie.Need-three-requires
-three-requires c κs = search needs
-
-enum-known-f-2 : tie.Need-enum-known-f-2
-enum-known-f-2 c = search needs
-
-three-requires-2 : tie.Need-three-requires-2
-three-requires-2 c κs = search needs
-
 returns : tie.Need-returns
 returns c = c .three .ensures ∙ ap (λ (x : Filed). walkedDetail (filePaper x)) (sym (c .before .before .f .given .1))
 
@@ -28,4 +16,4 @@ returns-2 c = c .three2 .ensures ∙ ap (λ (x : Filed). walkedDetail (filePaper
 pub filed-detail-spec : {M : Type 1} → statement M
 filed-detail-spec =
     tie.close
-    (tie.spec enum-known-f three-requires enum-known-f-2 three-requires-2 returns returns-2)
+    (tie.spec (λ c. search needs) (λ c κs. search needs) (λ c. search needs) (λ c κs. search needs) returns returns-2)

@@ -7,30 +7,6 @@ use borrow.Author.Needs.{needs}
 use Rattle.wardrail_rows.proofs.frames.frame_detail.Statement.{statement}
 use Rattle.wardrail_rows.proofs.frames.frame_detail.Tie as tie
 
-enum-told : tie.Need-enum-told
-enum-told c = search needs
-
-eight-requires : tie.Need-eight-requires
-eight-requires c κs = search needs
-
-enum-known-read : tie.Need-enum-known-read
-enum-known-read c = search needs
-
-eight-requires-2 : tie.Need-eight-requires-2
-eight-requires-2 c κs = search needs
-
-enum-known-read-2 : tie.Need-enum-known-read-2
-enum-known-read-2 c = search needs
-
-message-words-requires : tie.Need-message-words-requires
-message-words-requires c κs = search needs
-
-enum-known-read-3 : tie.Need-enum-known-read-3
-enum-known-read-3 c = search needs
-
-eight-requires-3 : tie.Need-eight-requires-3
-eight-requires-3 c κs = search needs
-
 returns : tie.Need-returns
 returns c = c .eight .ensures ∙ ap (λ (x : Read). frameDetail (paper x)) (sym (c .before .enum-told .given .1))
 
@@ -47,14 +23,14 @@ pub frame-detail-spec : {M : Type 1} → statement M
 frame-detail-spec =
     tie.close
     (tie.spec
-    enum-told
-    eight-requires
-    enum-known-read
-    eight-requires-2
-    enum-known-read-2
-    message-words-requires
-    enum-known-read-3
-    eight-requires-3
+    (λ c. search needs)
+    (λ c κs. search needs)
+    (λ c. search needs)
+    (λ c κs. search needs)
+    (λ c. search needs)
+    (λ c κs. search needs)
+    (λ c. search needs)
+    (λ c κs. search needs)
     returns
     returns-2
     returns-3

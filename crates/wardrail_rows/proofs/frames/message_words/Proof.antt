@@ -7,69 +7,6 @@ use borrow.Author.Needs.{needs}
 use Rattle.wardrail_rows.proofs.frames.message_words.Statement.{statement}
 use Rattle.wardrail_rows.proofs.frames.message_words.Tie as tie
 
-enum-told : tie.Need-enum-told
-enum-told c = search needs
-
-plain-requires : tie.Need-plain-requires
-plain-requires c κs = search needs
-
-enum-told-2 : tie.Need-enum-told-2
-enum-told-2 c = search needs
-
-plain-requires-2 : tie.Need-plain-requires-2
-plain-requires-2 c κs = search needs
-
-enum-told-3 : tie.Need-enum-told-3
-enum-told-3 c = search needs
-
-plain-requires-3 : tie.Need-plain-requires-3
-plain-requires-3 c κs = search needs
-
-enum-told-4 : tie.Need-enum-told-4
-enum-told-4 c = search needs
-
-plain-requires-4 : tie.Need-plain-requires-4
-plain-requires-4 c κs = search needs
-
-enum-known-f : tie.Need-enum-known-f
-enum-known-f c = search needs
-
-cast-eight : tie.Need-cast-eight
-cast-eight c = search needs
-
-eight-requires : tie.Need-eight-requires
-eight-requires c κs = search needs
-
-enum-known-f-2 : tie.Need-enum-known-f-2
-enum-known-f-2 c = search needs
-
-carrying-requires : tie.Need-carrying-requires
-carrying-requires c κs = search needs
-
-enum-known-f-3 : tie.Need-enum-known-f-3
-enum-known-f-3 c = search needs
-
-asking-requires : tie.Need-asking-requires
-asking-requires c κs = search needs
-
-enum-known-f-4 : tie.Need-enum-known-f-4
-enum-known-f-4 c = search needs
-
-carrying-requires-2 : tie.Need-carrying-requires-2
-carrying-requires-2 c κs = search needs
-
-enum-known-f-5 : tie.Need-enum-known-f-5
-enum-known-f-5 c = search needs
-
-asking-requires-2 : tie.Need-asking-requires-2
-asking-requires-2 c κs = search needs
-
-enum-known-f-6 : tie.Need-enum-known-f-6
-enum-known-f-6 c = search needs
-
-carrying-requires-3 : tie.Need-carrying-requires-3
-carrying-requires-3 c κs = search needs
-
 returns : tie.Need-returns
 returns c = c .plain .ensures ∙ ap (λ (x : Frame). messageWords (c .before .before .before .args .used) (message x)) (sym (c .before .enum-told .given .1))
 
@@ -104,27 +41,27 @@ pub message-words-spec : {M : Type 1} → statement M
 message-words-spec =
     tie.close
     (tie.spec
-    enum-told
-    plain-requires
-    enum-told-2
-    plain-requires-2
-    enum-told-3
-    plain-requires-3
-    enum-told-4
-    plain-requires-4
-    enum-known-f
-    cast-eight
-    eight-requires
-    enum-known-f-2
-    carrying-requires
-    enum-known-f-3
-    asking-requires
-    enum-known-f-4
-    carrying-requires-2
-    enum-known-f-5
-    asking-requires-2
-    enum-known-f-6
-    carrying-requires-3
+    (λ c. search needs)
+    (λ c κs. search needs)
+    (λ c. search needs)
+    (λ c κs. search needs)
+    (λ c. search needs)
+    (λ c κs. search needs)
+    (λ c. search needs)
+    (λ c κs. search needs)
+    (λ c. search needs)
+    (λ c. search needs)
+    (λ c κs. search needs)
+    (λ c. search needs)
+    (λ c κs. search needs)
+    (λ c. search needs)
+    (λ c κs. search needs)
+    (λ c. search needs)
+    (λ c κs. search needs)
+    (λ c. search needs)
+    (λ c κs. search needs)
+    (λ c. search needs)
+    (λ c κs. search needs)
     returns
     returns-2
     returns-3

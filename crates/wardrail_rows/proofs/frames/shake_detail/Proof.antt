@@ -7,24 +7,6 @@ use borrow.Author.Needs.{needs}
 use Rattle.wardrail_rows.proofs.frames.shake_detail.Statement.{statement}
 use Rattle.wardrail_rows.proofs.frames.shake_detail.Tie as tie
 
-enum-told : tie.Need-enum-told
-enum-told c = search needs
-
-six-requires : tie.Need-six-requires
-six-requires c κs = search needs
-
-enum-known-g : tie.Need-enum-known-g
-enum-known-g c = search needs
-
-six-requires-2 : tie.Need-six-requires-2
-six-requires-2 c κs = search needs
-
-enum-known-g-2 : tie.Need-enum-known-g-2
-enum-known-g-2 c = search needs
-
-six-requires-3 : tie.Need-six-requires-3
-six-requires-3 c κs = search needs
-
 returns : tie.Need-returns
 returns c = c .six .ensures ∙ ap (λ (x : Greeting). shakeDetail (paper x)) (sym (c .before .enum-told .given .1))
 
@@ -38,12 +20,12 @@ pub shake-detail-spec : {M : Type 1} → statement M
 shake-detail-spec =
     tie.close
     (tie.spec
-    enum-told
-    six-requires
-    enum-known-g
-    six-requires-2
-    enum-known-g-2
-    six-requires-3
+    (λ c. search needs)
+    (λ c κs. search needs)
+    (λ c. search needs)
+    (λ c κs. search needs)
+    (λ c. search needs)
+    (λ c κs. search needs)
     returns
     returns-2
     returns-3)

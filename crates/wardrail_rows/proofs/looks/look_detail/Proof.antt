@@ -7,48 +7,6 @@ use borrow.Author.Needs.{needs}
 use Rattle.wardrail_rows.proofs.looks.look_detail.Statement.{statement}
 use Rattle.wardrail_rows.proofs.looks.look_detail.Tie as tie
 
-enum-known-s : tie.Need-enum-known-s
-enum-known-s c = search needs
-
-four-requires : tie.Need-four-requires
-four-requires c κs = search needs
-
-enum-known-s-2 : tie.Need-enum-known-s-2
-enum-known-s-2 c = search needs
-
-four-requires-2 : tie.Need-four-requires-2
-four-requires-2 c κs = search needs
-
-enum-known-s-3 : tie.Need-enum-known-s-3
-enum-known-s-3 c = search needs
-
-four-requires-3 : tie.Need-four-requires-3
-four-requires-3 c κs = search needs
-
-enum-known-s-4 : tie.Need-enum-known-s-4
-enum-known-s-4 c = search needs
-
-four-requires-4 : tie.Need-four-requires-4
-four-requires-4 c κs = search needs
-
-enum-known-s-5 : tie.Need-enum-known-s-5
-enum-known-s-5 c = search needs
-
-four-requires-5 : tie.Need-four-requires-5
-four-requires-5 c κs = search needs
-
-enum-known-s-6 : tie.Need-enum-known-s-6
-enum-known-s-6 c = search needs
-
-four-requires-6 : tie.Need-four-requires-6
-four-requires-6 c κs = search needs
-
-enum-known-s-7 : tie.Need-enum-known-s-7
-enum-known-s-7 c = search needs
-
-four-requires-7 : tie.Need-four-requires-7
-four-requires-7 c κs = search needs
-
 returns : tie.Need-returns
 returns c = c .four .ensures ∙ ap (λ (x : Seen). lookDetail (paper x)) (sym (c .before .before .s .given .1))
 
@@ -74,20 +32,20 @@ pub look-detail-spec : {M : Type 1} → statement M
 look-detail-spec =
     tie.close
     (tie.spec
-    enum-known-s
-    four-requires
-    enum-known-s-2
-    four-requires-2
-    enum-known-s-3
-    four-requires-3
-    enum-known-s-4
-    four-requires-4
-    enum-known-s-5
-    four-requires-5
-    enum-known-s-6
-    four-requires-6
-    enum-known-s-7
-    four-requires-7
+    (λ c. search needs)
+    (λ c κs. search needs)
+    (λ c. search needs)
+    (λ c κs. search needs)
+    (λ c. search needs)
+    (λ c κs. search needs)
+    (λ c. search needs)
+    (λ c κs. search needs)
+    (λ c. search needs)
+    (λ c κs. search needs)
+    (λ c. search needs)
+    (λ c κs. search needs)
+    (λ c. search needs)
+    (λ c κs. search needs)
     returns
     returns-2
     returns-3

@@ -7,24 +7,6 @@ use borrow.Author.Needs.{needs}
 use Rattle.wardrail_rows.proofs.mapping.place_detail.Statement.{statement}
 use Rattle.wardrail_rows.proofs.mapping.place_detail.Tie as tie
 
-enum-known-p : tie.Need-enum-known-p
-enum-known-p c = search needs
-
-cast-two : tie.Need-cast-two
-cast-two c = search needs
-
-cast-two-2 : tie.Need-cast-two-2
-cast-two-2 c = search needs
-
-two-requires : tie.Need-two-requires
-two-requires c κs = search needs
-
-enum-known-p-2 : tie.Need-enum-known-p-2
-enum-known-p-2 c = search needs
-
-two-requires-2 : tie.Need-two-requires-2
-two-requires-2 c κs = search needs
-
 returns : tie.Need-returns
 returns c = c .two .ensures ∙ ap (λ (x : Place). spotDetail (placePaper x)) (sym (c .before .before .before .before .p .given .1))
 
@@ -35,11 +17,11 @@ pub place-detail-spec : {M : Type 1} → statement M
 place-detail-spec =
     tie.close
     (tie.spec
-    enum-known-p
-    cast-two
-    cast-two-2
-    two-requires
-    enum-known-p-2
-    two-requires-2
+    (λ c. search needs)
+    (λ c. search needs)
+    (λ c. search needs)
+    (λ c κs. search needs)
+    (λ c. search needs)
+    (λ c κs. search needs)
     returns
     returns-2)

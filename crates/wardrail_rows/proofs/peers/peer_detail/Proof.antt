@@ -7,36 +7,6 @@ use borrow.Author.Needs.{needs}
 use Rattle.wardrail_rows.proofs.peers.peer_detail.Statement.{statement}
 use Rattle.wardrail_rows.proofs.peers.peer_detail.Tie as tie
 
-enum-known-f : tie.Need-enum-known-f
-enum-known-f c = search needs
-
-cast-six : tie.Need-cast-six
-cast-six c = search needs
-
-cast-six-2 : tie.Need-cast-six-2
-cast-six-2 c = search needs
-
-cast-six-3 : tie.Need-cast-six-3
-cast-six-3 c = search needs
-
-cast-six-4 : tie.Need-cast-six-4
-cast-six-4 c = search needs
-
-six-requires : tie.Need-six-requires
-six-requires c κs = search needs
-
-enum-known-f-2 : tie.Need-enum-known-f-2
-enum-known-f-2 c = search needs
-
-six-requires-2 : tie.Need-six-requires-2
-six-requires-2 c κs = search needs
-
-enum-known-f-3 : tie.Need-enum-known-f-3
-enum-known-f-3 c = search needs
-
-six-requires-3 : tie.Need-six-requires-3
-six-requires-3 c κs = search needs
-
 returns : tie.Need-returns
 returns c = c .six .ensures ∙ ap (λ (x : Found). peerDetail (peerPaper x)) (sym (c .before .before .before .before .before .before .f .given .1))
 
@@ -50,16 +20,16 @@ pub peer-detail-spec : {M : Type 1} → statement M
 peer-detail-spec =
     tie.close
     (tie.spec
-    enum-known-f
-    cast-six
-    cast-six-2
-    cast-six-3
-    cast-six-4
-    six-requires
-    enum-known-f-2
-    six-requires-2
-    enum-known-f-3
-    six-requires-3
+    (λ c. search needs)
+    (λ c. search needs)
+    (λ c. search needs)
+    (λ c. search needs)
+    (λ c. search needs)
+    (λ c κs. search needs)
+    (λ c. search needs)
+    (λ c κs. search needs)
+    (λ c. search needs)
+    (λ c κs. search needs)
     returns
     returns-2
     returns-3)

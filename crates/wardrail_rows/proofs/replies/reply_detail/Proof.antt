@@ -7,30 +7,6 @@ use mathlib.Core.Path.{sym, ap, _∙_}
 use Rattle.wardrail_rows.proofs.replies.reply_detail.Statement.{statement}
 use Rattle.wardrail_rows.proofs.replies.reply_detail.Tie as tie
 
-enum-known-reply : tie.Need-enum-known-reply
-enum-known-reply c = search needs
-
-four-requires : tie.Need-four-requires
-four-requires c κs = search needs
-
-enum-known-reply-2 : tie.Need-enum-known-reply-2
-enum-known-reply-2 c = search needs
-
-four-requires-2 : tie.Need-four-requires-2
-four-requires-2 c κs = search needs
-
-enum-known-reply-3 : tie.Need-enum-known-reply-3
-enum-known-reply-3 c = search needs
-
-four-requires-3 : tie.Need-four-requires-3
-four-requires-3 c κs = search needs
-
-enum-known-reply-4 : tie.Need-enum-known-reply-4
-enum-known-reply-4 c = search needs
-
-four-requires-4 : tie.Need-four-requires-4
-four-requires-4 c κs = search needs
-
 returns : tie.Need-returns
 returns c = c .four .ensures ∙ ap (λ (x : Reply). replyDetail (paper x)) (sym (c .before .before .reply .given .1))
 
@@ -47,14 +23,14 @@ pub reply-detail-spec : {M : Type 1} → statement M
 reply-detail-spec =
     tie.close
     (tie.spec
-    enum-known-reply
-    four-requires
-    enum-known-reply-2
-    four-requires-2
-    enum-known-reply-3
-    four-requires-3
-    enum-known-reply-4
-    four-requires-4
+    (λ c. search needs)
+    (λ c κs. search needs)
+    (λ c. search needs)
+    (λ c κs. search needs)
+    (λ c. search needs)
+    (λ c κs. search needs)
+    (λ c. search needs)
+    (λ c κs. search needs)
     returns
     returns-2
     returns-3

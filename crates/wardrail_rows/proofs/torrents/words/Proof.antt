@@ -3,11 +3,8 @@ use borrow.Author.Needs.{needs}
 use Rattle.wardrail_rows.proofs.torrents.words.Statement.{statement}
 use Rattle.wardrail_rows.proofs.torrents.words.Tie as tie
 
-flag-requires : tie.Need-flag-requires
-flag-requires c κs = search needs
-
 returns : tie.Need-returns
 returns c = let e = c .flag .ensures in cc
 
 pub words-spec : {M : Type 1} → statement M
-words-spec = tie.close (tie.spec flag-requires returns)
+words-spec = tie.close (tie.spec (λ c κs. search needs) returns)
