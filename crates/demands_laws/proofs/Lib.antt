@@ -16,3 +16,4 @@ pub mod Rewriting
 pub mod Paging
 pub mod Loaded
 pub mod Numbered
+pub mod Reasons

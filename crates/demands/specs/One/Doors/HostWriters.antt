@@ -11,7 +11,6 @@ use Rattle.torrent_authoring.specs.Writing.{writeOf as torrentTextOf}
 use Rattle.torrent_authoring.specs.Writing.{fields, sizeOf}
 use Rattle.wardrail_rows.specs.Said.{detailOf, Tells}
 use Rattle.wardrail_rows.specs.Writers.{Wrote}
-use Rattle.wardrail_rows.proofs.Determined as laws
 use Rattle.wardrail_rows.proofs.Keeping as kept
 use Rattle.demands.specs.One.{Lent, now, Determined2, Determined1}
 
@@ -21,8 +20,7 @@ write-frame-ensures id payload r out detail =
     Wrote (frameOf (id ∷ now (payload .entry)) (now (out .entry))) r (now (detail .exit)) (now (out .exit))
 
 pub write-frame-determined : (id : ℕ) (payload : Lent (List ℕ)) → Determined2 (write-frame-ensures id payload)
-write-frame-determined id payload out detail r r′ out₁ out₂ detail₁ detail₂ e f =
-    let t = laws.wrote-determined (frameOf (id ∷ now (payload .entry)) (now out)) r r′ (now detail₁) (now detail₂) (now out₁) (now out₂) e f in (t .0, t .2, t .1)
+write-frame-determined id payload out detail r r′ out₁ out₂ detail₁ detail₂ e f = (e .0 ∙ sym (f .0), e .2 ∙ sym (f .2), e .1 ∙ sym (f .1))
 
 pub write-frame-keeps : (id : ℕ) (payload : Lent (List ℕ)) → (r : ℕ) (out : Lent (List ℕ)) (detail : Lent ℕ) → write-frame-ensures id payload r out detail → (r ≡ 0 → ⊥) → now (out .exit) ≡ now (out .entry)
 write-frame-keeps id payload r out detail e k = kept.write-frame-keeps _ _ r _ _ e k
@@ -33,8 +31,7 @@ write-keepalive-ensures r out detail =
     Wrote (putOf (encode keepalive) 0 (now (out .entry))) r (now (detail .exit)) (now (out .exit))
 
 pub write-keepalive-determined : Determined2 write-keepalive-ensures
-write-keepalive-determined out detail r r′ out₁ out₂ detail₁ detail₂ e f =
-    let t = laws.wrote-determined (putOf (encode keepalive) 0 (now out)) r r′ (now detail₁) (now detail₂) (now out₁) (now out₂) e f in (t .0, t .2, t .1)
+write-keepalive-determined out detail r r′ out₁ out₂ detail₁ detail₂ e f = (e .0 ∙ sym (f .0), e .2 ∙ sym (f .2), e .1 ∙ sym (f .1))
 
 pub write-keepalive-keeps : (r : ℕ) (out : Lent (List ℕ)) (detail : Lent ℕ) → write-keepalive-ensures r out detail → (r ≡ 0 → ⊥) → now (out .exit) ≡ now (out .entry)
 write-keepalive-keeps r out detail e k = kept.put-keeps _ _ r _ _ e k
@@ -45,8 +42,7 @@ write-handshake-ensures info peer r out detail =
     Wrote (putOf (handshake zeros (now (info .entry)) (now (peer .entry))) 0 (now (out .entry))) r (now (detail .exit)) (now (out .exit))
 
 pub write-handshake-determined : (info peer : Lent (List ℕ)) → Determined2 (write-handshake-ensures info peer)
-write-handshake-determined info peer out detail r r′ out₁ out₂ detail₁ detail₂ e f =
-    let t = laws.wrote-determined (putOf (handshake zeros (now (info .entry)) (now (peer .entry))) 0 (now out)) r r′ (now detail₁) (now detail₂) (now out₁) (now out₂) e f in (t .0, t .2, t .1)
+write-handshake-determined info peer out detail r r′ out₁ out₂ detail₁ detail₂ e f = (e .0 ∙ sym (f .0), e .2 ∙ sym (f .2), e .1 ∙ sym (f .1))
 
 pub write-handshake-keeps : (info peer : Lent (List ℕ)) → (r : ℕ) (out : Lent (List ℕ)) (detail : Lent ℕ) → write-handshake-ensures info peer r out detail → (r ≡ 0 → ⊥) → now (out .exit) ≡ now (out .entry)
 write-handshake-keeps info peer r out detail e k = kept.put-keeps _ _ r _ _ e k
@@ -57,8 +53,7 @@ write-torrent-ensures announce name «piece_length» pieces length r out detail 
     Wrote (torrentTextOf (fields (now (announce .entry)) (now (name .entry)) «piece_length» (now (pieces .entry)) length) (now (out .entry))) r (now (detail .exit)) (now (out .exit))
 
 pub write-torrent-determined : (announce name : Lent (List ℕ)) («piece_length» : ℕ) (pieces : Lent (List ℕ)) (length : ℕ) → Determined2 (write-torrent-ensures announce name «piece_length» pieces length)
-write-torrent-determined announce name «piece_length» pieces length out detail r r′ out₁ out₂ detail₁ detail₂ e f =
-    let t = laws.wrote-determined (torrentTextOf (fields (now (announce .entry)) (now (name .entry)) «piece_length» (now (pieces .entry)) length) (now out)) r r′ (now detail₁) (now detail₂) (now out₁) (now out₂) e f in (t .0, t .2, t .1)
+write-torrent-determined announce name «piece_length» pieces length out detail r r′ out₁ out₂ detail₁ detail₂ e f = (e .0 ∙ sym (f .0), e .2 ∙ sym (f .2), e .1 ∙ sym (f .1))
 
 pub write-torrent-keeps : (announce name : Lent (List ℕ)) («piece_length» : ℕ) (pieces : Lent (List ℕ)) (length : ℕ) → (r : ℕ) (out : Lent (List ℕ)) (detail : Lent ℕ) → write-torrent-ensures announce name «piece_length» pieces length r out detail → (r ≡ 0 → ⊥) → now (out .exit) ≡ now (out .entry)
 write-torrent-keeps announce name «piece_length» pieces length r out detail e k = kept.write-torrent-keeps _ _ r _ _ e k
@@ -77,8 +72,7 @@ write-reply-ensures interval peers r out detail =
     Wrote (replyTextOf interval (now (peers .entry)) (now (out .entry))) r (now (detail .exit)) (now (out .exit))
 
 pub write-reply-determined : (interval : ℕ) (peers : Lent (List ℕ)) → Determined2 (write-reply-ensures interval peers)
-write-reply-determined interval peers out detail r r′ out₁ out₂ detail₁ detail₂ e f =
-    let t = laws.wrote-determined (replyTextOf interval (now (peers .entry)) (now out)) r r′ (now detail₁) (now detail₂) (now out₁) (now out₂) e f in (t .0, t .2, t .1)
+write-reply-determined interval peers out detail r r′ out₁ out₂ detail₁ detail₂ e f = (e .0 ∙ sym (f .0), e .2 ∙ sym (f .2), e .1 ∙ sym (f .1))
 
 pub write-reply-keeps : (interval : ℕ) (peers : Lent (List ℕ)) → (r : ℕ) (out : Lent (List ℕ)) (detail : Lent ℕ) → write-reply-ensures interval peers r out detail → (r ≡ 0 → ⊥) → now (out .exit) ≡ now (out .entry)
 write-reply-keeps interval peers r out detail e k = kept.write-reply-keeps _ _ _ r _ _ e k

@@ -1,6 +1,6 @@
 -- Demand 1 of `torrent_metainfo`: torrents, read. Assumes nothing.
 use mathlib.Core.List.{List}
-use mathlib.Core.Path.{_≡_}
+use mathlib.Core.Path.{_≡_, sym, _∙_}
 use Prim.Native.Nat.{ℕ, _+_, min}
 use lib.ListN.{length}
 use Rattle.refusal.specs.Parts.{bytesAt}
@@ -31,8 +31,7 @@ announce-ensures text r =
     × ((r .ptr .0 ≡ text .entry .ptr .0) × (r .ptr .1 ≡ text .entry .ptr .1 + min (announceIn (readOf (now (text .entry))) .from) (length (now (text .entry)))))
 
 pub announce-determined : (text : Lent (List ℕ)) → Determined (announce-ensures text)
-announce-determined text r r′ e f =
-    one-part ref (laws.announce-determined (now (text .entry)) (now r) (now r′) (text .entry .ptr .0) (text .entry .ptr .1) (r .ptr .0) (r′ .ptr .0) (r .ptr .1) (r′ .ptr .1) (e .0) (f .0) (e .1) (f .1))
+announce-determined text r r′ e f = one-part ref (e .0 ∙ sym (f .0), e .1 .0 ∙ sym (f .1 .0), e .1 .1 ∙ sym (f .1 .1))
 
 -- torrent_metainfo::name
 abbrev pub name-ensures : (text : Lent (List ℕ)) → Ref (List ℕ) → Type 0
@@ -41,8 +40,7 @@ name-ensures text r =
     × ((r .ptr .0 ≡ text .entry .ptr .0) × (r .ptr .1 ≡ text .entry .ptr .1 + min (nameIn (readOf (now (text .entry))) .from) (length (now (text .entry)))))
 
 pub name-determined : (text : Lent (List ℕ)) → Determined (name-ensures text)
-name-determined text r r′ e f =
-    one-part ref (laws.name-determined (now (text .entry)) (now r) (now r′) (text .entry .ptr .0) (text .entry .ptr .1) (r .ptr .0) (r′ .ptr .0) (r .ptr .1) (r′ .ptr .1) (e .0) (f .0) (e .1) (f .1))
+name-determined text r r′ e f = one-part ref (e .0 ∙ sym (f .0), e .1 .0 ∙ sym (f .1 .0), e .1 .1 ∙ sym (f .1 .1))
 
 -- torrent_metainfo::info_hash
 abbrev pub info-hash-ensures : (text : Lent (List ℕ)) → Hashed → Lent (List ℕ) → Type 0

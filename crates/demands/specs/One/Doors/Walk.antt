@@ -1,6 +1,6 @@
 -- Demand 1 of `bencode_walk`: the steps over a text. Assumes nothing.
 use mathlib.Core.List.{List}
-use mathlib.Core.Path.{_≡_}
+use mathlib.Core.Path.{_≡_, sym, _∙_}
 use Prim.Native.Nat.{ℕ, suc, _+_, min}
 use lib.ListN.{length}
 use Rattle.refusal.specs.Parts.{bytesAt}
@@ -49,5 +49,4 @@ bytes-ensures text p r =
     × ((r .ptr .0 ≡ text .entry .ptr .0) × (r .ptr .1 ≡ text .entry .ptr .1 + min (p .from) (length (now (text .entry)))))
 
 pub bytes-determined : (text : Lent (List ℕ)) (p : Part) → Determined (bytes-ensures text p)
-bytes-determined text p r r′ e f =
-    one-part ref (laws.bytes-determined (now (text .entry)) (now r) (now r′) (p .from) (p .len) (text .entry .ptr .0) (text .entry .ptr .1) (r .ptr .0) (r′ .ptr .0) (r .ptr .1) (r′ .ptr .1) (e .0) (f .0) (e .1) (f .1))
+bytes-determined text p r r′ e f = one-part ref (e .0 ∙ sym (f .0), e .1 .0 ∙ sym (f .1 .0), e .1 .1 ∙ sym (f .1 .1))
