@@ -1,6 +1,6 @@
--- The demands, one file each. Each statement stands in full under the sentence that it meets, and is proved by citing. `Three/Program`: `Made`.
+-- The demands, one file each: each statement in full under the sentence that it meets, and proved by citing. The words that it has in common with
+-- others stand in One.antt and in demands_laws/specs.
 pub mod One
 pub mod Two
 pub mod Three
 pub mod Stars
-pub mod Cited

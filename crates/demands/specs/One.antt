@@ -11,7 +11,6 @@ use Rattle.refusal.specs.Paper.{Outcome, taken, refused}
 use Rattle.yard_tables.specs.Tables.{Said, wait}
 pub mod Doors
 pub mod Inner
-pub mod Yard
 pub mod Numbers
 pub mod Only
 

@@ -2,8 +2,8 @@
 -- Nothing is asked of what stands in the tables that are lent first: the first call of a run is a start that is accepted, and from there on the tables are handed
 -- from call to call as each leaves them. A history holds the calls with their answers, the newest first; `seated`, `announced`, `fresh` and the four marks are
 -- recursions on it that look at no table (yard_laws/specs/History.antt).
-use mathlib.Core.Path.{_≡_, refl, sym, ap, ap₂, _∙_, subst}
-use mathlib.Core.Logic.{_↔_}
+use mathlib.Core.Path.{_≡_, sym, ap, ap₂, _∙_}
+use mathlib.Core.Logic.{_↔_, Iff·trans}
 use mathlib.Core.Bool.{true, false, not, _&&_}
 use mathlib.Core.List.{List, _++_}
 use mathlib.Core.List.{List·Memᴰ as In}
@@ -26,21 +26,19 @@ use Rattle.yard_laws.specs.History.{History, seated, announced, fresh, weAreCho
 use Rattle.yard_laws.specs.Says.{Ascending, recordOf, holders, Lowest}
 use Rattle.yard_laws.specs.Expected.{answer, output}
 use Rattle.yard_laws.specs.Causes.{Cause, WaitCause, Serves, Drops}
-use Rattle.yard_laws.specs.Run.{State, SizesFit, after}
+use Rattle.yard_laws.specs.Run.{SizesFit, after}
 use Rattle.yard_laws.proofs.Theorem as theorem
 use Rattle.yard_laws.proofs.Demand as demand
 use Rattle.yard_telling.specs.Telling.{codeOf, toldOf, shownOf, Looks}
 use Rattle.yard_telling.specs.declared.Told.{Told}
-use Rattle.demands.specs.Three.Program.{Made, made-run, start-taken}
-use Rattle.demands_laws.proofs.Numbered.{refuses, waits, few, page-there}
+use Rattle.demands_laws.specs.Program.{Made}
+use Rattle.demands_laws.proofs.Refusals.{same-answer}
+use Rattle.demands_laws.proofs.Reasons.{few}
+use Rattle.demands_laws.proofs.Runs as runs
+use Rattle.demands_laws.proofs.Runs.{start-taken, tables-fit}
+use Rattle.demands_laws.proofs.Numbered.{number-refuses, number-waits, at-any-place, page-told}
 use Rattle.demands_laws.proofs.Paging.{page-total, page-listed}
 use Rattle.demands_laws.proofs.Loaded.{nobody-lacks}
-use Rattle.demands.specs.Three.Fitting.{tables-fit}
-pub mod Program
-mod Fitting
-
-past-few : 255 ≤ 38 → ⊥
-past-few l = omega (arith, l)
 
 -- a start is accepted exactly when the sizes are legal and the lent tables have them, whatever stands in the tables
 pub start-exact : (p l k : ℕ) (lent : Yard) (r : ℕ) → r ≡ codeOf (step (start p l k) lent .answer) → r ≡ 0 ↔ SizesFit p l k lent
@@ -52,9 +50,9 @@ module _ (lent : Yard) (h : History) (y : Yard) (made : Made lent h y) where
   abbrev seats : ℕ
   seats = length (lent .seats)
 
-  -- what is so of every run is so of this one
+  -- what is so of every run is so of this one (`Made`: demands_laws/specs/Program.antt)
   here : (P : History → Yard → Type 0) → ((p l k : ℕ) → step (start p l k) lent .answer ≡ taken done → (cs : List Call) → P (after p l k lent cs .past) (after p l k lent cs .yard)) → P h y
-  here P f = let m = made-run lent h y made in subst (λ (s : State). P (s .past) (s .yard)) (m .is) (f (m .pieces) (m .piece-length) (m .last-length) (m .accepted) (m .calls))
+  here = runs.here lent h y made
 
   -- ---- 10. "The yard's counts are what the history of calls says."
 
@@ -101,7 +99,7 @@ module _ (lent : Yard) (h : History) (y : Yard) (made : Made lent h y) where
   pub answer-right : (c : Call) → step c y .answer ≡ answer seats h c
   answer-right c = here (λ g z. step c z .answer ≡ answer seats g c) (λ p l k ok cs. theorem.answered p l k lent ok cs c)
 
-  -- and so are the number that C gets of it, the record and the seat: r and t are what the contracts permit (One/Yard.antt)
+  -- and so are the number that C gets of it, the record and the seat: r and t are what the contracts permit (One/Doors/Yard.antt)
   pub number-right : (c : Call) (r : ℕ) → r ≡ codeOf (step c y .answer) → r ≡ codeOf (answer seats h c)
   number-right c r e = e ∙ ap codeOf (answer-right c)
 
@@ -140,13 +138,10 @@ module _ (lent : Yard) (h : History) (y : Yard) (made : Made lent h y) where
     -- as C sees it, r being the number that it gets: 255 is a wait, and any other but 0 a refusal
     module _ (r : ℕ) (e : r ≡ codeOf (step c y .answer)) where
       pub number-fair : (number : ℕ) → (number ≡ 0 → ⊥) → (number ≡ 255 → ⊥) → r ≡ number ↔ Cause seats h c number
-      number-fair number z w = (
-        λ q. let a = refuses (step c y .answer) number z w (sym e ∙ q) in fair number (a .0) .0 (a .1) .0,
-        λ k. e ∙ ap codeOf (fair number 0 .1 (k, refl)),
-      )
+      number-fair number z w = Iff·trans (number-refuses e number z w) (at-any-place (fair number))
 
       pub number-wait : r ≡ 255 ↔ WaitCause seats h c
-      number-wait = (λ q. fair-wait .0 (waits (step c y .answer) (λ p d. past-few (few (fair 255 p .0 d .0))) (sym e ∙ q)), λ k. e ∙ ap codeOf (fair-wait .1 k))
+      number-wait = Iff·trans (number-waits e (λ p d. absurd (let l = few seats h c 255 (fair 255 p .0 d .0) in omega arith))) fair-wait
 
     -- "A request is answered "serve" exactly if we don't choke and they are interested, else "drop"."
     pub serves-right : (bytes : ℕ) → step c y .answer ≡ taken (serve bytes) ↔ Serves seats h c bytes
@@ -180,18 +175,14 @@ module _ (lent : Yard) (h : History) (y : Yard) (made : Made lent h y) where
       → x .total ≡ 0 ↔ ((i p : ℕ) → i < seats → seated h i ≡ true → p < pieces h → announced h i p ≡ true)
   all-loaded first space x q =
       let t = page-total seats h first space x (sym (answer-right (missing first space)) ∙ q) in
-      let k = nobody-lacks seats (pieces h) (seated h) (announced h) in
-      (λ z. k .0 (sym t ∙ z), λ f. t ∙ k .1 f)
+      Iff·trans (same-answer t) (nobody-lacks seats (pieces h) (seated h) (announced h))
 
   -- as C sees it: where a page's number is 0, `total` of its record is 0 exactly then
   pub board-right : (first space : ℕ) (was t : Told) → Looks (step (missing first space) y .answer) was 0 t
       → t .total ≡ 0 ↔ ((i p : ℕ) → i < seats → seated h i ≡ true → p < pieces h → announced h i p ≡ true)
   board-right first space was t e =
-      let x = page-there seats h first space (sym (number-right (missing first space) 0 (e .0))) in
-      let q = answer-right (missing first space) ∙ x .1 in
-      let l = all-loaded first space (x .0) q in
-      let g : t .total ≡ x .0 .total = ap (λ (u : Told). u .total) (e .1 ∙ ap (λ (a : Outcome Said). toldOf a was) q) in
-      (λ z. l .0 (sym g ∙ z), λ f. g ∙ l .1 f)
+      let (x, q, g) = page-told seats h first space (answer-right (missing first space)) was t e in
+      Iff·trans (same-answer g) (all-loaded first space x q)
 
   -- ---- 14. "The scarcest piece is the smallest number among those with fewest holders."
 

@@ -13,7 +13,9 @@ pub mod Pieces
 pub mod Files
 pub mod Places
 pub mod Rewriting
+pub mod Keeping
+pub mod Reasons
+pub mod Runs
+pub mod Numbered
 pub mod Paging
 pub mod Loaded
-pub mod Numbered
-pub mod Reasons

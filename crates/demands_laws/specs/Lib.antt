@@ -3,3 +3,4 @@ pub mod Texts
 pub mod Readers
 pub mod Causes
 pub mod Places
+pub mod Program

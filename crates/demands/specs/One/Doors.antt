@@ -1,4 +1,4 @@
--- The doors: what a user calls from Rattle, then what C calls. The files go by crate, and a call stands under its path.
+-- The doors: what a user calls from Rattle, and from C (`Yard`, `Host..`). The files go by crate, and a call stands under its path.
 pub mod Bencode
 pub mod Walk
 pub mod Metainfo
@@ -11,6 +11,7 @@ pub mod Blocks
 pub mod Wire
 pub mod WireWriting
 pub mod Sha1
+pub mod Yard
 pub mod HostTexts
 pub mod HostParts
 pub mod HostWriters

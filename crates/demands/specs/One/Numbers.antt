@@ -2,7 +2,7 @@
 -- is given at a place exactly when its cause holds there. A cause says that the checks before it are passed; the left side is what the contract of the
 -- call says of its answer. The causes: bencode_laws/specs/Causes (1 to 7), torrent_laws/specs/Causes and tracker/specs/Causes (10 to 15), torrent_blocks/specs/Covers,
 -- peer_wire/specs/Causes (20 to 23, wait), torrent_authoring/specs/Rules and tracker/specs/Faults (the writers), yard_laws/specs/Causes and Damage (the yard's
--- words), and demands_laws/specs/Causes. `Made lent h y` (Three/Program): the tables `lent`, started and then called any way, have become y, and h is what happened. Assumes nothing.
+-- words), and demands_laws/specs/Causes. `Made lent h y` (demands_laws/specs/Program): the tables `lent`, started and then called any way, have become y, and h is what happened. Assumes nothing.
 use mathlib.Core.Path.{_≡_}
 use mathlib.Core.Logic.{_⊎_, _↔_, Iff·trans}
 use mathlib.Core.Bool.{true, false}
@@ -56,10 +56,9 @@ use Rattle.yard_laws.specs.History.{History, seated, fresh, pieces}
 use Rattle.yard_laws.specs.Causes.{Sits, Nobody, On, Marks, Says, SpeaksOf, Fits, StartFits}
 use Rattle.yard_laws.specs.Damage.{Unfit, Damaged}
 use Rattle.yard_laws.proofs.Damage as damage
-use Rattle.demands.specs.Three.Program.{Made}
-use Rattle.demands.specs.Cited.Reasons as reasons
 use Rattle.demands_laws.specs.Causes.{Unchecked, Unsized, NoReplyText}
 use Rattle.demands_laws.specs.Readers.{Reader, answerOf}
+use Rattle.demands_laws.specs.Program.{Made}
 use Rattle.demands_laws.proofs.Refusals.{given, map-refused}
 use Rattle.demands_laws.proofs.Readers.{as-decoded, decode-8}
 use Rattle.demands_laws.proofs.Replies as replies
@@ -68,6 +67,7 @@ use Rattle.demands_laws.proofs.Digests as digests
 use Rattle.demands_laws.proofs.Frames as framing
 use Rattle.demands_laws.proofs.Blocks as blocks
 use Rattle.demands_laws.proofs.Writers as writers
+use Rattle.demands_laws.proofs.Runs as runs
 
 -- ---- calls that refuse as another does: each number below is then given as by that one
 -- 1 to 7 are said of all of them at once: `answerOf r s` is the answer of any call r that reads s as bencode first (demands_laws/specs/Readers): bencode::check,
@@ -272,7 +272,7 @@ write-20 rest o p = framing.write-20 rest o p
 -- given by yard, after an accepted start and any calls
 pub yard-20 : (lent : Yard) (h : History) (y : Yard) → Made lent h y → (c : Call) (place : ℕ) → step c y .answer ≡ refused 20 place
     ↔ (((i : ℕ) × (s : List ℕ) × (c ≡ feed i s) × Sits (length (lent .seats)) h i × TooLong s) × (place ≡ 0))
-yard-20 lent h y m c place = Iff·trans (reasons.made-fair lent h y m c 20 place) (reasons.cause-20 (length (lent .seats)) h c place)
+yard-20 lent h y m c place = runs.given lent h y m c 20 place
 
 -- ---- 21: "payload length wrong for its id"
 
@@ -287,7 +287,7 @@ write-21 rest o p = framing.write-21 rest o p
 -- given by yard, after an accepted start and any calls
 pub yard-21 : (lent : Yard) (h : History) (y : Yard) → Made lent h y → (c : Call) (place : ℕ) → step c y .answer ≡ refused 21 place
     ↔ (((i : ℕ) × (s : List ℕ) × (c ≡ feed i s) × Sits (length (lent .seats)) h i × All s × (Right s → ⊥)) × (place ≡ 0))
-yard-21 lent h y m c place = Iff·trans (reasons.made-fair lent h y m c 21 place) (reasons.cause-21 (length (lent .seats)) h c place)
+yard-21 lent h y m c place = runs.given lent h y m c 21 place
 
 -- ---- 22: "handshake's first 20 bytes wrong"
 
@@ -306,7 +306,7 @@ handshake-23 info s p h = framing.handshake-23 info s p h
 -- given by yard, after an accepted start and any calls
 pub yard-30 : (lent : Yard) (h : History) (y : Yard) → Made lent h y → (c : Call) (place : ℕ) → step c y .answer ≡ refused 30 place
     ↔ (((i : ℕ) × (s : List ℕ) × (b : List ℕ) × (bytes : ℕ) × (c ≡ feed i s) × Sits (length (lent .seats)) h i × Says s (bits b) bytes × (fresh h i ≡ false)) × (place ≡ 0))
-yard-30 lent h y m c place = Iff·trans (reasons.made-fair lent h y m c 30 place) (reasons.cause-30 (length (lent .seats)) h c place)
+yard-30 lent h y m c place = runs.given lent h y m c 30 place
 
 -- ---- 31: "piece, file or entry number too large"
 
@@ -316,7 +316,7 @@ pub yard-31 : (lent : Yard) (h : History) (y : Yard) → Made lent h y → (c : 
     ⊎ (((i : ℕ) × (s : List ℕ) × (m : Message (List ℕ)) × (q : ℕ) × (b : ℕ) × (k : ℕ) × (bytes : ℕ) × (c ≡ feed i s) × Sits (length (lent .seats)) h i × Says s m bytes × SpeaksOf q b k m × (pieces h ≤ q))
     ⊎ (((i : ℕ) × (q : ℕ) × (c ≡ has i q) × (i < (length (lent .seats))) × (pieces h ≤ q))
     ⊎ ((q : ℕ) × (c ≡ count q) × (pieces h ≤ q))))) × (place ≡ 0))
-yard-31 lent h y m c place = Iff·trans (reasons.made-fair lent h y m c 31 place) (reasons.cause-31 (length (lent .seats)) h c place)
+yard-31 lent h y m c place = runs.given lent h y m c 31 place
 
 -- given by torrent_blocks::block
 pub block-31 : (files : List Span) (pl p o n : ℕ) (out : List ℕ) (q : ℕ) → partsWritten (blockOf files pl p o n) out .answer ≡ refused 31 q ↔ (BlockCause files pl p o n (length out) 31 × (q ≡ 0))
@@ -351,21 +351,21 @@ piece-check-31 s n m p = contents.check-own s n m 31 p (omega arith)
 -- given by yard, after an accepted start and any calls
 pub yard-32 : (lent : Yard) (h : History) (y : Yard) → Made lent h y → (c : Call) (place : ℕ) → step c y .answer ≡ refused 32 place
     ↔ (((i : ℕ) × (s : List ℕ) × (b : List ℕ) × (bytes : ℕ) × (c ≡ feed i s) × Sits (length (lent .seats)) h i × Says s (bits b) bytes × (fresh h i ≡ true) × (length b ≡ width (pieces h) → ⊥)) × (place ≡ 0))
-yard-32 lent h y m c place = Iff·trans (reasons.made-fair lent h y m c 32 place) (reasons.cause-32 (length (lent .seats)) h c place)
+yard-32 lent h y m c place = runs.given lent h y m c 32 place
 
 -- ---- 33: "spare bit set"
 
 -- given by yard, after an accepted start and any calls
 pub yard-33 : (lent : Yard) (h : History) (y : Yard) → Made lent h y → (c : Call) (place : ℕ) → step c y .answer ≡ refused 33 place
     ↔ (((i : ℕ) × (s : List ℕ) × (b : List ℕ) × (bytes : ℕ) × (q : ℕ) × (c ≡ feed i s) × Sits (length (lent .seats)) h i × Says s (bits b) bytes × (fresh h i ≡ true) × (length b ≡ width (pieces h)) × (pieces h ≤ q) × (q < 8 * length b) × (bitAt b q ≡ true)) × (place ≡ 0))
-yard-33 lent h y m c place = Iff·trans (reasons.made-fair lent h y m c 33 place) (reasons.cause-33 (length (lent .seats)) h c place)
+yard-33 lent h y m c place = runs.given lent h y m c 33 place
 
 -- ---- 34: "block or file offset outside its bounds, or a piece to check of the wrong length"
 
 -- given by yard, after an accepted start and any calls
 pub yard-34 : (lent : Yard) (h : History) (y : Yard) → Made lent h y → (c : Call) (place : ℕ) → step c y .answer ≡ refused 34 place
     ↔ (((i : ℕ) × (s : List ℕ) × (m : Message (List ℕ)) × (q : ℕ) × (b : ℕ) × (k : ℕ) × (bytes : ℕ) × (c ≡ feed i s) × Sits (length (lent .seats)) h i × Says s m bytes × SpeaksOf q b k m × (q < pieces h) × (Fits h q b k → ⊥)) × (place ≡ 0))
-yard-34 lent h y m c place = Iff·trans (reasons.made-fair lent h y m c 34 place) (reasons.cause-34 (length (lent .seats)) h c place)
+yard-34 lent h y m c place = runs.given lent h y m c 34 place
 
 -- given by torrent_blocks::block
 pub block-34 : (files : List Span) (pl p o n : ℕ) (out : List ℕ) (q : ℕ) → partsWritten (blockOf files pl p o n) out .answer ≡ refused 34 q ↔ (BlockCause files pl p o n (length out) 34 × (q ≡ 0))
@@ -384,7 +384,7 @@ piece-check-34 s n m p = contents.check-own s n m 34 p (omega arith)
 -- given by yard, after an accepted start and any calls
 pub yard-35 : (lent : Yard) (h : History) (y : Yard) → Made lent h y → (c : Call) (place : ℕ) → step c y .answer ≡ refused 35 place
     ↔ (((c ≡ sit) × ((i : ℕ) → i < (length (lent .seats)) → seated h i ≡ true)) × (place ≡ 0))
-yard-35 lent h y m c place = Iff·trans (reasons.made-fair lent h y m c 35 place) (reasons.cause-35 (length (lent .seats)) h c place)
+yard-35 lent h y m c place = runs.given lent h y m c 35 place
 
 -- ---- 36: "seat number too large, or seat free"
 
@@ -394,14 +394,14 @@ pub yard-36 : (lent : Yard) (h : History) (y : Yard) → Made lent h y → (c : 
     ⊎ (((first : ℕ) × (space : ℕ) × (c ≡ missing first space) × ((length (lent .seats)) < first))
     ⊎ (((i : ℕ) × (c ≡ look i) × ((length (lent .seats)) ≤ i))
     ⊎ ((i : ℕ) × (q : ℕ) × (c ≡ has i q) × ((length (lent .seats)) ≤ i))))) × (place ≡ 0))
-yard-36 lent h y m c place = Iff·trans (reasons.made-fair lent h y m c 36 place) (reasons.cause-36 (length (lent .seats)) h c place)
+yard-36 lent h y m c place = runs.given lent h y m c 36 place
 
 -- ---- 37: "lent output too short"
 
 -- given by yard, after an accepted start and any calls
 pub yard-37 : (lent : Yard) (h : History) (y : Yard) → Made lent h y → (c : Call) (place : ℕ) → step c y .answer ≡ refused 37 place
     ↔ (((i : ℕ) × (space : ℕ) × Marks i space c × Sits (length (lent .seats)) h i × (space < 5)) × (place ≡ 0))
-yard-37 lent h y m c place = Iff·trans (reasons.made-fair lent h y m c 37 place) (reasons.cause-37 (length (lent .seats)) h c place)
+yard-37 lent h y m c place = runs.given lent h y m c 37 place
 
 -- given by torrent_blocks::block
 pub block-37 : (files : List Span) (pl p o n : ℕ) (out : List ℕ) (q : ℕ) → partsWritten (blockOf files pl p o n) out .answer ≡ refused 37 q ↔ (BlockCause files pl p o n (length out) 37 × (q ≡ 0))
@@ -428,7 +428,7 @@ torrent-writer-37 f o p = writers.torrent-written f o 37 p
 -- given by yard, after an accepted start and any calls
 pub start-38 : (lent : Yard) (h : History) (y : Yard) → Made lent h y → (c : Call) (place : ℕ) → step c y .answer ≡ refused 38 place
     ↔ (((q : ℕ) × (l : ℕ) × (k : ℕ) × (c ≡ start q l k) × (StartFits h q l k → ⊥)) × (place ≡ 0))
-start-38 lent h y m c place = Iff·trans (reasons.made-fair lent h y m c 38 place) (reasons.cause-38 (length (lent .seats)) h c place)
+start-38 lent h y m c place = runs.given lent h y m c 38 place
 
 -- given by yard, on any tables
 pub yard-38 : (y : Yard) (c : Call) (place : ℕ) → step c y .answer ≡ refused 38 place ↔ (Unfit y c × (place ≡ 0))
@@ -442,7 +442,7 @@ yard-39 y c place = damage.damaged-exactly y c place
 
 -- never given by yard after an accepted start and any calls
 pub never-39 : (lent : Yard) (h : History) (y : Yard) → Made lent h y → (c : Call) (place : ℕ) → step c y .answer ≡ refused 39 place → ⊥
-never-39 lent h y m c place = reasons.made-undamaged lent h y m c place
+never-39 lent h y m c place = runs.undamaged lent h y m c place
 
 -- ---- wait: "more bytes are needed, nothing is used"
 
@@ -456,4 +456,4 @@ handshake-wait info s h = shake-wait-exactly info s h
 
 -- given by yard, after an accepted start and any calls
 pub yard-wait : (lent : Yard) (h : History) (y : Yard) → Made lent h y → (c : Call) → step c y .answer ≡ taken wait ↔ ((i : ℕ) × (s : List ℕ) × (c ≡ feed i s) × Sits (length (lent .seats)) h i × (Few s ⊎ causes.Cut s))
-yard-wait lent h y m c = reasons.made-wait lent h y m c
+yard-wait lent h y m c = runs.waits lent h y m c

@@ -30,12 +30,12 @@ use Rattle.torrent_contents.specs.Pieces as piece
 use Rattle.yard_tables.specs.Tables.{Yard}
 use Rattle.yard_tables.specs.Step.{Call, step}
 use Rattle.yard_laws.specs.History.{History}
-use Rattle.demands.specs.Three.Program.{Made}
+use Rattle.demands_laws.specs.Program.{Made}
 use Rattle.demands_laws.proofs.Contents as contents
 use Rattle.demands_laws.proofs.Writers as writers
 use Rattle.demands_laws.proofs.Digests as digests
 use Rattle.demands_laws.proofs.Only as only
-use Rattle.demands.specs.Cited.Reasons as reasons
+use Rattle.demands_laws.proofs.Runs as runs
 
 -- ---- texts: "1" to "8" of the table
 
@@ -139,4 +139,4 @@ put-no-other w at o k p e = writers.put-exactly w at o k p .0 e .0
 
 pub yard-no-other : (lent : Yard) (h : History) (y : Yard) → Made lent h y → (c : Call) (k p : ℕ) → step c y .answer ≡ refused k p
     → In k (20 ∷ 21 ∷ 30 ∷ 31 ∷ 32 ∷ 33 ∷ 34 ∷ 35 ∷ 36 ∷ 37 ∷ 38 ∷ [])
-yard-no-other lent h y m c k p e = reasons.cause-one-of (length (lent .seats)) h c k (reasons.made-fair lent h y m c k p .0 e .0)
+yard-no-other lent h y m c k p e = runs.given-one-of lent h y m c k p e

@@ -29,7 +29,7 @@ pub check-determined : (text : Lent (List ℕ)) → Determined1 (check-ensures t
 check-determined text detail r r′ detail₁ detail₂ e f = (e .0 ∙ sym (f .0), e .1 ∙ sym (f .1))
 
 -- wardrail::wardrail_look
-abbrev look-ensures : (text : Lent (List ℕ)) (at : ℕ) → ℕ → Lent (List ℕ) → Type 0
+abbrev pub look-ensures : (text : Lent (List ℕ)) (at : ℕ) → ℕ → Lent (List ℕ) → Type 0
 look-ensures text at r detail =
     Tells lookDetail (lookOf (now (text .entry)) at) r (now (detail .exit))
 

@@ -9,7 +9,7 @@ use Rattle.yard_tables.specs.declared.Head.{Head}
 use Rattle.yard_tables.specs.declared.Seat.{Seat}
 use Rattle.yard_tables.specs.declared.Stepped.{Stepped}
 use Rattle.yard_hearing.proofs.Determined as laws
-use Rattle.demands.specs.Cited.{unspoken}
+use Rattle.demands_laws.proofs.Keeping.{unspoken}
 use Rattle.demands.specs.One.{Lent, now, Determined, Determined2, Unused, Keeps2}
 
 -- yard_hearing::feed_step

@@ -184,14 +184,14 @@ pub state-determined : (w : List ℕ) (tail : List ℕ) → Determined (state-en
 state-determined w tail r r′ x y = x ∙ sym y
 
 -- wardrail_rows::looks::look_number
-abbrev look-number-ensures : (s : Seen) → ℕ → Type 0
+abbrev pub look-number-ensures : (s : Seen) → ℕ → Type 0
 look-number-ensures s r = r ≡ numberOf (seenPaper s)
 
 pub look-number-determined : (s : Seen) → Determined (look-number-ensures s)
 look-number-determined s r r′ x y = x ∙ sym y
 
 -- wardrail_rows::looks::look_detail
-abbrev look-detail-ensures : (s : Seen) → List ℕ → Type 0
+abbrev pub look-detail-ensures : (s : Seen) → List ℕ → Type 0
 look-detail-ensures s r = r ≡ lookDetail (seenPaper s)
 
 pub look-detail-determined : (s : Seen) → Determined (look-detail-ensures s)

@@ -18,7 +18,7 @@ use Rattle.yard_tables.proofs.Keeping.{sit-keeps, leave-keeps}
 use Rattle.yard_seating.specs.Steps.{begun, emptyHead}
 use Rattle.yard_seating.specs.declared.Begun.{Begun}
 use Rattle.yard_seating.proofs.Determined as laws
-use Rattle.demands.specs.Cited.{turn-kept, start-kept}
+use Rattle.demands_laws.proofs.Keeping.{turn-kept, start-kept}
 use Rattle.demands.specs.One.{Lent, now, Determined2, Keeps2, Refused, Determined1, Keeps1, Determined}
 
 -- yard_seating::start_step
@@ -43,8 +43,7 @@ pub sit-step-determined : (h : Head) (s : Seat) (holders : Lent (List ℕ)) (i n
 sit-step-determined h s holders i n rows r r′ rows₁ rows₂ e f = laws.sit-determined _ _ _ _ _ _ r r′ _ _ e f
 
 pub sit-step-keeps : (h : Head) (s : Seat) (holders : Lent (List ℕ)) (i n : ℕ) → Keeps1 (sit-step-ensures h s holders i n) (λ r. Refused (paper (r .answer)))
-sit-step-keeps h s holders i n r rows e k =
-    turn-kept (around h s (now (rows .entry)) (now (holders .entry))) (sitOf i n (around h s (now (rows .entry)) (now (holders .entry)))) (sit-keeps (around h s (now (rows .entry)) (now (holders .entry))) i n) r (now (rows .exit)) (now (holders .entry)) e k .0
+sit-step-keeps h s holders i n r rows e k = turn-kept (sit-keeps _ i n) r e k .0
 
 -- yard_seating::leave_step
 abbrev pub leave-step-ensures : (h : Head) (s : Seat) (i n : ℕ) → Stepped → Lent (List ℕ) → Lent (List ℕ) → Type 0
@@ -54,8 +53,7 @@ pub leave-step-determined : (h : Head) (s : Seat) (i n : ℕ) → Determined2 (l
 leave-step-determined h s i n rows holders r r′ rows₁ rows₂ holders₁ holders₂ e f = laws.leave-determined _ _ _ _ _ _ r r′ _ _ _ _ e f
 
 pub leave-step-keeps : (h : Head) (s : Seat) (i n : ℕ) → Keeps2 (leave-step-ensures h s i n) (λ r. Refused (paper (r .answer)))
-leave-step-keeps h s i n r rows holders e k =
-    turn-kept (around h s (now (rows .entry)) (now (holders .entry))) (leaveOf i n (around h s (now (rows .entry)) (now (holders .entry)))) (leave-keeps (around h s (now (rows .entry)) (now (holders .entry))) i n) r (now (rows .exit)) (now (holders .exit)) e k
+leave-step-keeps h s i n r rows holders e k = turn-kept (leave-keeps _ i n) r e k
 
 -- yard_seating::choke_step
 abbrev pub choke-step-ensures : (h : Head) (s : Seat) (rows holders : Lent (List ℕ)) (i n : ℕ) (on : Bool) → Stepped → Lent (List ℕ) → Type 0

@@ -1,15 +1,12 @@
--- Laws that the statements cite and no crate below has: what a refusal leaves, where the crates state it of their definitions alone. Assumes nothing.
+-- What a refusal of the yard's steps and calls leaves, where the crates below state it of their definitions alone. Assumes nothing.
 use mathlib.Core.Path.{_≡_, refl, sym, ap, subst, _∙_}
-use mathlib.Core.Logic.{inl, inr}
 use mathlib.Core.Bool.{Bool, _&&_}
 use mathlib.Core.List.{List, []}
 use Prim.Native.Nat.{ℕ}
-use native.Mathlib.Omega.{arith}
 use lib.Dec.{ltb, leb}
 use lib.ListN.{length, getD, replicate}
 use lib.Seq.{sets}
 use Rattle.refusal.specs.Paper.{Outcome, taken, refused}
-use Rattle.refusal.proofs.Cases.{by-test}
 use Rattle.yard_tables.specs.Seats.{cleared, weChoke, weWant}
 use Rattle.yard_tables.specs.Tables.{Yard, Said, wait, done, used, serve, dropped, seated, wrote, listed, shows, holds, heldBy, scarce, paper, Around, Turn, turn, around, sizesFit, Out, yardOf}
 use Rattle.yard_tables.specs.Seating.{startOf, markOf}
@@ -24,25 +21,30 @@ use Rattle.yard_seating.specs.Steps.{begun}
 use Rattle.yard_seating.specs.declared.Begun.{Begun}
 use Rattle.yard_telling.specs.Telling.{codeOf, toldOf, shownOf}
 use Rattle.yard_telling.specs.declared.Told.{Told}
-use Rattle.yard_telling.proofs.Laws.{unused, told-kept as untold, shown-kept as unshown}
-use Rattle.demands.specs.One.{Refused, Unused}
-pub mod Reasons
+use Rattle.yard_telling.proofs.Laws.{unused}
+use Rattle.yard_telling.proofs.Laws.{told-kept as untold, shown-kept as unshown}
+use mathlib.Core.Logic.{_⊎_, inl, inr}
+use Rattle.refusal.proofs.Cases.{by-test, no-way}
+
+-- a refusal, whatever its number and place
+abbrev Refuses : {A : Type 0} → Outcome A → Type 0
+Refuses o = (n : ℕ) × (p : ℕ) × (o ≡ refused n p)
 
 -- ---- the yard's steps and calls
 
 -- the tables' own word for a refusal or a wait
-pub unspoken : (o : Outcome Said) → Unused o → Unspoken o
+pub unspoken : (o : Outcome Said) → Refuses o ⊎ (o ≡ taken wait) → Unspoken o
 unspoken o (inl (n, p, e)) = subst Unspoken (sym e) tt
 unspoken o (inr e) = subst Unspoken (sym e) tt
 
 -- a step that is refused leaves the rows and the holder counts that it was lent
-pub turn-kept : (x : Around) (t : Turn) → Keeps x t → (r : Stepped) (rows holders : List ℕ) → turn r rows holders ≡ t → Refused (paper (r .answer)) → (rows ≡ x .rows) × (holders ≡ x .holders)
-turn-kept x t k r rows holders e (n, p, h) =
+pub turn-kept : {x : Around} {t : Turn} → Keeps x t → (r : Stepped) {rows holders : List ℕ} → turn r rows holders ≡ t → Refuses (paper (r .answer)) → (rows ≡ x .rows) × (holders ≡ x .holders)
+turn-kept {x} {t} k r e (n, p, h) =
     let u : Unspoken (t .answer) = subst Unspoken (sym h ∙ ap (λ (z : Turn). z .answer) e) tt in
     (ap (λ (z : Turn). z .after .rows) e ∙ ap (λ (z : Around). z .rows) (k u), ap (λ (z : Turn). z .after .holders) e ∙ ap (λ (z : Around). z .holders) (k u))
 
 -- and so does a start, whatever the seats
-pub start-kept : (h : Head) (p l k n : ℕ) (rows holders rows₁ holders₁ : List ℕ) (r : Begun) → begun r (replicate n cleared) rows₁ holders₁ ≡ startOf p l k (yardOf h (replicate n cleared) rows holders) → Refused (paper (r .answer)) → (rows₁ ≡ rows) × (holders₁ ≡ holders)
+pub start-kept : (h : Head) (p l k n : ℕ) (rows holders rows₁ holders₁ : List ℕ) (r : Begun) → begun r (replicate n cleared) rows₁ holders₁ ≡ startOf p l k (yardOf h (replicate n cleared) rows holders) → Refuses (paper (r .answer)) → (rows₁ ≡ rows) × (holders₁ ≡ holders)
 unfolding step
 start-kept h p l k n rows holders rows₁ holders₁ r e (m, q, g) =
     let y : Yard = yardOf h (replicate n cleared) rows holders in
@@ -73,9 +75,6 @@ nothing-put (taken (shows s)) l w u = absurd u
 nothing-put (taken (holds b)) l w u = absurd u
 nothing-put (taken (heldBy n)) l w u = absurd u
 nothing-put (taken (scarce p)) l w u = absurd u
-
-no-way : {A : Type 0} → _≡_ {A = ℕ} 0 1 → A
-no-way e = absurd (omega arith)
 
 abbrev Speaks : Turn → Type 0
 Speaks t = t .answer ≡ taken wait → ⊥

@@ -11,11 +11,11 @@ use Rattle.yard_tables.specs.declared.Head.{Head}
 use Rattle.yard_tables.specs.declared.Seat.{Seat}
 use Rattle.yard_telling.specs.Telling.{Steps, Tells, Looks, Shows}
 use Rattle.yard_telling.specs.declared.Told.{Told}
-use Rattle.demands.specs.Cited.{same-tables, tables-kept, told-kept, shown-kept, put-kept, choke-speaks, interest-speaks, page-speaks}
+use Rattle.demands_laws.proofs.Keeping.{same-tables, tables-kept, told-kept, shown-kept, put-kept, choke-speaks, interest-speaks, page-speaks}
 use Rattle.demands.specs.One.{Lent, now, Determined4, Keeps4, Determined5, Keeps5, Determined3, Keeps3, Determined2, Keeps2}
 
 -- yard::wardrail_yard_start
-abbrev start-ensures : (pieces «piece_length» «last_length» : ℕ) → ℕ → Lent Head → Lent (List Seat) → Lent (List ℕ) → Lent (List ℕ) → Type 0
+abbrev pub start-ensures : (pieces «piece_length» «last_length» : ℕ) → ℕ → Lent Head → Lent (List Seat) → Lent (List ℕ) → Lent (List ℕ) → Type 0
 start-ensures pieces «piece_length» «last_length» r head seats rows holders =
     Steps (step (Call.start pieces «piece_length» «last_length») (yardOf (now (head .entry)) (now (seats .entry)) (now (rows .entry)) (now (holders .entry)))) r (yardOf (now (head .exit)) (now (seats .exit)) (now (rows .exit)) (now (holders .exit)))
 
@@ -27,7 +27,7 @@ pub start-keeps : (pieces «piece_length» «last_length» : ℕ) → Keeps4 (st
 start-keeps pieces «piece_length» «last_length» r head seats rows holders e k = tables-kept (Call.start pieces «piece_length» «last_length») _ _ _ _ (e .0) k (e .1)
 
 -- yard::wardrail_yard_sit
-abbrev sit-ensures : (holders : Lent (List ℕ)) → ℕ → Lent Head → Lent (List Seat) → Lent (List ℕ) → Lent Told → Type 0
+abbrev pub sit-ensures : (holders : Lent (List ℕ)) → ℕ → Lent Head → Lent (List Seat) → Lent (List ℕ) → Lent Told → Type 0
 sit-ensures holders r head seats rows told =
     Tells (step Call.sit (yardOf (now (head .entry)) (now (seats .entry)) (now (rows .entry)) (now (holders .entry)))) (now (told .entry)) r (now (told .exit)) (yardOf (now (head .exit)) (now (seats .exit)) (now (rows .exit)) (now (holders .entry)))
 
@@ -39,7 +39,7 @@ pub sit-keeps : (holders : Lent (List ℕ)) → Keeps4 (sit-ensures holders) (λ
 sit-keeps holders r head seats rows told e k = let t = tables-kept Call.sit _ _ _ _ (e .0) k (e .2) in (t .0, t .1, t .2, told-kept Call.sit _ _ _ _ (e .0) k (e .1))
 
 -- yard::wardrail_yard_leave
-abbrev leave-ensures : (seat : ℕ) → ℕ → Lent Head → Lent (List Seat) → Lent (List ℕ) → Lent (List ℕ) → Type 0
+abbrev pub leave-ensures : (seat : ℕ) → ℕ → Lent Head → Lent (List Seat) → Lent (List ℕ) → Lent (List ℕ) → Type 0
 leave-ensures seat r head seats rows holders =
     Steps (step (Call.leave seat) (yardOf (now (head .entry)) (now (seats .entry)) (now (rows .entry)) (now (holders .entry)))) r (yardOf (now (head .exit)) (now (seats .exit)) (now (rows .exit)) (now (holders .exit)))
 
@@ -51,7 +51,7 @@ pub leave-keeps : (seat : ℕ) → Keeps4 (leave-ensures seat) (λ (r : ℕ). r 
 leave-keeps seat r head seats rows holders e k = tables-kept (Call.leave seat) _ _ _ _ (e .0) k (e .1)
 
 -- yard::wardrail_yard_feed
-abbrev feed-ensures : (seat : ℕ) (bytes : Lent (List ℕ)) → ℕ → Lent Head → Lent (List Seat) → Lent (List ℕ) → Lent (List ℕ) → Lent Told → Type 0
+abbrev pub feed-ensures : (seat : ℕ) (bytes : Lent (List ℕ)) → ℕ → Lent Head → Lent (List Seat) → Lent (List ℕ) → Lent (List ℕ) → Lent Told → Type 0
 feed-ensures seat bytes r head seats rows holders told =
     Tells (step (Call.feed seat (now (bytes .entry))) (yardOf (now (head .entry)) (now (seats .entry)) (now (rows .entry)) (now (holders .entry)))) (now (told .entry)) r (now (told .exit)) (yardOf (now (head .exit)) (now (seats .exit)) (now (rows .exit)) (now (holders .exit)))
 
@@ -64,7 +64,7 @@ feed-keeps seat bytes r head seats rows holders told e k =
     let t = tables-kept (Call.feed seat (now (bytes .entry))) _ _ _ _ (e .0) k (e .2) in (t .0, t .1, t .2, t .3, told-kept (Call.feed seat (now (bytes .entry))) _ _ _ _ (e .0) k (e .1))
 
 -- yard::wardrail_yard_choke
-abbrev choke-ensures : (rows holders : Lent (List ℕ)) (seat : ℕ) (on : Bool) → ℕ → Lent Head → Lent (List Seat) → Lent (List ℕ) → Type 0
+abbrev pub choke-ensures : (rows holders : Lent (List ℕ)) (seat : ℕ) (on : Bool) → ℕ → Lent Head → Lent (List Seat) → Lent (List ℕ) → Type 0
 choke-ensures rows holders seat on r head seats frame =
     (Steps (step (Call.choke seat on (length (now (frame .entry)))) (yardOf (now (head .entry)) (now (seats .entry)) (now (rows .entry)) (now (holders .entry)))) r (yardOf (now (head .exit)) (now (seats .exit)) (now (rows .entry)) (now (holders .entry)))) × (now (frame .exit) ≡ sets (now (frame .entry)) 0 (written (Call.choke seat on (length (now (frame .entry)))) (yardOf (now (head .entry)) (now (seats .entry)) (now (rows .entry)) (now (holders .entry)))))
 
@@ -77,7 +77,7 @@ choke-keeps rows holders seat on r head seats frame e k =
     let t = tables-kept (Call.choke seat on (length (now (frame .entry)))) _ _ _ _ (e .0 .0) k (e .0 .1) in (t .0, t .1, put-kept (Call.choke seat on (length (now (frame .entry)))) _ _ _ _ (e .0 .0) k (choke-speaks _ seat _ on) (e .1))
 
 -- yard::wardrail_yard_interest
-abbrev interest-ensures : (rows holders : Lent (List ℕ)) (seat : ℕ) (on : Bool) → ℕ → Lent Head → Lent (List Seat) → Lent (List ℕ) → Type 0
+abbrev pub interest-ensures : (rows holders : Lent (List ℕ)) (seat : ℕ) (on : Bool) → ℕ → Lent Head → Lent (List Seat) → Lent (List ℕ) → Type 0
 interest-ensures rows holders seat on r head seats frame =
     (Steps (step (Call.interest seat on (length (now (frame .entry)))) (yardOf (now (head .entry)) (now (seats .entry)) (now (rows .entry)) (now (holders .entry)))) r (yardOf (now (head .exit)) (now (seats .exit)) (now (rows .entry)) (now (holders .entry)))) × (now (frame .exit) ≡ sets (now (frame .entry)) 0 (written (Call.interest seat on (length (now (frame .entry)))) (yardOf (now (head .entry)) (now (seats .entry)) (now (rows .entry)) (now (holders .entry)))))
 
@@ -90,7 +90,7 @@ interest-keeps rows holders seat on r head seats frame e k =
     let t = tables-kept (Call.interest seat on (length (now (frame .entry)))) _ _ _ _ (e .0 .0) k (e .0 .1) in (t .0, t .1, put-kept (Call.interest seat on (length (now (frame .entry)))) _ _ _ _ (e .0 .0) k (interest-speaks _ seat _ on) (e .1))
 
 -- yard::wardrail_yard_missing
-abbrev missing-ensures : (seats : Lent (List Seat)) (rows holders : Lent (List ℕ)) (first : ℕ) → ℕ → Lent Head → Lent (List ℕ) → Lent Told → Type 0
+abbrev pub missing-ensures : (seats : Lent (List Seat)) (rows holders : Lent (List ℕ)) (first : ℕ) → ℕ → Lent Head → Lent (List ℕ) → Lent Told → Type 0
 missing-ensures seats rows holders first r head page told =
     (Looks (step (Call.missing first (length (now (page .entry)))) (yardOf (now (head .entry)) (now (seats .entry)) (now (rows .entry)) (now (holders .entry))) .answer) (now (told .entry)) r (now (told .exit))) × (now (page .exit) ≡ sets (now (page .entry)) 0 (written (Call.missing first (length (now (page .entry)))) (yardOf (now (head .entry)) (now (seats .entry)) (now (rows .entry)) (now (holders .entry))))) × (now (head .exit) ≡ now (head .entry))
 
@@ -103,7 +103,7 @@ missing-keeps seats rows holders first r head page told e k =
     (e .2, put-kept (Call.missing first (length (now (page .entry)))) _ _ _ _ (e .0 .0) k (page-speaks _ first _) (e .1), told-kept (Call.missing first (length (now (page .entry)))) _ _ _ _ (e .0 .0) k (e .0 .1))
 
 -- yard::wardrail_yard_scarcest
-abbrev scarcest-ensures : (seats : Lent (List Seat)) (rows holders : Lent (List ℕ)) → ℕ → Lent Head → Lent Told → Type 0
+abbrev pub scarcest-ensures : (seats : Lent (List Seat)) (rows holders : Lent (List ℕ)) → ℕ → Lent Head → Lent Told → Type 0
 scarcest-ensures seats rows holders r head told =
     (Looks (step Call.scarcest (yardOf (now (head .entry)) (now (seats .entry)) (now (rows .entry)) (now (holders .entry))) .answer) (now (told .entry)) r (now (told .exit))) × (now (head .exit) ≡ now (head .entry))
 
@@ -114,7 +114,7 @@ pub scarcest-keeps : (seats : Lent (List Seat)) (rows holders : Lent (List ℕ))
 scarcest-keeps seats rows holders r head told e k = (e .1, told-kept Call.scarcest _ _ _ _ (e .0 .0) k (e .0 .1))
 
 -- yard::wardrail_yard_look
-abbrev look-ensures : (seats : Lent (List Seat)) (rows holders : Lent (List ℕ)) (seat : ℕ) → ℕ → Lent Head → Lent Seat → Type 0
+abbrev pub look-ensures : (seats : Lent (List Seat)) (rows holders : Lent (List ℕ)) (seat : ℕ) → ℕ → Lent Head → Lent Seat → Type 0
 look-ensures seats rows holders seat r head seen =
     (Shows (step (Call.look seat) (yardOf (now (head .entry)) (now (seats .entry)) (now (rows .entry)) (now (holders .entry))) .answer) (now (seen .entry)) r (now (seen .exit))) × (now (head .exit) ≡ now (head .entry))
 
@@ -125,7 +125,7 @@ pub look-keeps : (seats : Lent (List Seat)) (rows holders : Lent (List ℕ)) (se
 look-keeps seats rows holders seat r head seen e k = (e .1, shown-kept (Call.look seat) _ _ _ _ (e .0 .0) k (e .0 .1))
 
 -- yard::wardrail_yard_has
-abbrev has-ensures : (seats : Lent (List Seat)) (rows holders : Lent (List ℕ)) (seat piece : ℕ) → ℕ → Lent Head → Lent Told → Type 0
+abbrev pub has-ensures : (seats : Lent (List Seat)) (rows holders : Lent (List ℕ)) (seat piece : ℕ) → ℕ → Lent Head → Lent Told → Type 0
 has-ensures seats rows holders seat piece r head told =
     (Looks (step (Call.has seat piece) (yardOf (now (head .entry)) (now (seats .entry)) (now (rows .entry)) (now (holders .entry))) .answer) (now (told .entry)) r (now (told .exit))) × (now (head .exit) ≡ now (head .entry))
 
@@ -136,7 +136,7 @@ pub has-keeps : (seats : Lent (List Seat)) (rows holders : Lent (List ℕ)) (sea
 has-keeps seats rows holders seat piece r head told e k = (e .1, told-kept (Call.has seat piece) _ _ _ _ (e .0 .0) k (e .0 .1))
 
 -- yard::wardrail_yard_count
-abbrev count-ensures : (seats : Lent (List Seat)) (rows holders : Lent (List ℕ)) (piece : ℕ) → ℕ → Lent Head → Lent Told → Type 0
+abbrev pub count-ensures : (seats : Lent (List Seat)) (rows holders : Lent (List ℕ)) (piece : ℕ) → ℕ → Lent Head → Lent Told → Type 0
 count-ensures seats rows holders piece r head told =
     (Looks (step (Call.count piece) (yardOf (now (head .entry)) (now (seats .entry)) (now (rows .entry)) (now (holders .entry))) .answer) (now (told .entry)) r (now (told .exit))) × (now (head .exit) ≡ now (head .entry))
 
