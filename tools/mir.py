@@ -2,14 +2,16 @@
 import functools
 import re
 import subprocess
+import sys
 from sources import ROOT
 
 
 @functools.cache
 def load(crate):
-    printed = subprocess.run(['rt', 'mir', crate], capture_output=True, text=True, cwd=ROOT).stdout
+    ran = subprocess.run(['rt', 'mir', crate], capture_output=True, text=True, cwd=ROOT)
+    if ran.returncode: sys.exit(f'rt mir {crate}: {ran.stdout[-2000:]}{ran.stderr[-2000:]}')
     stack = [[]]
-    for word in re.findall(r'\(|\)|"[^"]*"|[^\s()]+', printed):
+    for word in re.findall(r'\(|\)|"[^"]*"|[^\s()]+', ran.stdout):
         if word == '(': stack.append([])
         elif word == ')': whole = stack.pop(); stack[-1].append(whole)
         else: stack[-1].append(word)

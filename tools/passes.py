@@ -259,7 +259,7 @@ unfolding code.routine tablesOf
     entered 𝓤 H (tripleOf 𝓤 H (𝓖 .A) f.signature (f.spec 𝓤 H (𝓖 .A) (𝓜 .mem) (𝓡 .run)))
     (tables 𝓤 H 𝓜 𝓡 code.env .C) (tables 𝓤 H 𝓜 𝓡 code.env .Λ) #{dash(CRATE)}·{dash(fn)} code.function (code.unfolded 𝓤 H 𝓜 𝓡)
     (f-meets 𝓤 H (𝓖 .A) (givenOf 𝓤 H 𝓜 𝓖) (𝓜 .mem) (𝓡 .run) (tablesOf 𝓤 H 𝓜 (tables 𝓤 H 𝓜 𝓡 code.env))''')
-        for k, c in enumerate(calls): g = 'gk'[k]; A(f"    (cited 𝓤 H ({'Stp' if k == 0 else 'Fst'} 𝓤 H (𝓖 .A) (𝓜 .mem) (𝓡 .run)) 𝓜 𝓡 code.env #{dash(CRATE)}·{dash(c)} {g}-def.routine code.calls-{CRATE}·{dash(c)} ({g}-thm.met 𝓤 H 𝓜 𝓖 𝓡))" + (')' if k == len(calls) - 1 else ''))
+        for k, c in enumerate(calls): g = 'gk'[k]; A(f"    (cited 𝓤 H ({'Stp' if k == 0 else 'Fst'} 𝓤 H (𝓖 .A) (𝓜 .mem) (𝓡 .run)) 𝓜 𝓡 code.env #{dash(CRATE)}·{dash(c)} {g}-def.routine code.calls-{dash(CRATE)}·{dash(c)} ({g}-thm.met 𝓤 H 𝓜 𝓖 𝓡))" + (')' if k == len(calls) - 1 else ''))
         uses = [s.header(), LOOP_USES, *dict.fromkeys(s.imports), P['laws'], *map(s.type_uses, used)]
         for k, c in enumerate(calls): g = 'gk'[k]; uses.append(f"use {s.P(CRATE, c)} as {g}\nuse {s.P(CRATE, c)}.Symbol as {g}-def\nuse {s.P(CRATE, c)}.Symbol.{{name as #{dash(CRATE)}·{dash(c)}}}\nuse {s.P(CRATE, c)}.Met as {g}-thm")
         uses.append(f'use {s.P(CRATE, fn)}.Key.{{name as #{dash(CRATE)}·{dash(fn)}}}\nuse {s.P(CRATE, fn)} as f\nuse {s.P(CRATE, fn)}.Statement as stated\nuse {s.P(CRATE, fn)}.Code as code\nuse {s.P(CRATE, fn)}.Code.Mir as Mir\n')

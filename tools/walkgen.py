@@ -79,15 +79,12 @@ class Walk:
     def inline(self, last): return " ".join(self.out + [last]) + ")" * self.open
     def text(self, last, indent="        "):
         # comments stand on their own lines, the rest is run together
-        lines, cur = [], ""
+        lines = []
         for s in self.out + [last + ")" * self.open]:
-            if s.startswith("--"):
-                if cur: lines.append(cur)
-                cur = ""; lines.append(s)
-            elif cur and len(cur) + len(s) > 140: lines.append(cur); cur = s
-            else: cur = (cur + " " + s).strip()
-        if cur: lines.append(cur)
+            if s.startswith("--") or not lines or lines[-1].startswith("--"): lines.append(s)
+            else: lines[-1] += " " + s
         return "\n".join(indent + l for l in lines)
+
 
 class Framed(Walk):
     """A walk in which the locals are one entry, `locals`, by the laws of scans' `Locals`: the context stays short."""
@@ -108,7 +105,7 @@ class Framed(Walk):
 
 USE = re.compile(r'^use ([^\s{]+)\.\{([^}]*)\}\n', re.M)
 AS = re.compile(r'^use (\S+) as (\S+)\n', re.M)
-WIDTH = 150
+WIDTH = 160
 
 
 def module_text(head, imports, body):
@@ -143,31 +140,22 @@ def pieces(line):
     indent = ' ' * (len(line) - len(line.lstrip()) + 4)
     while len(line) > WIDTH and not line.lstrip().startswith('--'):
         places = breaks(line)
-        # the outermost place in the second half of the width, or else the last one before it, or the first one past it
-        near = [p for p in places if WIDTH // 2 < p[0] <= WIDTH] or [p for p in places if len(indent) + 8 < p[0] <= WIDTH][-1:] or [p for p in places if p[0] > WIDTH][:1]
+        # after a step of the walk if one ends near, or else at the last place within the width, or the first past it
+        near = [at for at in places if WIDTH - 50 < at <= WIDTH and line[at - 1] == '$'][-1:] or [at for at in places if len(indent) < at <= WIDTH][-1:] or [at for at in places if at > WIDTH][:1]
         if not near: break
-        at = min(near, key=lambda p: (p[1], -p[0]))[0]
-        yield line[:at]
-        line = indent + line[at + 1:]
+        yield line[:near[0]]
+        line = indent + line[near[0] + 1:]
     yield line
 
 
 def breaks(line):
-    """The spaces at which the line may be broken, each with how deep it stands."""
-    stack, found, closed = [], [], {}
-    for at, letter in enumerate(line):
-        if letter in '([{': stack.append(at)
-        elif letter in ')]}': closed[stack.pop() if stack else -1] = at
-    commas, stack = set(), []
+    """The spaces at which the line may be broken."""
+    stack, listed, inside = [], set(), []
     for at, letter in enumerate(line):
         if letter in '([{':
             stack.append(at)
-            if letter == '{': commas.add(at)
+            if letter == '{': listed.add(at)
         elif letter in ')]}' and stack: stack.pop()
-        elif letter == ',' and stack: commas.add(stack[-1])
-    stack = []
-    for at, letter in enumerate(line):
-        if letter in '([{': stack.append(at)
-        elif letter in ')]}' and stack: stack.pop()
-        elif letter == ' ' and line[:at].strip() and not any(b in commas for b in stack): found.append((at, len(stack)))
-    return found
+        elif letter == ',' and stack: listed.add(stack[-1])
+        elif letter == ' ' and line[:at].strip(): inside.append((at, list(stack)))
+    return [at for at, around in inside if not listed & set(around)]

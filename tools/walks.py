@@ -12,9 +12,10 @@ from walker import Thin
 
 def walks():
     """Each walk's place below crates/, and its text."""
+    # the passes first: `rt mir yard` wants them proved
+    for path, text in passes.walks(): yield place(path), text
     for f in sources.public_functions():
         if f.crate == 'yard': yield place(f.path), Thin(f.path, kit='yard_scans').gen()
-    for fn, text in passes.walks(): yield place(fn), text
 
 
 def place(path):
