@@ -2,19 +2,20 @@
 use mathlib.Core.Path.{_≡_, refl, sym, ap, _∙_, subst}
 use mathlib.Core.Bool.{Bool, true, false, cond}
 use mathlib.Core.List.{List, [], _∷_}
-use Prim.Native.Nat.{ℕ, _+_, _-_, _^_, _<_, _≤_}
+use Prim.Native.Nat.{ℕ, _+_, _-_, _<_, _≤_}
 use native.Mathlib.Omega.{arith}
-use lib.Dec.{ltb, eqb, leb}
+use lib.Dec.{eqb}
 use lib.IntN.{ℤ, pos, negsuc, natAbs}
 use lib.Signed.{ltZ}
 use lib.ListN.{length, drop}
 use mir.Syntax.{w64}
-use mir.Val.{SFits, toZ, ofZ}
+use mir.Val.{toZ, ofZ}
 use mir.ValLaws.{toZ-ofZ}
 use borrow.Author.Tests.{ltb-true, le-leb, lt-leb}
 use Rattle.refusal.specs.Paper.{Outcome, taken, refused, map, then}
 use Rattle.bencode_scalar.specs.Written.{inRange}
 use Rattle.bencode_scalar.specs.Reading.{Got, got, bad, onHead, stringAt, integerAt}
+use Rattle.bencode_walk.proofs.Seeing.{range-fits}
 use Rattle.bencode_walk.specs.Walk.{Head, string, integer, long, list, dictionary, end, paper, stringHead, integerHead, stringSeen, integerSeen, lookAt, lookOf}
 use Rattle.bencode_walk.specs.declared.Seen.{Seen}
 use Rattle.bencode_walk.specs.declared.Seen.the-variants.{Integer}
@@ -59,10 +60,6 @@ sure s p = go (drop p s)
 
 pub string-from : (s : List ℕ) (p a m q : ℕ) → lookOf s p ≡ taken (string a m q) → a ≡ q - m
 string-from s p a m q e = subst Sure e (sure s p)
-
-range-fits : (z : ℤ) → inRange z ≡ true → SFits w64 z
-range-fits (pos n) e = record { sfits = ltb-true n (2 ^ 63) e }
-range-fits (negsuc n) e = record { sfits = ltb-true n (2 ^ 63) e }
 
 -- the machine's word for an integer that was seen is that integer
 pub number-seen : (most : ℕ) (s : List ℕ) (p : ℕ) (r : Seen) (z : ℤ) (q : ℕ) → paper r ≡ lookOf s p → r ≡ Integer z q → map (endingAt q) (ranged most p (toZ w64 (ofZ w64 z))) ≡ then (lookOf s p) (numberIn most p)

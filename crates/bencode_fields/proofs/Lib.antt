@@ -5,3 +5,5 @@ pub mod Standing
 pub mod Seeking
 pub mod Determined
 pub mod Nth
+pub mod Checks
+pub mod Typed

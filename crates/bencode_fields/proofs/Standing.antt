@@ -1,13 +1,14 @@
 -- Where a value stands, a typed look tells what is asked of that value. Assumes nothing.
-use mathlib.Core.Path.{_≡_, sym, ap, _∙_}
+use mathlib.Core.Path.{_≡_, refl, sym, ap, _∙_}
 use mathlib.Core.List.{List, _∷_}
-use Prim.Native.Nat.{ℕ, suc, _+_, _-_}
+use Prim.Native.Nat.{ℕ, suc, _+_}
 use native.Mathlib.Omega.{arith}
+use lib.IntN.{ℤ}
 use lib.ListN.{length, take, drop, length-append}
 use Rattle.refusal.specs.Paper.{Outcome, taken, then, map}
 use Rattle.bencode_scalar.specs.Written.{decimal, writtenString}
-use Rattle.bencode.specs.Value.{Value, str, int, list, dict, encode}
-use Rattle.bencode_walk.specs.Walk.{Head, lookOf}
+use Rattle.bencode.specs.Value.{Value, Items, Entries, str, int, list as list′, dict, encode}
+use Rattle.bencode_walk.specs.Walk.{Head, string, integer, list, dictionary, lookOf}
 use Rattle.bencode_walk.specs.Stands.{Stands}
 use Rattle.bencode_walk.proofs.Standing.{Bytes, string-stands, integer-stands, list-stands, dictionary-stands}
 use Rattle.bencode_fields.specs.Looks.{endingAt, stringIn, naturalIn, numberIn, listIn, dictionaryIn, stringOf, naturalOf, numberOf, listOf, dictionaryOf}
@@ -15,9 +16,6 @@ use Rattle.bencode_fields.specs.Values.{partOf, stringAt, naturalAt, lis
 use Rattle.bencode_fields.proofs.Fitting.{string-from}
 
 module _ (s : List ℕ) (d p : ℕ) where
-  seen : {A : Type 0} (f : Head → Outcome A) {h : Head} → lookOf s p ≡ taken h → then (lookOf s p) f ≡ f h
-  seen f e = ap (λ (o : Outcome Head). then o f) e
-
   -- where a string stands, its bytes begin past its length and colon
   pub begins : (bs : List ℕ) (b : Bytes s p bs) → b .from ≡ p + suc (length (decimal (length bs)))
   begins bs b =
@@ -28,36 +26,32 @@ module _ (s : List ℕ) (d p : ℕ) where
   pub part-bytes : (bs : List ℕ) → Stands s d p (str bs) → take (partOf p bs .len) (drop (partOf p bs .from) s) ≡ bs
   part-bytes bs t = let b = string-stands s d p bs t in ap (λ (a : ℕ). take (length bs) (drop a s)) (sym (begins bs b)) ∙ b .bytes
 
+  -- by the kind of the value: what f says of a string, an integer, a list, a dictionary at p is what g says of the value
+  module _ {A : Type 0} (f : Head → Outcome A) (g : Value → Outcome A) where
+    seen : {h : Head} {y : Outcome A} → lookOf s p ≡ taken h → f h ≡ y → then (lookOf s p) f ≡ y
+    seen e k = ap (λ (o : Outcome Head). then o f) e ∙ k
+
+    pub look-is : ((bs : List ℕ) → f (string (partOf p bs .from) (length bs) (p + length (encode (str bs)))) ≡ g (str bs))
+        → ((z : ℤ) → f (integer z (p + length (encode (int z)))) ≡ g (int z)) → ((vs : Items) → f (list (p + 1)) ≡ g (list′ vs)) → ((es : Entries) → f (dictionary (p + 1)) ≡ g (dict es))
+        → (v : Value) → Stands s d p v → then (lookOf s p) f ≡ g v
+    unfolding encode
+    look-is a b c e (str bs) t = let h = string-stands s d p bs t in seen (h .seen) (ap (λ (i : ℕ). f (string i (length bs) (p + length (writtenString bs)))) (begins bs h) ∙ a bs)
+    look-is a b c e (int z) t = seen (integer-stands s d p z t) (b z)
+    look-is a b c e (list′ vs) t = seen (list-stands s d p vs t .0) (c vs)
+    look-is a b c e (dict es) t = seen (dictionary-stands s d p es t .0) (e es)
+
   pub string-is : (v : Value) → Stands s d p v → stringOf s p ≡ stringAt p v
-  string-is (str bs) t =
-      let b = string-stands s d p bs t in
-      seen (stringIn p) (b .seen) ∙ ap (λ (a : ℕ). taken (record { from = a; len = length bs })) (begins bs b)
-  string-is (int z) t = seen (stringIn p) (integer-stands s d p z t)
-  string-is (list vs) t = seen (stringIn p) (list-stands s d p vs t .0)
-  string-is (dict es) t = seen (stringIn p) (dictionary-stands s d p es t .0)
+  string-is = look-is (stringIn p) (stringAt p) (λ bs. refl) (λ z. refl) (λ vs. refl) (λ es. refl)
 
   pub natural-is : (most : ℕ) (v : Value) → Stands s d p v → naturalOf most s p ≡ naturalAt most p v
-  natural-is most (str bs) t = seen (naturalIn most p) (string-stands s d p bs t .seen)
-  natural-is most (int z) t = seen (naturalIn most p) (integer-stands s d p z t)
-  natural-is most (list vs) t = seen (naturalIn most p) (list-stands s d p vs t .0)
-  natural-is most (dict es) t = seen (naturalIn most p) (dictionary-stands s d p es t .0)
+  natural-is most = look-is (naturalIn most p) (naturalAt most p) (λ bs. refl) (λ z. refl) (λ vs. refl) (λ es. refl)
 
   pub number-is : (most : ℕ) (v : Value) → Stands s d p v → numberOf most s p ≡ map (endingAt (p + length (encode v))) (naturalAt most p v)
-  unfolding encode
-  number-is most (str bs) t = seen (numberIn most p) (string-stands s d p bs t .seen)
-  number-is most (int z) t = seen (numberIn most p) (integer-stands s d p z t)
-  number-is most (list vs) t = seen (numberIn most p) (list-stands s d p vs t .0)
-  number-is most (dict es) t = seen (numberIn most p) (dictionary-stands s d p es t .0)
+  number-is most = look-is (numberIn most p) (λ v. map (endingAt (p + length (encode v))) (naturalAt most p v)) (λ bs. refl) (λ z. refl) (λ vs. refl) (λ es. refl)
 
   -- the first thing in a list or dictionary stands one past its place
   pub list-is : (v : Value) → Stands s d p v → listOf s p ≡ map (λ vs. p + 1) (listAt p v)
-  list-is (str bs) t = seen (listIn p) (string-stands s d p bs t .seen)
-  list-is (int z) t = seen (listIn p) (integer-stands s d p z t)
-  list-is (list vs) t = seen (listIn p) (list-stands s d p vs t .0)
-  list-is (dict es) t = seen (listIn p) (dictionary-stands s d p es t .0)
+  list-is = look-is (listIn p) (λ v. map (λ vs. p + 1) (listAt p v)) (λ bs. refl) (λ z. refl) (λ vs. refl) (λ es. refl)
 
   pub dictionary-is : (v : Value) → Stands s d p v → dictionaryOf s p ≡ map (λ es. p + 1) (dictionaryAt p v)
-  dictionary-is (str bs) t = seen (dictionaryIn p) (string-stands s d p bs t .seen)
-  dictionary-is (int z) t = seen (dictionaryIn p) (integer-stands s d p z t)
-  dictionary-is (list vs) t = seen (dictionaryIn p) (list-stands s d p vs t .0)
-  dictionary-is (dict es) t = seen (dictionaryIn p) (dictionary-stands s d p es t .0)
+  dictionary-is = look-is (dictionaryIn p) (λ v. map (λ es. p + 1) (dictionaryAt p v)) (λ bs. refl) (λ z. refl) (λ vs. refl) (λ es. refl)

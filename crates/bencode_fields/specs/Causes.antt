@@ -1,4 +1,4 @@
--- What is wrong with a value that must be there: it is missing, no string, no number in its range. Assumes nothing: these are definitions.
+-- What is wrong with a value that must be there: it is missing, of another kind, no number in its range. Assumes nothing: these are definitions.
 -- Throughout, d is the place of a dictionary, p that of a value, and the last two arguments are the refusal's number and place.
 use mathlib.Core.Path.{_≡_}
 use mathlib.Core.List.{List}
@@ -12,6 +12,10 @@ use Rattle.bencode_walk.specs.Lookup.{Under, nothing, under}
 pub data Lacks (d : ℕ) (u : Under) (Wrong : ℕ → Value → ℕ → ℕ → Type 0) : ℕ → ℕ → Type 0 where
   missing : u ≡ nothing → Lacks d u Wrong kind d
   wrong : (p : ℕ) (v : Value) (n q : ℕ) → u ≡ under p v → Wrong p v n q → Lacks d u Wrong n q
+
+-- another kind than that which `of` makes
+pub data Other {B : Type 0} (of : B → Value) (p : ℕ) : Value → ℕ → ℕ → Type 0 where
+  other : (v : Value) → ((b : B) → v ≡ of b → ⊥) → Other of p v kind p
 
 -- no string
 pub data NoString (p : ℕ) : Value → ℕ → ℕ → Type 0 where

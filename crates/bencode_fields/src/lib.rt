@@ -42,11 +42,7 @@ pub fn string_at(text: &[u8], at: usize) -> Bytes
     match bencode_walk::look(text, at) {
         Seen::String(bytes, _) => Bytes::Are(bytes),
         Seen::Refused(r) => Bytes::Refused(r),
-        Seen::Integer(_, _) => no_string(at),
-        Seen::Long(_, _) => no_string(at),
-        Seen::List(_) => no_string(at),
-        Seen::Dictionary(_) => no_string(at),
-        Seen::End(_) => no_string(at),
+        _ => no_string(at),
     }
 }
 
@@ -68,10 +64,7 @@ pub fn number_at(text: &[u8], at: usize, most: u64) -> Number
         Seen::Integer(z, past) => within(z, most, at, past),
         Seen::Long(_, _) => no_number(number::RANGE, at),
         Seen::Refused(r) => Number::Refused(r),
-        Seen::String(_, _) => no_number(number::KIND, at),
-        Seen::List(_) => no_number(number::KIND, at),
-        Seen::Dictionary(_) => no_number(number::KIND, at),
-        Seen::End(_) => no_number(number::KIND, at),
+        _ => no_number(number::KIND, at),
     }
 }
 
@@ -82,11 +75,7 @@ pub fn list_at(text: &[u8], at: usize) -> Inside
     match bencode_walk::look(text, at) {
         Seen::List(first) => Inside::At(first),
         Seen::Refused(r) => Inside::Refused(r),
-        Seen::String(_, _) => nothing_inside(at),
-        Seen::Integer(_, _) => nothing_inside(at),
-        Seen::Long(_, _) => nothing_inside(at),
-        Seen::Dictionary(_) => nothing_inside(at),
-        Seen::End(_) => nothing_inside(at),
+        _ => nothing_inside(at),
     }
 }
 
@@ -97,11 +86,7 @@ pub fn dictionary_at(text: &[u8], at: usize) -> Inside
     match bencode_walk::look(text, at) {
         Seen::Dictionary(first) => Inside::At(first),
         Seen::Refused(r) => Inside::Refused(r),
-        Seen::String(_, _) => nothing_inside(at),
-        Seen::Integer(_, _) => nothing_inside(at),
-        Seen::Long(_, _) => nothing_inside(at),
-        Seen::List(_) => nothing_inside(at),
-        Seen::End(_) => nothing_inside(at),
+        _ => nothing_inside(at),
     }
 }
 

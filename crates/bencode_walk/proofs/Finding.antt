@@ -12,7 +12,7 @@ use Rattle.refusal.proofs.Cases.{no-way}
 use Rattle.bencode_scalar.specs.Written.{writtenString, keyLt}
 use Rattle.bencode_scalar.proofs.Ordering.{key-same, key-irreflexive, key-less}
 use Rattle.bencode.specs.Value.{Value, Entries, empty, entry, encode, encodeEntries, KeepsEntries, Prev, last}
-use Rattle.bencode_walk.specs.Walk.{NextEntry, key, skipOf, Hit, found, missing, seekBy, seekOf}
+use Rattle.bencode_walk.specs.Walk.{NextEntry, skipOf, Hit, found, missing, seekBy, seekOf}
 use Rattle.bencode_walk.specs.Stands.{Stands, StandEntries}
 use Rattle.bencode_walk.specs.Lookup.{sameKey, Under, nothing, under, lookup}
 use Rattle.bencode_walk.proofs.Standing.{room, skip-past, entries-end, entries-next}

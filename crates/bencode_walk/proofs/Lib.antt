@@ -1,5 +1,6 @@
 -- What the proofs of several functions and crates use.
 pub mod Seeing
+pub mod Rest
 pub mod Standing
 pub mod Seeking
 pub mod Finding

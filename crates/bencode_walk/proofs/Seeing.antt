@@ -4,7 +4,7 @@ use mathlib.Core.Bool.{Bool, true, false, cond}
 use mathlib.Core.List.{List, [], _∷_}
 use Prim.Native.Nat.{ℕ, _+_, _-_, _<_, _≤_, _^_, min}
 use native.Mathlib.Omega.{arith}
-use lib.Dec.{ltb, eqb}
+use lib.Dec.{ltb}
 use lib.IntN.{ℤ, pos, negsuc}
 use mir.Syntax.{w64}
 use mir.Val.{SFits, toZ, ofZ}
@@ -43,6 +43,11 @@ module _ (s : List ℕ) (p : ℕ) where
   pub broken-seen : (r : Refusal) → textOf s 0 (Broken r) ≡ stringAt (length s) (drop p s) p 0 → refusal r ≡ stringSeen s p
   broken-seen r e = ap stringHead e
 
+-- an integer that is answered fits 64 bits
+pub range-fits : (z : ℤ) → inRange z ≡ true → SFits w64 z
+range-fits (pos n) e = record { sfits = ltb-true n (2 ^ 63) e }
+range-fits (negsuc n) e = record { sfits = ltb-true n (2 ^ 63) e }
+
 -- an integer, by the code's answer
 module _ (p : ℕ) where
   abbrev pub headOf : Int → Outcome Head
@@ -60,11 +65,6 @@ module _ (p : ℕ) where
 
   pub integer-seen : (s : List ℕ) (i : Int) → i ≡ integerIs (integerAt (length s) (drop p s) p 0) → headOf i ≡ integerSeen s p
   integer-seen s i e = ap headOf e ∙ head-by (integerAt (length s) (drop p s) p 0)
-
-  -- an integer that is answered fits 64 bits
-  range-fits : (z : ℤ) → inRange z ≡ true → SFits w64 z
-  range-fits (pos n) e = record { sfits = ltb-true n (2 ^ 63) e }
-  range-fits (negsuc n) e = record { sfits = ltb-true n (2 ^ 63) e }
 
   fits-by : (g : Got ℤ) (z : ℤ) (q : ℕ) → Is z q ≡ integerIs g → SFits w64 z
   fits-by (got y l o m) z q e = go (inRange y) refl

@@ -2,7 +2,7 @@
 use mathlib.Core.Path.{_≡_, refl, sym, ap, _∙_}
 use mathlib.Core.Bool.{Bool, true, false, cond}
 use mathlib.Core.List.{List, [], _∷_}
-use Prim.Native.Nat.{ℕ, zero, suc, _+_, _-_, _<_, _≤_, pred}
+use Prim.Native.Nat.{ℕ, zero, suc, _+_, _<_, _≤_, pred}
 use native.Mathlib.Omega.{arith}
 use lib.Dec.{ltb, eqb}
 use lib.IntN.{ℤ}
@@ -19,7 +19,7 @@ use Rattle.bencode_scalar.proofs.Sound.{Holds, at-left, TextP, string-at-sound}
 use Rattle.bencode.proofs.Complete.{encode-pos}
 use Rattle.bencode.specs.Value.{encode}
 use Rattle.bencode_scalar.proofs.Keys.{Comparing, comparing-less, comparing-greater, comparing-long, comparing-short}
-use Rattle.bencode_walk.specs.Walk.{Head, string, integer, long, list, dictionary, end, stringHead, integerHead, lookAt, lookOf, NextEntry, key, close, asEntry, entryPaper, entryOf, pastPaper, skipOf, found, missing, orderOf, seekBy, seekOf}
+use Rattle.bencode_walk.specs.Walk.{Head, string, integer, long, list, dictionary, end, stringHead, integerHead, lookAt, lookOf, NextEntry, key, asEntry, entryPaper, entryOf, pastPaper, skipOf, found, missing, orderOf, seekBy, seekOf}
 use Rattle.bencode_walk.specs.declared.Next.the-variants.{Key, Close, Refused as Not}
 use Rattle.bencode_walk.specs.declared.Order.the-variants.{Before, Same, After}
 use Rattle.bencode_walk.specs.declared.Past.the-variants.{To, Refused as Bad}

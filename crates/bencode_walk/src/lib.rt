@@ -85,10 +85,7 @@ pub fn entry(text: &[u8], at: usize) -> Next
         Seen::String(key, value) => Next::Key(key, value),
         Seen::End(past) => Next::Close(past),
         Seen::Refused(r) => Next::Refused(r),
-        Seen::Integer(_, _) => no_key(at),
-        Seen::Long(_, _) => no_key(at),
-        Seen::List(_) => no_key(at),
-        Seen::Dictionary(_) => no_key(at),
+        _ => no_key(at),
     }
 }
 

@@ -7,7 +7,7 @@ use native.Mathlib.Omega.{arith}
 use lib.Dec.{eqb}
 use lib.ListN.{length}
 use borrow.Author.Tests.{eqb-true}
-use Rattle.refusal.specs.Paper.{Outcome, taken, refused, then, map}
+use Rattle.refusal.specs.Paper.{Outcome, taken, refused, map}
 use Rattle.refusal.specs.Limits.{mostText, mostPieces, longestPiece, longestFile}
 use Rattle.refusal.specs.declared.Part.{Part}
 use Rattle.refusal.proofs.Outcomes.{then-taken}

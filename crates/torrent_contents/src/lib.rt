@@ -73,10 +73,7 @@ pub fn element_at(text: &[u8], at: usize) -> Element
         }
         Seen::End(past) => Element::End(past),
         Seen::Refused(r) => Element::Refused(r),
-        Seen::Integer(_, _) => no_element(number::KIND, at),
-        Seen::Long(_, _) => no_element(number::KIND, at),
-        Seen::List(_) => no_element(number::KIND, at),
-        Seen::Dictionary(_) => no_element(number::KIND, at),
+        _ => no_element(number::KIND, at),
     }
 }
 

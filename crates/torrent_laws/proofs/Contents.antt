@@ -1,21 +1,22 @@
 -- The check that info has exactly one of length and files, and the check of that one. Assumes nothing.
 use mathlib.Core.Path.{_≡_, refl, sym, ap, _∙_, subst}
+use mathlib.Core.Logic.{_⊎_, inl, inr}
 use mathlib.Core.List.{List}
 use Prim.Native.Nat.{ℕ, _+_, _≤_}
 use native.Mathlib.Omega.{arith}
 use lib.IntN.{pos}
 use lib.ListN.{length, take}
 use lib.Seq.{take-append-seam}
-use Rattle.refusal.specs.Paper.{refused, map, then}
+use Rattle.refusal.specs.Paper.{map, then}
 use Rattle.refusal.specs.Limits.{longestFile}
-use Rattle.bencode.specs.Value.{Value, Items, Entries, str, int, list, dict, encode, start}
+use Rattle.bencode.specs.Value.{Value, Items, Entries, int, list, encode, start}
 use Rattle.bencode_walk.specs.Stands.{Stands, StandEntries}
 use Rattle.bencode_walk.specs.Lookup.{Under, nothing, under, lookup}
 use Rattle.bencode_walk.specs.Has.{Has}
 use Rattle.bencode_walk.proofs.Standing.{list-stands}
 use Rattle.bencode_walk.proofs.Finding.{found-stands}
 use Rattle.bencode_walk.proofs.Having.{found-has, has-found, none-has}
-use Rattle.bencode_fields.specs.Values.{naturalAt, listAt}
+use Rattle.bencode_fields.specs.Values.{listAt}
 use Rattle.torrent_blocks.specs.Rules.{sum}
 use Rattle.torrent_metainfo.specs.Keys.{filesKey, lengthKey}
 use Rattle.torrent_metainfo.specs.Rules.{lengthsOf, oneFile, manyFiles, contentOf, placeUnder}
@@ -23,11 +24,11 @@ use Rattle.torrent_metainfo.specs.declared.Content.{Content}
 use Rattle.torrent_laws.specs.Torrent.{OneFile, TorrentFiles, single, many, sizesOf, AreFiles, HasFiles, by-length, by-files}
 use Rattle.torrent_laws.specs.Exact.{filesUnder, StandsAt, FilesAt, ShowsFiles}
 use Rattle.torrent_laws.specs.Causes.{NoFiles, NoFileList, no-file-list, bad-file, NoContent, neither, both, wrong-length, wrong-files}
-use Rattle.bencode_fields.specs.Causes.{NoNumber, UpTo}
+use Rattle.bencode_fields.specs.Causes.{Other, other, NoNumber, UpTo}
 use Rattle.torrent_laws.proofs.Names.{no-way}
-use Rattle.torrent_laws.proofs.Checks.{Checks, checks-refused, checks-as, checks-map}
-use Rattle.torrent_laws.proofs.Values.{Number, Same, length-checks}
-use Rattle.torrent_laws.proofs.Filing.{length-has, ShownLengths, files-checks, files-at}
+use Rattle.bencode_fields.proofs.Checks.{Checks, checks-refused, checks-as, checks-map}
+use Rattle.bencode_fields.proofs.Typed.{Number, number-checks, list-checks, kind-checks}
+use Rattle.torrent_laws.proofs.Filing.{files-checks, files-at}
 
 -- what stands at a place is written there
 pub stands-at : (s : List ℕ) (e q : ℕ) (v : Value) → Stands s e q v → StandsAt s q v
@@ -42,30 +43,21 @@ Listed v fs = (vs : Items) × (v ≡ list vs) × AreFiles vs fs
 abbrev ShownMany : ℕ → Content → List OneFile → Type 0
 ShownMany q c fs = c ≡ manyFiles q (sizesOf fs)
 
-module _ (s : List ℕ) (e q : ℕ) where
-  not-files : (v : Value) → ((vs : Items) → v ≡ list vs → ⊥) → Checks (refused 10 q) (Listed v) (ShownMany q) (NoFileList q v)
-  not-files v h = checks-refused 10 q (Listed v) (ShownMany q) (NoFileList q v) (λ fs i. h (i .0) (i .1)) (no-file-list v h) (only-kind v h)
-    where
-      only-kind : (w : Value) → ((vs : Items) → w ≡ list vs → ⊥) → (n p : ℕ) → NoFileList q w n p → (n ≡ 10) × (p ≡ q)
-      only-kind w i n p (no-file-list u j) = (refl, refl)
-      only-kind w i n p (bad-file vs m r j) = absurd (i vs refl)
+list-kind : (q : ℕ) (v : Value) (n p : ℕ) → NoFileList q v n p → Other list q v n p ⊎ ((vs : Items) × (v ≡ list vs))
+list-kind q v n p (no-file-list w h) = inl (other w h)
+list-kind q v n p (bad-file vs m r h) = inr (vs, refl)
 
-  list-checks : (v : Value) → Stands s e q v → Checks (then (listAt q v) (λ vs. map (manyFiles q) (lengthsOf (q + 1) vs))) (Listed v) (ShownMany q) (NoFileList q v)
-  list-checks (str bs) t = not-files (str bs) (λ vs f. no-way (cc))
-  list-checks (int z) t = not-files (int z) (λ vs f. no-way (cc))
-  list-checks (list vs) t =
-      let g = list-stands s e q vs t .1 in
-      checks-as (Listed (list vs)) (ShownMany q) (NoFileList q (list vs))
-      (checks-map (manyFiles q) (lengthsOf (q + 1) vs) (AreFiles vs) ShownLengths (ShownMany q) (NoFiles (q + 1) vs) (files-checks s (g .0) (q + 1) vs (g .2)) (λ ns fs i sh. ap (manyFiles q) sh))
-      (λ c fs h sh. (fs, (vs, refl, h), sh))
-      (λ fs h. (fs, (let i = h .1 in let j : h .0 ≡ vs = cc in subst (λ (ws : Items). AreFiles ws fs) j (h .2)), λ c sh. sh))
-      (λ n p h. bad-file vs n p h)
-      (only-file (list vs) refl)
-    where
-      only-file : (w : Value) → w ≡ list vs → (n p : ℕ) → NoFileList q w n p → NoFiles (q + 1) vs n p
-      only-file w f n p (no-file-list u j) = absurd (j vs f)
-      only-file w f n p (bad-file ws m r j) = let i : ws ≡ vs = cc in subst (λ (x : Items). NoFiles (q + 1) x m r) i j
-  list-checks (dict es) t = not-files (dict es) (λ vs f. no-way (cc))
+only-file : (q : ℕ) (vs : Items) (n p : ℕ) → NoFileList q (list vs) n p → NoFiles (q + 1) vs n p
+only-file q vs n p (no-file-list v h) = absurd (h vs refl)
+only-file q vs n p (bad-file ws m r h) = h
+
+many-checks : (s : List ℕ) (e q : ℕ) (v : Value) → Stands s e q v → Checks (then (listAt q v) (λ vs. map (manyFiles q) (lengthsOf (q + 1) vs))) (Listed v) (ShownMany q) (NoFileList q v)
+many-checks s e q v t =
+    kind-checks (NoFileList q) (list-checks q v)
+    (λ vs f. let g = list-stands s e q vs (subst (Stands s e q) f t) .1 in
+    checks-as (checks-map (manyFiles q) {Shows′ = ShownMany q} (files-checks s (g .0) (q + 1) vs (g .2)) (λ ns fs i sh. ap (manyFiles q) sh))
+    (λ c fs h sh. (fs, h, sh)) (λ fs h. (fs, h, λ c sh. sh)) (λ n p h. bad-file vs n p h) (only-file q vs))
+    (no-file-list v) (list-kind q v)
 
 -- ---- exactly one
 
@@ -159,23 +151,19 @@ module _ (s : List ℕ) (e p : ℕ) (es : Entries) (t : StandEntries s e (p + 1)
   content-checks = go (lookup (p + 1) es lengthKey) refl (lookup (p + 1) es filesKey) refl
     where
       go : (u : Under) → lookup (p + 1) es lengthKey ≡ u → (w : Under) → lookup (p + 1) es filesKey ≡ w → Checks (contentOf p u w) (HasFiles es) ShownContent (NoContent p es)
-      go nothing f nothing g = checks-refused 10 p (HasFiles es) ShownContent (NoContent p es) (neither-has f g) (neither f g) (only-neither f g)
-      go (under q v) f (under o w) g = checks-refused 10 p (HasFiles es) ShownContent (NoContent p es) (both-have q v o w f g) (both q v o w f g) (only-both q v o w f g)
+      go nothing f nothing g = checks-refused (neither-has f g) (neither f g) (only-neither f g)
+      go (under q v) f (under o w) g = checks-refused (both-have q v o w f g) (both q v o w f g) (only-both q v o w f g)
       go (under q v) f nothing g =
-          checks-as (HasFiles es) ShownContent (NoContent p es)
-          (checks-map (oneFile q) (naturalAt longestFile q v) (Number (UpTo longestFile) v) Same (λ c n. ShownContent c (single n)) (NoNumber (UpTo longestFile) q v) (length-checks longestFile q v)
+          checks-as
+          (checks-map (oneFile q) {Shows′ = λ c n. ShownContent c (single n)} (number-checks longestFile q v)
           (λ x n i sh. subst (λ (z : ℕ). ShownContent (oneFile q z) (single n)) (sym sh) (shown-one q n (f ∙ ap (under q) (i .0)))))
-          (λ c n h sh. (single n, by-length n (length-has es n (v, found-has (p + 1) es lengthKey q v f, h)) (λ w z. not-under filesKey w g z), sh))
-          (one-has q v f)
-          (λ n r h. wrong-length q v n r f g h)
-          (only-length q v f g)
+          (λ c n h sh. (single n, by-length n (record { has = subst (Has es lengthKey) (h .0) (found-has (p + 1) es lengthKey q v f); small = h .1 }) (λ w z. not-under filesKey w g z), sh))
+          (one-has q v f) (λ n r h. wrong-length q v n r f g h) (only-length q v f g)
       go nothing f (under q v) g =
-          checks-as (HasFiles es) ShownContent (NoContent p es) (list-checks s e q v (found-stands s e (p + 1) start es filesKey t q v g))
+          checks-as (many-checks s e q v (found-stands s e (p + 1) start es filesKey t q v g))
           (λ c fs h sh. (
             many fs,
-            by-files (h .0) fs (subst (λ (z : Value). Has es filesKey z) (h .1) (found-has (p + 1) es filesKey q v g)) (h .2) (λ w z. not-under lengthKey w f z),
+            by-files (h .0) fs (subst (Has es filesKey) (h .1) (found-has (p + 1) es filesKey q v g)) (h .2) (λ w z. not-under lengthKey w f z),
             subst (λ (z : Content). ShownContent z (many fs)) (sym sh) (shown-many q v fs g h),
           ))
-          (many-have q v g)
-          (λ n r h. wrong-files q v n r f g h)
-          (only-files q v f g)
+          (many-have q v g) (λ n r h. wrong-files q v n r f g h) (only-files q v f g)

@@ -6,7 +6,6 @@ use mathlib.Core.List.{List·Memᴰ·not-nil}
 use Prim.Native.Nat.{ℕ, _≤_}
 use native.Mathlib.Omega.{arith}
 use lib.IntN.{pos}
-use lib.ListN.{length}
 use Rattle.refusal.specs.Paper.{taken}
 use Rattle.bencode_scalar.specs.Written.{keyLt}
 use Rattle.bencode_scalar.specs.Reading.{digitsVal, digitsLen, stringOf, closedOf, integerOf}

@@ -1,6 +1,5 @@
 -- What the laws rest on, and the laws.
 pub mod Names
-pub mod Checks
 pub mod Values
 pub mod Paths
 pub mod Filing

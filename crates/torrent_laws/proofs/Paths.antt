@@ -6,17 +6,18 @@ use mathlib.Core.List.{List·Memᴰ as In, List·Memᴰ·head, List·Memᴰ·tai
 use Prim.Native.Nat.{ℕ, _+_}
 use lib.ListN.{length, take, drop}
 use lib.Seq.{take-append-seam}
-use Rattle.refusal.specs.Paper.{refused}
-use Rattle.bencode.specs.Value.{Value, Items, str, int, list, dict, none, item, encode, encodeItems}
+use Rattle.bencode.specs.Value.{Value, Items, str, list, none, item, encode, encodeItems}
 use Rattle.bencode_walk.specs.Stands.{Stands, StandItems}
 use Rattle.bencode_walk.proofs.Standing.{list-stands, items-next}
-use Rattle.torrent_metainfo.specs.Rules.{nameAt, elementsOf, pathAt}
+use Rattle.torrent_metainfo.specs.Rules.{elementsOf, pathIn, pathAt}
 use Rattle.torrent_laws.specs.Torrent.{GoodName, stringItems}
 use Rattle.torrent_laws.specs.Exact.{PathAt}
 use Rattle.torrent_laws.specs.Causes.{NoName, NoElements, this, later, NoPath, no-list, empty-path, bad-element}
 use Rattle.torrent_laws.proofs.Names.{no-way}
-use Rattle.torrent_laws.proofs.Checks.{Checks, checks-refused, checks-taken, checks-as, checks-then, checks-map}
-use Rattle.torrent_laws.proofs.Values.{Shown, Named, name-checks}
+use Rattle.bencode_fields.specs.Causes.{Other, other}
+use Rattle.bencode_fields.proofs.Checks.{Checks, checks-refused, checks-taken, checks-as, checks-then, checks-map}
+use Rattle.bencode_fields.proofs.Typed.{list-checks, kind-checks}
+use Rattle.torrent_laws.proofs.Values.{Named, name-checks}
 
 -- each of them a good name
 abbrev pub AllGood : List (List ℕ) → Type 0
@@ -68,58 +69,49 @@ some : (v : Value) (vs : Items) (l : List (List ℕ)) → item v vs ≡ stringIt
 unfolding stringItems
 some v vs l e f = no-way (let g : item v vs ≡ stringItems [] = e ∙ ap stringItems f in cc)
 
--- the value is that path
+-- the items, or the value, are that path
+abbrev PathIn : Items → List (List ℕ) → Type 0
+PathIn vs l = (vs ≡ stringItems l) × (l ≡ [] → ⊥) × AllGood l
+
 abbrev pub Pathed : Value → List (List ℕ) → Type 0
-Pathed v l = (v ≡ list (stringItems l)) × (l ≡ [] → ⊥) × AllGood l
+Pathed v l = (vs : Items) × (v ≡ list vs) × PathIn vs l
+
+path-kind : (q : ℕ) (v : Value) (n p : ℕ) → NoPath q v n p → Other list q v n p ⊎ ((vs : Items) × (v ≡ list vs))
+path-kind q v n p (no-list w h) = inl (other w h)
+path-kind q v n p empty-path = inr (none, refl)
+path-kind q v n p (bad-element vs m r h) = inr (vs, refl)
+
+only-empty : (q n p : ℕ) → NoPath q (list none) n p → (n ≡ 13) × (p ≡ q)
+only-empty q n p (no-list v h) = absurd (h none refl)
+only-empty q n p empty-path = (refl, refl)
+only-empty q n p (bad-element vs m r h) = absurd (no-elements (q + 1) m r h)
+
+bad-only : (q : ℕ) (v : Value) (vs : Items) (n p : ℕ) → NoPath q (list (item v vs)) n p → NoElements (q + 1) (item v vs) n p
+bad-only q v vs n p (no-list w h) = absurd (h (item v vs) refl)
+bad-only q v vs n p (bad-element ws m r h) = h
 
 module _ (s : List ℕ) where
   elements-checks : (d p : ℕ) (vs : Items) → StandItems s d p vs → Checks (elementsOf p vs) (Elements vs) Any (NoElements p vs)
   unfolding elementsOf stringItems
-  elements-checks d p none t = checks-taken p [] (Elements none) Any (NoElements p none) (refl, λ bs i. absurd (List·Memᴰ·not-nil i)) tt (λ l h. none-strings l (h .0)) (no-elements p)
+  elements-checks d p none t = checks-taken [] (refl, λ bs i. absurd (List·Memᴰ·not-nil i)) tt (λ l h. none-strings l (h .0)) (no-elements p)
   elements-checks d p (item v vs) t =
       let i = items-next s d p v vs t in
-      checks-as (Elements (item v vs)) Any (NoElements p (item v vs))
-      (checks-then (nameAt p v) (λ x. elementsOf (p + length (encode v)) vs) (Named v) (Shown s) (NoName p v) (λ bs. Elements vs) (λ bs. Any) (λ bs. NoElements (p + length (encode v)) vs)
-      (name-checks s d p v (i .0)) (λ x m k sh. elements-checks d (p + length (encode v)) vs (i .1)))
+      checks-as (checks-then (name-checks s d p v (i .0)) (λ x m k sh. elements-checks d (p + length (encode v)) vs (i .1)))
       (λ x k h u. (k .0 ∷ k .1, (joined v vs (k .0) (k .1) (h .0 .0) (h .1 .0), more-good (k .0) (k .1) (h .0 .1) (h .1 .1)), tt))
-      (λ l h. parted v vs l h)
-      (λ n q h. element-by p v vs n q h)
-      (λ n q h. by-element p v vs n q h)
+      (parted v vs) (element-by p v vs) (by-element p v vs)
 
   -- what stands in a list is written there
   items-at : (d p : ℕ) (vs : Items) → StandItems s d p vs → take (length (encodeItems vs)) (drop p s) ≡ encodeItems vs
   items-at d p vs t = ap (take (length (encodeItems vs))) (t .text) ∙ take-append-seam (encodeItems vs) (t .rest)
 
-  not-path : (q : ℕ) (v : Value) → ((vs : Items) → v ≡ list vs → ⊥) → Checks (refused 10 q) (Pathed v) (PathAt s) (NoPath q v)
-  not-path q v h = checks-refused 10 q (Pathed v) (PathAt s) (NoPath q v) (λ l i. h (stringItems l) (i .0)) (no-list v h) (only-kind v h)
-    where
-      only-kind : (w : Value) → ((vs : Items) → w ≡ list vs → ⊥) → (n p : ℕ) → NoPath q w n p → (n ≡ 10) × (p ≡ q)
-      only-kind w i n p (no-list u j) = (refl, refl)
-      only-kind w i n p empty-path = absurd (i none refl)
-      only-kind w i n p (bad-element vs m r j) = absurd (i vs refl)
+  path-in : (d q : ℕ) (vs : Items) → StandItems s d (q + 1) vs → Checks (pathIn q vs) (PathIn vs) (PathAt s) (NoPath q (list vs))
+  path-in d q none t = checks-refused (λ l i. i .1 (none-strings l (i .0))) empty-path (only-empty q)
+  path-in d q (item v vs) t =
+      checks-as
+      (checks-map (λ x. q + 1) {Shows′ = PathAt s} (elements-checks d (q + 1) (item v vs) t)
+      (λ x l i u. subst (λ (ws : Items). take (length (encodeItems ws)) (drop (q + 1) s) ≡ encodeItems ws) (i .0) (items-at d (q + 1) (item v vs) t)))
+      (λ x l h u. (l, (h .0, some v vs l (h .0), h .1), u)) (λ l h. (l, (h .0, h .2), λ x u. u)) (λ n p h. bad-element (item v vs) n p h) (bad-only q v vs)
 
   pub path-checks : (e q : ℕ) (v : Value) → Stands s e q v → Checks (pathAt q v) (Pathed v) (PathAt s) (NoPath q v)
-  path-checks e q (str bs) t = not-path q (str bs) (λ vs f. no-way (cc))
-  path-checks e q (int z) t = not-path q (int z) (λ vs f. no-way (cc))
-  path-checks e q (list none) t =
-      checks-refused 13 q (Pathed (list none)) (PathAt s) (NoPath q (list none)) (λ l i. i .1 (none-strings l (let e = i .0 in cc))) empty-path (only-empty (list none) refl)
-    where
-      only-empty : (w : Value) → w ≡ list none → (n p : ℕ) → NoPath q w n p → (n ≡ 13) × (p ≡ q)
-      only-empty w f n p (no-list u j) = absurd (j none f)
-      only-empty w f n p empty-path = (refl, refl)
-      only-empty w f n p (bad-element vs m r j) = let e : vs ≡ none = cc in absurd (no-elements (q + 1) m r (subst (λ (x : Items). NoElements (q + 1) x m r) e j))
-  path-checks e q (list (item v vs)) t =
-      let g = list-stands s e q (item v vs) t .1 in
-      checks-as (Pathed (list (item v vs))) (PathAt s) (NoPath q (list (item v vs)))
-      (checks-map (λ x. q + 1) (elementsOf (q + 1) (item v vs)) (Elements (item v vs)) Any (PathAt s) (NoElements (q + 1) (item v vs)) (elements-checks (g .0) (q + 1) (item v vs) (g .2))
-      (λ x l i u. subst (λ (ws : Items). take (length (encodeItems ws)) (drop (q + 1) s) ≡ encodeItems ws) (i .0) (items-at (g .0) (q + 1) (item v vs) (g .2))))
-      (λ x l h u. (l, (ap list (h .0), some v vs l (h .0), h .1), u))
-      (λ l h. (l, (let e = h .0 in cc, h .2), λ x u. u))
-      (λ n p h. bad-element (item v vs) n p h)
-      (bad-only (list (item v vs)) refl)
-    where
-      bad-only : (w : Value) → w ≡ list (item v vs) → (n p : ℕ) → NoPath q w n p → NoElements (q + 1) (item v vs) n p
-      bad-only w f n p (no-list u j) = absurd (j (item v vs) f)
-      bad-only w f n p empty-path = no-way (cc)
-      bad-only w f n p (bad-element ws m r j) = let e : ws ≡ item v vs = cc in subst (λ (x : Items). NoElements (q + 1) x m r) e j
-  path-checks e q (dict es) t = not-path q (dict es) (λ vs f. no-way (cc))
+  path-checks e q v t =
+      kind-checks (NoPath q) (list-checks q v) (λ vs f. let g = list-stands s e q vs (subst (Stands s e q) f t) .1 in path-in (g .0) q vs (g .2)) (no-list v) (path-kind q v)

@@ -20,7 +20,7 @@ use Rattle.torrent_metainfo.specs.declared.Torrent.{Torrent}
 use Rattle.torrent_laws.specs.Torrent.{RoundedUp, GoodSizes}
 use Rattle.torrent_laws.specs.Causes.{BadSizes, file-count, no-bytes, many-pieces, wrong-pieces}
 use Rattle.torrent_laws.proofs.Names.{no-way}
-use Rattle.torrent_laws.proofs.Checks.{Checks, checks-refused, checks-taken}
+use Rattle.bencode_fields.proofs.Checks.{Checks, checks-refused, checks-taken}
 
 -- ---- rounding up
 
@@ -92,25 +92,24 @@ module _ (a i n x : Part) (p pl : ℕ) (c : Content) (ns hs : List ℕ) (fe : c 
           (GoodSizes ns pl hs) Handed Bad
       go false f t g e h =
           let no : 1 ≤ length ns → length ns ≤ mostFiles → ⊥ = λ l m. count-not (c .files) f (omega arith) (omega arith) in
-          checks-refused 11 (c .place) (GoodSizes ns pl hs) Handed Bad (λ k z. no (z .some-files) (z .few-files)) (file-count no) (by-range (λ k l m o r q. no l m))
+          checks-refused (λ k z. no (z .some-files) (z .few-files)) (file-count no) (by-range (λ k l m o r q. no l m))
       go true f false g e h =
           let y = count-is (c .files) f in
           ⊎-elim
           (λ (z : c .total ≡ 0).
-          checks-refused 11 (c .place) (GoodSizes ns pl hs) Handed Bad (λ k d. absurd (omega (arith, d .some-bytes))) (no-bytes (omega arith) (omega arith) (omega arith)) (by-range (λ k l m o r q. omega arith)))
+          checks-refused (λ k d. absurd (omega (arith, d .some-bytes))) (no-bytes (omega arith) (omega arith) (omega arith)) (by-range (λ k l m o r q. omega arith)))
           (λ (z : (1 ≤ c .total) × (mostPieces < Count)).
-          checks-refused 11 (c .place) (GoodSizes ns pl hs) Handed Bad (λ k d. let b = counted k (d .counted) in omega (arith, d .few-pieces)) (many-pieces Count (omega arith) (omega arith) (omega arith) up (z .1)) (by-range (λ k l m o r q. let b = counted k r in omega arith)))
+          checks-refused (λ k d. let b = counted k (d .counted) in omega (arith, d .few-pieces)) (many-pieces Count (omega arith) (omega arith) (omega arith) up (z .1)) (by-range (λ k l m o r q. let b = counted k r in omega arith)))
           (total-not (c .total) Count g)
       go true f true g false h =
           let y = count-is (c .files) f in
           let z = total-is (c .total) Count g in
           let no : length hs ≡ 20 * Count → ⊥ = λ q. no-way (let b = eq-eqb (x .len) (20 * Count) (le ∙ q) in cc) in
-          checks-refused 12 p (GoodSizes ns pl hs) Handed Bad (λ k d. no (d .hashes ∙ ap (λ (b : ℕ). 20 * b) (counted k (d .counted))))
+          checks-refused (λ k d. no (d .hashes ∙ ap (λ (b : ℕ). 20 * b) (counted k (d .counted))))
           (wrong-pieces Count (omega arith) (omega arith) (omega arith) up (z .1) no) (λ m q b. let u = by-pieces (omega arith) (omega arith) (omega arith) (z .1) m q b in (u .0, u .1))
       go true f true g true h =
           let y = count-is (c .files) f in
           let z = total-is (c .total) Count g in
           let all : length hs ≡ 20 * Count = sym le ∙ eqb-true (x .len) (20 * Count) h in
-          checks-taken (record { announce = a; info = i; name = n; pieces = x; «piece_length» = pl; «piece_count» = Count; content = c }) Count (GoodSizes ns pl hs) Handed Bad
-          (record { some-files = omega arith; few-files = omega arith; some-bytes = omega arith; counted = up; few-pieces = z .1; hashes = all }) refl (λ k d. counted k (d .counted))
+          checks-taken Count (record { some-files = omega arith; few-files = omega arith; some-bytes = omega arith; counted = up; few-pieces = z .1; hashes = all }) refl (λ k d. counted k (d .counted))
           (λ m q b. by-pieces (omega arith) (omega arith) (omega arith) (z .1) m q b .2 all)

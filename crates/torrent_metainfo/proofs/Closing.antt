@@ -8,7 +8,7 @@ use lib.ListN.{length}
 use Rattle.refusal.specs.Paper.{Outcome, taken, refused, map, then}
 use Rattle.refusal.specs.declared.Part.{Part}
 use Rattle.bencode_scalar.specs.Written.{writtenString, keyLt}
-use Rattle.bencode.specs.Value.{Value, Items, Entries, dict, empty, entry, encode, encodeEntries, Prev, start, last}
+use Rattle.bencode.specs.Value.{Value, Items, Entries, dict, empty, entry, encode, encodeEntries, Prev, last}
 use Rattle.bencode_walk.specs.Walk.{Hit, found, missing, seekPaper, key, close, entryOf, skipOf}
 use Rattle.bencode_walk.specs.Stands.{StandEntries}
 use Rattle.bencode_walk.specs.Lookup.{Under, nothing, under, lookup}

@@ -2,7 +2,7 @@
 use mathlib.Core.Path.{_≡_, refl, sym, ap, _∙_}
 use mathlib.Core.Bool.{Bool, true, false}
 use mathlib.Core.List.{List, [], _∷_, _++_}
-use Prim.Native.Nat.{ℕ, zero, suc, _+_, _<_, _≤_}
+use Prim.Native.Nat.{ℕ, suc, _+_, _<_, _≤_}
 use native.Mathlib.Omega.{arith}
 use lib.Dec.{eqb}
 use lib.ListN.{length, getD, take, drop, length-append, drop-of-length-le}
@@ -13,7 +13,7 @@ pub use Rattle.refusal.proofs.Cases.{no-way}
 use Rattle.bencode_scalar.proofs.Forms.{at-head}
 use Rattle.bencode.specs.Value.{Value, Items, str, int, list, dict, none, item, encode, encodeItems}
 use Rattle.bencode.specs.Decode.{closes}
-use Rattle.bencode_walk.specs.Walk.{Head, string, integer, long, end, lookOf, asEntry, key}
+use Rattle.bencode_walk.specs.Walk.{Head, string, integer, long, end, lookOf, asEntry}
 use Rattle.bencode_walk.specs.Walk as walk
 use Rattle.bencode_walk.specs.Stands.{Stands, StandItems}
 use Rattle.bencode_walk.proofs.Standing.{string-stands, integer-stands, list-stands, dictionary-stands, items-end, items-next, closes-none, closes-item}
@@ -21,7 +21,7 @@ use Rattle.bencode_walk.proofs.Seeking.{key-further}
 use Rattle.bencode_fields.specs.Looks.{endingAt, stringIn, stringOf, listOf}
 use Rattle.bencode_fields.specs.Values.{partOf}
 use Rattle.bencode_fields.proofs.Standing.{part-bytes, string-is, list-is}
-use Rattle.torrent_metainfo.specs.Rules.{dots, clean, goodName, nameAt, elementsOf, pathAt}
+use Rattle.torrent_metainfo.specs.Rules.{clean, goodName, nameAt, elementsOf, pathAt}
 
 -- ---- the bytes of a name
 
@@ -263,7 +263,7 @@ ends-out s p h = rw (drop-of-length-le s h)
 pub ends-in : (s : List ℕ) (p : ℕ) → p < length s → eqb (getD s p 0) 101 ≡ closes (drop p s)
 ends-in s p h = rw (at-head s p h)
 
-abbrev isEnd : Head → Bool
+abbrev pub isEnd : Head → Bool
 isEnd (string a m q) = false
 isEnd (integer z q) = false
 isEnd (long a m q) = false
@@ -272,8 +272,8 @@ isEnd (walk.dictionary q) = false
 isEnd (end q) = true
 
 module _ (s : List ℕ) (first p : ℕ) (g : Going s first p) where
-  pub going-other : (h : Head) → taken h ≡ lookOf s p → stringIn p h ≡ refused 10 p → isEnd h ≡ false → (d : ℕ) (vs : Items) → StandItems s d first vs → refused 10 p ≡ map (λ q. q + 1) (elementsOf first vs)
-  going-other h e f k = going-not s first p g (taken h) e 10 p f (λ i x. let y : end i ≡ h = cc in let z : true ≡ false = ap isEnd y ∙ k in no-way (cc))
+  pub going-other : refused 10 p ≡ stringOf s p → taken false ≡ then (lookOf s p) (λ h. taken (isEnd h)) → (d : ℕ) (vs : Items) → StandItems s d first vs → refused 10 p ≡ map (λ q. q + 1) (elementsOf first vs)
+  going-other f k = going-not s first p g (lookOf s p) refl 10 p (sym f) (λ i x. let y = k ∙ sym (ap (λ (o : Outcome Head). then o (λ h. taken (isEnd h))) x) in no-way (cc))
 
   pub going-refused : (r o : ℕ) → refused r o ≡ lookOf s p → (d : ℕ) (vs : Items) → StandItems s d first vs → refused r o ≡ map (λ q. q + 1) (elementsOf first vs)
   going-refused r o e = going-not s first p g (refused r o) e r o refl (λ i x. no-way (cc))

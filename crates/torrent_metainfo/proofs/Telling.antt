@@ -6,7 +6,7 @@ use Prim.Native.Nat.{ℕ, _≤_}
 use Rattle.refusal.specs.Paper.{Outcome, taken, refused}
 use Rattle.bencode_scalar.specs.Written.{keyLt}
 use Rattle.bencode.specs.Value.{Value, Entries, Prev, start, last, follows}
-use Rattle.bencode_walk.specs.Walk.{Hit, found, missing, seekPaper}
+use Rattle.bencode_walk.specs.Walk.{Hit, seekPaper}
 use Rattle.bencode_walk.specs.Stands.{Stands, StandEntries}
 use Rattle.bencode_walk.specs.Lookup.{Under, nothing, under, lookup}
 use Rattle.bencode_walk.specs.declared.Sought.{Sought}

@@ -74,10 +74,7 @@ fn elements(text: &[u8], first: usize) -> Inside
             }
             Seen::End(past) => return Inside::At(past),
             Seen::Refused(r) => return Inside::Refused(r),
-            Seen::Integer(_, _) => return bad_element(number::KIND, p),
-            Seen::Long(_, _) => return bad_element(number::KIND, p),
-            Seen::List(_) => return bad_element(number::KIND, p),
-            Seen::Dictionary(_) => return bad_element(number::KIND, p),
+            _ => return bad_element(number::KIND, p),
         }
     }
 }

@@ -9,13 +9,13 @@ use lib.ListN.{length}
 use Rattle.refusal.specs.Paper.{Outcome, taken, refused, refusal, map, then}
 use Rattle.bencode_scalar.specs.Written.{keyLt}
 use Rattle.bencode.specs.Value.{Value, Items, Entries, str, int, list, dict, none, item, count, encode, start, last}
-use Rattle.bencode.specs.Decode.{decode, closes}
+use Rattle.bencode.specs.Decode.{decode}
 use Rattle.bencode.specs.Answers.{checkOf}
 use Rattle.refusal.specs.declared.Refusal.{Refusal}
 use Rattle.refusal.specs.declared.Part.{Part}
 use Rattle.bencode.proofs.Complete.{encode-pos}
 use Rattle.bencode.proofs.Exact.{taken-fine}
-use Rattle.bencode_walk.specs.Walk.{Head, Hit, found, lookOf, skipOf}
+use Rattle.bencode_walk.specs.Walk.{Head, Hit, lookOf, skipOf}
 use Rattle.bencode_walk.specs.Stands.{Stands, StandItems, StandEntries}
 use Rattle.bencode_walk.specs.Lookup.{Under, nothing, under, lookup}
 use Rattle.bencode_walk.proofs.Standing.{room, fine-stands, skip-past, string-stands, integer-stands, list-stands, items-next, dictionary-stands, closes-none, closes-item}

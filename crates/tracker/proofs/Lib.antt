@@ -3,6 +3,7 @@ pub mod Steps
 pub mod Agreeing
 pub mod Walking
 pub mod Determined
+pub mod Checking
 pub mod Exact
 pub mod Written
 pub mod Numbering

@@ -6,7 +6,7 @@ use native.Mathlib.Omega.{arith}
 use lib.ListN.{length}
 use Rattle.refusal.specs.Paper.{taken, refused}
 use Rattle.tracker.specs.Entries.{PeerEntry}
-use Rattle.tracker.specs.Reply.{Answer, failure, compact, listing, sixes, counted, nthOf}
+use Rattle.tracker.specs.Reply.{Answer, failure, compact, listing, counted, nthOf}
 use Rattle.bencode_fields.proofs.Nth.{nth-within, nth-beyond}
 use Rattle.tracker.specs.Reading.{entriesIn}
 use Rattle.tracker.specs.Exact.{Peer, ReplySays, saidEntries, ShowsPeers, shows-none, shows-one, ShowsReply, shows-failure, shows-packs, shows-lists}

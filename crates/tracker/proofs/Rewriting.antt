@@ -23,10 +23,10 @@ use Rattle.bencode_writer.specs.declared.Put.{Put}
 use Rattle.bencode_writer.proofs.Laws.{paper-apart, Standing, put-whole, put-none, standing}
 use Rattle.tracker.specs.Keys.{failureReason, interval, peers}
 use Rattle.tracker.specs.Entries.{PeerEntry}
-use Rattle.tracker.specs.Reply.{Answer, failure, compact, sixes, replyOf}
+use Rattle.tracker.specs.Reply.{Answer, compact, sixes, replyOf}
 use Rattle.tracker.specs.Writing.{compactReply, textOf, writeOf}
 use Rattle.tracker.specs.Faults.{NotWritten, too-late, not-sixes, too-long, no-room}
-use Rattle.tracker.specs.Exact.{ReplySays, packs, lists, Waits, IsReply, fails, has-string, has-list, ShowsReply, shows-failure, shows-packs, shows-lists}
+use Rattle.tracker.specs.Exact.{ReplySays, packs, Waits, IsReply, fails, has-string, has-list, ShowsReply, shows-failure, shows-packs, shows-lists}
 use Rattle.bencode_walk.proofs.Having.{has-found}
 use Rattle.tracker.proofs.Exact.{reply-only, reply-every}
 

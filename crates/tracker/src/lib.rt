@@ -134,10 +134,7 @@ fn peers_at(text: &[u8], at: usize, interval: u64) -> Reply
         Seen::String(p, _) => packed_peers(p, at, interval),
         Seen::List(first) => listed_peers(text, first, interval),
         Seen::Refused(r) => Reply::Refused(r),
-        Seen::Integer(_, _) => refused(number::KIND, at),
-        Seen::Long(_, _) => refused(number::KIND, at),
-        Seen::Dictionary(_) => refused(number::KIND, at),
-        Seen::End(_) => refused(number::KIND, at),
+        _ => refused(number::KIND, at),
     }
 }
 

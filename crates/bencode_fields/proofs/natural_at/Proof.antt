@@ -9,15 +9,6 @@ use mathlib.Core.Path.{sym, ap, _∙_}
 use Rattle.bencode_fields.proofs.natural_at.Statement.{statement}
 use Rattle.bencode_fields.proofs.natural_at.Tie as tie
 
-number-at-requires : tie.Need-number-at-requires
-number-at-requires c κs = search needs
-
-enum-known-n : tie.Need-enum-known-n
-enum-known-n c = search needs
-
-enum-known-r : tie.Need-enum-known-r
-enum-known-r c = search needs
-
 returns : tie.Need-returns
 returns c = ap (map (λ (x : ℕ × ℕ). x .0)) (ap numberPaper (sym (c .before .n .given .1)) ∙ c .before .before .before .number-at .ensures) ∙ only-number (c .before .before .before .before .before .args .most) (c .before .before .before .before .before .args .at) (lookOf (c .before .before .before .before .before .args .text .now) (c .before .before .before .before .before .args .at))
 
@@ -25,4 +16,4 @@ returns-2 : tie.Need-returns-2
 returns-2 c = ap (map (λ (x : ℕ × ℕ). x .0)) (ap numberPaper (sym (c .before .r .given .1)) ∙ c .before .before .before .number-at .ensures) ∙ only-number (c .before .before .before .before .before .args .most) (c .before .before .before .before .before .args .at) (lookOf (c .before .before .before .before .before .args .text .now) (c .before .before .before .before .before .args .at))
 
 pub natural-at-spec : {M : Type 1} → statement M
-natural-at-spec = tie.close (tie.spec number-at-requires enum-known-n enum-known-r returns returns-2)
+natural-at-spec = tie.close (tie.spec (λ c κs. search needs) (λ c. search needs) (λ c. search needs) returns returns-2)

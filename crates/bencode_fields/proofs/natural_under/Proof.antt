@@ -6,21 +6,6 @@ use mathlib.Core.Path.{ap, _∙_}
 use Rattle.bencode_fields.proofs.natural_under.Statement.{statement}
 use Rattle.bencode_fields.proofs.natural_under.Tie as tie
 
-enum-known-sought : tie.Need-enum-known-sought
-enum-known-sought c = search needs
-
-natural-at-requires : tie.Need-natural-at-requires
-natural-at-requires c κs = search needs
-
-enum-told : tie.Need-enum-told
-enum-told c = search needs
-
-no-natural-requires : tie.Need-no-natural-requires
-no-natural-requires c κs = search needs
-
-enum-known-sought-2 : tie.Need-enum-known-sought-2
-enum-known-sought-2 c = search needs
-
 returns : tie.Need-returns
 returns c = (c .natural-at .ensures) ∙ as-found (c .before .before .before .before .before .args .dictionary) (naturalOf (c .before .before .before .before .before .args .most) (c .before .before .before .before .before .args .text .now)) _ _ (c .before .before .sought .given .1)
 
@@ -34,11 +19,11 @@ pub natural-under-spec : {M : Type 1} → statement M
 natural-under-spec =
     tie.close
     (tie.spec
-    enum-known-sought
-    natural-at-requires
-    enum-told
-    no-natural-requires
-    enum-known-sought-2
+    (λ c. search needs)
+    (λ c κs. search needs)
+    (λ c. search needs)
+    (λ c κs. search needs)
+    (λ c. search needs)
     returns
     returns-2
     returns-3)

@@ -6,21 +6,6 @@ use mathlib.Core.Path.{_∙_}
 use Rattle.bencode_fields.proofs.seek_after.Statement.{statement}
 use Rattle.bencode_fields.proofs.seek_after.Tie as tie
 
-enum-known-sought : tie.Need-enum-known-sought
-enum-known-sought c = search needs
-
-seek-requires : tie.Need-seek-requires
-seek-requires c κs = search needs
-
-enum-known-sought-2 : tie.Need-enum-known-sought-2
-enum-known-sought-2 c = search needs
-
-seek-requires-2 : tie.Need-seek-requires-2
-seek-requires-2 c κs = search needs
-
-enum-known-sought-3 : tie.Need-enum-known-sought-3
-enum-known-sought-3 c = search needs
-
 returns : tie.Need-returns
 returns c = (c .seek .ensures) ∙ as-stopped (λ h. soughtFrom (c .before .before .before .before .before .before .args .text .now) (stopped h) (c .before .before .before .before .before .before .args .key .now)) _ _ (c .before .before .sought .given .1)
 
@@ -34,11 +19,11 @@ pub seek-after-spec : {M : Type 1} → statement M
 seek-after-spec =
     tie.close
     (tie.spec
-    enum-known-sought
-    seek-requires
-    enum-known-sought-2
-    seek-requires-2
-    enum-known-sought-3
+    (λ c. search needs)
+    (λ c κs. search needs)
+    (λ c. search needs)
+    (λ c κs. search needs)
+    (λ c. search needs)
     returns
     returns-2
     returns-3)

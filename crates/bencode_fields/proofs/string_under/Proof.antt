@@ -6,21 +6,6 @@ use mathlib.Core.Path.{ap, _∙_}
 use Rattle.bencode_fields.proofs.string_under.Statement.{statement}
 use Rattle.bencode_fields.proofs.string_under.Tie as tie
 
-enum-known-sought : tie.Need-enum-known-sought
-enum-known-sought c = search needs
-
-string-at-requires : tie.Need-string-at-requires
-string-at-requires c κs = search needs
-
-enum-told : tie.Need-enum-told
-enum-told c = search needs
-
-no-string-requires : tie.Need-no-string-requires
-no-string-requires c κs = search needs
-
-enum-known-sought-2 : tie.Need-enum-known-sought-2
-enum-known-sought-2 c = search needs
-
 returns : tie.Need-returns
 returns c = (c .string-at .ensures) ∙ as-found (c .before .before .before .before .before .args .dictionary) (stringOf (c .before .before .before .before .before .args .text .now)) _ _ (c .before .before .sought .given .1)
 
@@ -34,11 +19,11 @@ pub string-under-spec : {M : Type 1} → statement M
 string-under-spec =
     tie.close
     (tie.spec
-    enum-known-sought
-    string-at-requires
-    enum-told
-    no-string-requires
-    enum-known-sought-2
+    (λ c. search needs)
+    (λ c κs. search needs)
+    (λ c. search needs)
+    (λ c κs. search needs)
+    (λ c. search needs)
     returns
     returns-2
     returns-3)

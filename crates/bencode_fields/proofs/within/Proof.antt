@@ -4,18 +4,14 @@ use mathlib.Core.Path.{ap, _∙_}
 use mathlib.Core.Bool.{not}
 use native.Mathlib.Omega.{arith}
 use lib.Dec.{T}
-use lib.IntN.{pos, natAbs}
+use lib.IntN.{pos}
 use lib.Signed.{ltZ, ltZ-no, yes-nonNeg, natAbs-le}
 use mir.Syntax.{w64}
-use mir.Val.{toZ, ofZ}
 use mir.ValLaws.{toZ-ofZ}
 use Rattle.bencode_fields.specs.Looks.{numberPaper}
 use Rattle.bencode_fields.proofs.Fitting.{below-zero, too-large, in-range}
 use Rattle.bencode_fields.proofs.within.Statement.{statement}
 use Rattle.bencode_fields.proofs.within.Tie as tie
-
-no-number-requires : tie.Need-no-number-requires
-no-number-requires c κs = search needs
 
 returns : tie.Need-returns
 returns c =
@@ -29,9 +25,6 @@ cast-n c =
     let n : T (not (ltZ (c .before .args .z) (pos 0))) = rw (rw e at (c .if1 .left)) tt in
     rw e (yes-nonNeg {z = c .before .args .z} (ltZ-no n), record { fits = omega (arith, natAbs-le (c .before .args .z) (f .sfits)) })
 
-no-number-requires-2 : tie.Need-no-number-requires-2
-no-number-requires-2 c κs = search needs
-
 returns-2 : tie.Need-returns-2
 returns-2 c =
     let e = toZ-ofZ w64 _ (c .before .before .before .fits .z) in
@@ -44,4 +37,4 @@ returns-3 c =
 
 pub within-spec : {M : Type 1} → statement M
 within-spec =
-    tie.close (tie.spec no-number-requires returns cast-n no-number-requires-2 returns-2 returns-3)
+    tie.close (tie.spec (λ c κs. search needs) returns cast-n (λ c κs. search needs) returns-2 returns-3)

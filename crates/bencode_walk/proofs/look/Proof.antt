@@ -7,35 +7,17 @@ use mathlib.Core.Path.{ap, _∙_}
 use Rattle.bencode_walk.proofs.look.Statement.{statement}
 use Rattle.bencode_walk.proofs.look.Tie as tie
 
-refused-requires : tie.Need-refused-requires
-refused-requires c κs = search needs
-
 returns : tie.Need-returns
 returns c = ap paper (c .refused .ensures) ∙ look-out (c .before .before .before .args .text .now) (c .before .before .before .args .at) (omega arith)
-
-shared-slice-read-b : tie.Need-shared-slice-read-b
-shared-slice-read-b c = search needs
-
-integer-requires : tie.Need-integer-requires
-integer-requires c κs = search needs
 
 returns-2 : tie.Need-returns-2
 returns-2 c = c .integer .ensures ∙ look-integer (c .before .before .before .before .before .args .text .now) (c .before .before .before .before .before .args .at) (omega arith) (c .before .if2 .taken)
 
-add-t9 : tie.Need-add-t9
-add-t9 c = search needs
-
 returns-3 : tie.Need-returns-3
 returns-3 c = look-list (c .before .before .before .before .before .args .text .now) (c .before .before .before .before .before .args .at) (omega arith) (c .if3 .taken)
 
-add-t10 : tie.Need-add-t10
-add-t10 c = search needs
-
 returns-4 : tie.Need-returns-4
 returns-4 c = look-dictionary (c .before .before .before .before .before .before .args .text .now) (c .before .before .before .before .before .before .args .at) (omega arith) (c .if4 .taken)
-
-add-t11 : tie.Need-add-t11
-add-t11 c = search needs
 
 returns-5 : tie.Need-returns-5
 returns-5 c = look-end (c .before .before .before .before .before .before .before .args .text .now) (c .before .before .before .before .before .before .before .args .at) (omega arith) (c .if5 .taken)
@@ -50,16 +32,16 @@ pub look-spec : {M : Type 1} → statement M
 look-spec =
     tie.close
     (tie.spec
-    refused-requires
+    (λ c κs. search needs)
     returns
-    shared-slice-read-b
-    integer-requires
+    (λ c. search needs)
+    (λ c κs. search needs)
     returns-2
-    add-t9
+    (λ c. search needs)
     returns-3
-    add-t10
+    (λ c. search needs)
     returns-4
-    add-t11
+    (λ c. search needs)
     returns-5
     string-requires
     returns-6)

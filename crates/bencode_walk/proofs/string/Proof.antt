@@ -8,17 +8,8 @@ use mathlib.Core.Path.{sym, ap, _∙_}
 use Rattle.bencode_walk.proofs.string.Statement.{statement}
 use Rattle.bencode_walk.proofs.string.Tie as tie
 
-string-requires : tie.Need-string-requires
-string-requires c κs = search needs
-
-enum-known-from : tie.Need-enum-known-from
-enum-known-from c = search needs
-
 add-t9 : tie.Need-add-t9
 add-t9 c = omega (arith, whole-inside (c .before .before .before .before .before .args .text .now) (c .before .before .before .before .before .args .at) (c .before .from .given .0 .0) (c .before .from .given .0 .1 .0) (c .before .before .before .before .before .pre) (ap (textOf (c .before .before .before .before .before .args .text .now) 0) (sym (c .before .from .given .1)) ∙ c .before .before .before .string .ensures 0))
-
-enum-known-r : tie.Need-enum-known-r
-enum-known-r c = search needs
 
 returns : tie.Need-returns
 returns c = whole-seen (c .before .before .before .before .before .args .text .now) (c .before .before .before .before .before .args .at) (c .before .from .given .0 .0) (c .before .from .given .0 .1 .0) (c .before .before .before .before .before .pre) (ap (textOf (c .before .before .before .before .before .args .text .now) 0) (sym (c .before .from .given .1)) ∙ c .before .before .before .string .ensures 0)
@@ -28,4 +19,4 @@ returns-2 c = broken-seen (c .before .before .before .before .before .args .text
 
 pub string-spec : {M : Type 1} → statement M
 string-spec =
-    tie.close (tie.spec string-requires enum-known-from add-t9 enum-known-r returns returns-2)
+    tie.close (tie.spec (λ c κs. search needs) (λ c. search needs) add-t9 (λ c. search needs) returns returns-2)

@@ -7,26 +7,11 @@ use native.Mathlib.Omega.{arith}
 use Rattle.torrent_authoring.proofs.write.Statement.{statement}
 use Rattle.torrent_authoring.proofs.write.Tie as tie
 
-size-requires : tie.Need-size-requires
-size-requires c κs = search needs
-
-enum-known-n : tie.Need-enum-known-n
-enum-known-n c = search needs
-
-no-room-requires : tie.Need-no-room-requires
-no-room-requires c κs = search needs
-
 returns : tie.Need-returns
 returns c = let a = c .before .before .before .before .before .before .before .before .before .before .args in let f = fields (a .announce .now) (a .name .now) (a .piece-length) (a .pieces .now) (a .length) in write-none f (a .out .now) _ (ap paper (sym (c .before .before .before .n .given .1)) ∙ c .before .before .before .before .before .size .ensures) (omega arith) (c .no-room .ensures)
 
 put-all-requires : tie.Need-put-all-requires
 put-all-requires c κs = let a = c .before .before .before .before .before .before .before .before .before .before .args in let f = fields (a .announce .now) (a .name .now) (a .piece-length) (a .pieces .now) (a .length) in omega (arith, size-is f _ (ap paper (sym (c .before .before .before .n .given .1)) ∙ c .before .before .before .before .before .size .ensures))
-
-enum-known-r : tie.Need-enum-known-r
-enum-known-r c = search needs
-
-same-length : tie.Need-same-length
-same-length c = search needs
 
 returns-2 : tie.Need-returns-2
 returns-2 c = let a = c .before .before .before .before .before .before .before .before .before .before .before .before .before .args in let f = fields (a .announce .now) (a .name .now) (a .piece-length) (a .pieces .now) (a .length) in write-whole f (a .out .now) _ (ap paper (sym (c .before .before .before .before .before .before .n .given .1)) ∙ c .before .before .before .before .before .before .before .before .size .ensures) (omega arith) (c .before .before .put-all .ensures)
@@ -38,12 +23,12 @@ pub write-spec : {M : Type 1} → statement M
 write-spec =
     tie.close
     (tie.spec
-    size-requires
-    enum-known-n
-    no-room-requires
+    (λ c κs. search needs)
+    (λ c. search needs)
+    (λ c κs. search needs)
     returns
     put-all-requires
-    enum-known-r
-    same-length
+    (λ c. search needs)
+    (λ c. search needs)
     returns-2
     returns-3)

@@ -6,17 +6,8 @@ use mathlib.Core.Path.{sym, ap, _∙_}
 use Rattle.torrent_contents.proofs.check_piece.Statement.{statement}
 use Rattle.torrent_contents.proofs.check_piece.Tie as tie
 
-read-requires : tie.Need-read-requires
-read-requires c κs = search needs
-
-enum-known-t : tie.Need-enum-known-t
-enum-known-t c = search needs
-
 check-requires : tie.Need-check-requires
 check-requires c κs = (inside-text (c .before .before .before .before .before .before .args .text .now) (c .before .t .given .0 .0) (sym (c .before .before .before .read .ensures) ∙ ap paper (c .before .t .given .1)), piece-fits (c .before .before .before .before .before .before .args .text .now) (c .before .t .given .0 .0) (sym (c .before .before .before .read .ensures) ∙ ap paper (c .before .t .given .1)))
-
-enum-known-r : tie.Need-enum-known-r
-enum-known-r c = search needs
 
 returns : tie.Need-returns
 returns c = c .check .ensures ∙ check-read (c .before .before .before .before .before .before .before .args .text .now) (c .before .before .before .before .before .before .before .args .piece .0) (c .before .before .before .before .before .before .before .args .bytes .now) (c .before .before .t .given .0 .0) (sym (c .before .before .before .before .read .ensures) ∙ ap paper (c .before .before .t .given .1))
@@ -26,4 +17,4 @@ returns-2 c = check-refused (c .before .before .before .before .before .before .
 
 pub check-piece-spec : {M : Type 1} → statement M
 check-piece-spec =
-    tie.close (tie.spec read-requires enum-known-t check-requires enum-known-r returns returns-2)
+    tie.close (tie.spec (λ c κs. search needs) (λ c. search needs) check-requires (λ c. search needs) returns returns-2)

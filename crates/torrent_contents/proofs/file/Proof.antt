@@ -6,20 +6,8 @@ use mathlib.Core.Path.{sym, ap, _∙_}
 use Rattle.torrent_contents.proofs.file.Statement.{statement}
 use Rattle.torrent_contents.proofs.file.Tie as tie
 
-read-requires : tie.Need-read-requires
-read-requires c κs = search needs
-
-enum-known-t : tie.Need-enum-known-t
-enum-known-t c = search needs
-
 numbered-requires : tie.Need-numbered-requires
 numbered-requires c κs = sym (c .before .before .before .read .ensures) ∙ ap paper (c .before .t .given .1)
-
-enum-known-r : tie.Need-enum-known-r
-enum-known-r c = search needs
-
-returns : tie.Need-returns
-returns c = search needs
 
 returns-2 : tie.Need-returns-2
 returns-2 c = entry-refused (c .before .before .before .before .before .args .text .now) (c .before .before .before .before .before .args .number) (c .before .r .given .0 .0 .number) (c .before .r .given .0 .0 .place) (ap paper (sym (c .before .r .given .1)) ∙ c .before .before .before .read .ensures)
@@ -27,4 +15,4 @@ returns-2 c = entry-refused (c .before .before .before .before .before .args .te
 pub file-spec : {M : Type 1} → statement M
 file-spec =
     tie.close
-    (tie.spec read-requires enum-known-t numbered-requires enum-known-r returns returns-2)
+    (tie.spec (λ c κs. search needs) (λ c. search needs) numbered-requires (λ c. search needs) (λ c. search needs) returns-2)

@@ -6,17 +6,8 @@ use mathlib.Core.Path.{sym, ap, _∙_}
 use Rattle.torrent_contents.proofs.piece_hash.Statement.{statement}
 use Rattle.torrent_contents.proofs.piece_hash.Tie as tie
 
-read-requires : tie.Need-read-requires
-read-requires c κs = search needs
-
-enum-known-t : tie.Need-enum-known-t
-enum-known-t c = search needs
-
 hash-requires : tie.Need-hash-requires
 hash-requires c κs = inside-text (c .before .before .before .before .before .args .text .now) (c .before .t .given .0 .0) (sym (c .before .before .before .read .ensures) ∙ ap paper (c .before .t .given .1))
-
-enum-known-r : tie.Need-enum-known-r
-enum-known-r c = search needs
 
 returns : tie.Need-returns
 returns c = c .hash .ensures ∙ hash-read (c .before .before .before .before .before .before .args .text .now) (c .before .before .before .before .before .before .args .piece .0) (c .before .before .t .given .0 .0) (sym (c .before .before .before .before .read .ensures) ∙ ap paper (c .before .before .t .given .1))
@@ -26,4 +17,4 @@ returns-2 c = hash-refused (c .before .before .before .before .before .args .tex
 
 pub piece-hash-spec : {M : Type 1} → statement M
 piece-hash-spec =
-    tie.close (tie.spec read-requires enum-known-t hash-requires enum-known-r returns returns-2)
+    tie.close (tie.spec (λ c κs. search needs) (λ c. search needs) hash-requires (λ c. search needs) returns returns-2)

@@ -9,17 +9,8 @@ use mathlib.Core.Path.{ap, _∙_}
 use Rattle.torrent_metainfo.proofs.announce.Statement.{statement}
 use Rattle.torrent_metainfo.proofs.announce.Tie as tie
 
-read-requires : tie.Need-read-requires
-read-requires c κs = search needs
-
-announce-part-requires : tie.Need-announce-part-requires
-announce-part-requires c κs = search needs
-
-bytes-requires : tie.Need-bytes-requires
-bytes-requires c κs = search needs
-
 returns : tie.Need-returns
 returns c = (c .bytes .ensures .0 ∙ ap (bytesAt (c .before .before .before .before .args .text .now)) (c .before .announce-part .ensures ∙ ap announceIn (c .before .before .read .ensures)), (c .bytes .ensures .1 .0, c .bytes .ensures .1 .1 ∙ ap (λ (p : Part). c .before .before .before .before .args .text .ptr .1 + min (p .from) (length (c .before .before .before .before .args .text .now))) (c .before .announce-part .ensures ∙ ap announceIn (c .before .before .read .ensures))))
 
 pub announce-spec : {M : Type 1} → statement M
-announce-spec = tie.close (tie.spec read-requires announce-part-requires bytes-requires returns)
+announce-spec = tie.close (tie.spec (λ c κs. search needs) (λ c κs. search needs) (λ c κs. search needs) returns)

@@ -8,45 +8,6 @@ use mathlib.Core.Path.{sym, ap, _∙_}
 use Rattle.torrent_metainfo.proofs.announced.Statement.{statement}
 use Rattle.torrent_metainfo.proofs.announced.Tie as tie
 
-slice-aggregate-seek : tie.Need-slice-aggregate-seek
-slice-aggregate-seek c = search needs
-
-seek-requires : tie.Need-seek-requires
-seek-requires c κs = search needs
-
-stop-requires : tie.Need-stop-requires
-stop-requires c κs = search needs
-
-slice-aggregate-seek-2 : tie.Need-slice-aggregate-seek-2
-slice-aggregate-seek-2 c = search needs
-
-seek-requires-2 : tie.Need-seek-requires-2
-seek-requires-2 c κs = search needs
-
-string-under-requires : tie.Need-string-under-requires
-string-under-requires c κs = search needs
-
-enum-known-a : tie.Need-enum-known-a
-enum-known-a c = search needs
-
-dictionary-under-requires : tie.Need-dictionary-under-requires
-dictionary-under-requires c κs = search needs
-
-enum-known-inside : tie.Need-enum-known-inside
-enum-known-inside c = search needs
-
-value-requires : tie.Need-value-requires
-value-requires c κs = search needs
-
-read-requires : tie.Need-read-requires
-read-requires c κs = search needs
-
-enum-known-r : tie.Need-enum-known-r
-enum-known-r c = search needs
-
-enum-known-r-2 : tie.Need-enum-known-r-2
-enum-known-r-2 c = search needs
-
 returns : tie.Need-returns
 returns c = λ d before es l t e. top-read (c .before .before .before .before .before .before .before .before .before .before .before .before .before .before .before .before .args .text .now) d before es l (c .before .before .before .before .before .before .before .before .before .before .before .before .before .before .before .before .args .first) t e (c .before .before .before .before .before .before .before .before .before .before .before .before .before .seek .result) (c .before .before .before .before .before .before .before .before .before .before .seek2 .result) (c .before .before .before .before .before .before .before .before .before .before .before .before .before .seek .ensures) (c .before .before .before .before .before .before .before .before .before .before .seek2 .ensures ∙ ap (λ (q : ℕ). soughtFrom (c .before .before .before .before .before .before .before .before .before .before .before .before .before .before .before .before .args .text .now) q infoKey) (c .before .before .before .before .before .before .before .before .before .before .before .before .stop .ensures)) (c .before .before .before .before .before .before .before .a .given .0 .0) (ap stringPaper (sym (c .before .before .before .before .before .before .before .a .given .1)) ∙ c .before .before .before .before .before .before .before .before .before .string-under .ensures) (c .before .before .before .inside .given .0 .0) (ap insidePaper (sym (c .before .before .before .inside .given .1)) ∙ c .before .before .before .before .before .dictionary-under .ensures) (c .before .value .result) (c .before .value .ensures) _ (λ f ws k u g. c .read .ensures f ws k u g)
 
@@ -60,19 +21,19 @@ pub announced-spec : {M : Type 1} → statement M
 announced-spec =
     tie.close
     (tie.spec
-    slice-aggregate-seek
-    seek-requires
-    stop-requires
-    slice-aggregate-seek-2
-    seek-requires-2
-    string-under-requires
-    enum-known-a
-    dictionary-under-requires
-    enum-known-inside
-    value-requires
-    read-requires
-    enum-known-r
-    enum-known-r-2
+    (λ c. search needs)
+    (λ c κs. search needs)
+    (λ c κs. search needs)
+    (λ c. search needs)
+    (λ c κs. search needs)
+    (λ c κs. search needs)
+    (λ c. search needs)
+    (λ c κs. search needs)
+    (λ c. search needs)
+    (λ c κs. search needs)
+    (λ c κs. search needs)
+    (λ c. search needs)
+    (λ c. search needs)
     returns
     returns-2
     returns-3)

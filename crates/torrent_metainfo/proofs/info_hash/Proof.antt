@@ -9,21 +9,6 @@ use mathlib.Core.Path.{sym, ap, _∙_}
 use Rattle.torrent_metainfo.proofs.info_hash.Statement.{statement}
 use Rattle.torrent_metainfo.proofs.info_hash.Tie as tie
 
-read-requires : tie.Need-read-requires
-read-requires c κs = search needs
-
-enum-known-t : tie.Need-enum-known-t
-enum-known-t c = search needs
-
-bytes-requires : tie.Need-bytes-requires
-bytes-requires c κs = search needs
-
-digest-requires : tie.Need-digest-requires
-digest-requires c κs = search needs
-
-enum-known-r : tie.Need-enum-known-r
-enum-known-r c = search needs
-
 returns : tie.Need-returns
 returns c = c .digest .ensures ∙ ap (λ (m : List ℕ). digestOf m (c .before .before .before .before .before .before .before .before .args .out .now)) (c .before .before .bytes .ensures .0) ∙ ap (hashedIn (c .before .before .before .before .before .before .before .before .args .text .now) (c .before .before .before .before .before .before .before .before .args .out .now)) (ap paper (sym (c .before .before .before .before .t .given .1)) ∙ c .before .before .before .before .before .before .read .ensures)
 
@@ -34,10 +19,10 @@ pub info-hash-spec : {M : Type 1} → statement M
 info-hash-spec =
     tie.close
     (tie.spec
-    read-requires
-    enum-known-t
-    bytes-requires
-    digest-requires
-    enum-known-r
+    (λ c κs. search needs)
+    (λ c. search needs)
+    (λ c κs. search needs)
+    (λ c κs. search needs)
+    (λ c. search needs)
     returns
     returns-2)

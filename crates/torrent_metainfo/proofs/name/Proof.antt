@@ -9,17 +9,8 @@ use mathlib.Core.Path.{ap, _∙_}
 use Rattle.torrent_metainfo.proofs.name.Statement.{statement}
 use Rattle.torrent_metainfo.proofs.name.Tie as tie
 
-read-requires : tie.Need-read-requires
-read-requires c κs = search needs
-
-name-part-requires : tie.Need-name-part-requires
-name-part-requires c κs = search needs
-
-bytes-requires : tie.Need-bytes-requires
-bytes-requires c κs = search needs
-
 returns : tie.Need-returns
 returns c = (c .bytes .ensures .0 ∙ ap (bytesAt (c .before .before .before .before .args .text .now)) (c .before .name-part .ensures ∙ ap nameIn (c .before .before .read .ensures)), (c .bytes .ensures .1 .0, c .bytes .ensures .1 .1 ∙ ap (λ (p : Part). c .before .before .before .before .args .text .ptr .1 + min (p .from) (length (c .before .before .before .before .args .text .now))) (c .before .name-part .ensures ∙ ap nameIn (c .before .before .read .ensures))))
 
 pub name-spec : {M : Type 1} → statement M
-name-spec = tie.close (tie.spec read-requires name-part-requires bytes-requires returns)
+name-spec = tie.close (tie.spec (λ c κs. search needs) (λ c κs. search needs) (λ c κs. search needs) returns)

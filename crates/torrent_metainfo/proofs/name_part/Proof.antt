@@ -6,15 +6,6 @@ use mathlib.Core.Path.{sym, ap, _∙_}
 use Rattle.torrent_metainfo.proofs.name_part.Statement.{statement}
 use Rattle.torrent_metainfo.proofs.name_part.Tie as tie
 
-enum-known-r : tie.Need-enum-known-r
-enum-known-r c = search needs
-
-enum-told : tie.Need-enum-told
-enum-told c = search needs
-
-nothing-requires : tie.Need-nothing-requires
-nothing-requires c κs = search needs
-
 returns : tie.Need-returns
 returns c = ap (λ (x : Reading). nameIn (paper x)) (sym (c .before .before .r .given .1))
 
@@ -22,4 +13,4 @@ returns-2 : tie.Need-returns-2
 returns-2 c = c .nothing .ensures ∙ ap (λ (x : Reading). nameIn (paper x)) (sym (c .before .enum-told .given .1))
 
 pub name-part-spec : {M : Type 1} → statement M
-name-part-spec = tie.close (tie.spec enum-known-r enum-told nothing-requires returns returns-2)
+name-part-spec = tie.close (tie.spec (λ c. search needs) (λ c. search needs) (λ c κs. search needs) returns returns-2)

@@ -6,18 +6,6 @@ use mathlib.Core.Path.{sym, ap, _∙_}
 use Rattle.torrent_metainfo.proofs.read.Statement.{statement}
 use Rattle.torrent_metainfo.proofs.read.Tie as tie
 
-check-requires : tie.Need-check-requires
-check-requires c κs = search needs
-
-enum-told : tie.Need-enum-told
-enum-told c = search needs
-
-top-requires : tie.Need-top-requires
-top-requires c κs = search needs
-
-enum-known-r : tie.Need-enum-known-r
-enum-known-r c = search needs
-
 returns : tie.Need-returns
 returns c = read-with (c .before .before .before .before .before .args .text .now) _ (ap paper (sym (c .before .enum-told .given .1)) ∙ c .before .before .before .check .ensures .0) _ (λ v f. c .top .ensures v f)
 
@@ -26,4 +14,4 @@ returns-2 c = read-not (c .before .before .before .before .before .args .text .n
 
 pub read-spec : {M : Type 1} → statement M
 read-spec =
-    tie.close (tie.spec check-requires enum-told top-requires enum-known-r returns returns-2)
+    tie.close (tie.spec (λ c κs. search needs) (λ c. search needs) (λ c κs. search needs) (λ c. search needs) returns returns-2)

@@ -6,18 +6,6 @@ use mathlib.Core.Path.{sym, ap, _∙_}
 use Rattle.torrent_metainfo.proofs.top.Statement.{statement}
 use Rattle.torrent_metainfo.proofs.top.Tie as tie
 
-dictionary-at-requires : tie.Need-dictionary-at-requires
-dictionary-at-requires c κs = search needs
-
-enum-known-first : tie.Need-enum-known-first
-enum-known-first c = search needs
-
-announced-requires : tie.Need-announced-requires
-announced-requires c κs = search needs
-
-enum-known-r : tie.Need-enum-known-r
-enum-known-r c = search needs
-
 returns : tie.Need-returns
 returns c = λ v f. whole-with (c .before .before .before .before .before .before .args .text .now) v f (c .before .before .first .given .0 .0) (ap insidePaper (sym (c .before .before .first .given .1)) ∙ c .before .before .before .before .dictionary-at .ensures) _ (λ d before es l t e. c .announced .ensures d before es l t e)
 
@@ -28,9 +16,9 @@ pub top-spec : {M : Type 1} → statement M
 top-spec =
     tie.close
     (tie.spec
-    dictionary-at-requires
-    enum-known-first
-    announced-requires
-    enum-known-r
+    (λ c κs. search needs)
+    (λ c. search needs)
+    (λ c κs. search needs)
+    (λ c. search needs)
     returns
     returns-2)

@@ -7,15 +7,6 @@ use Rattle.refusal.specs.Paper.{map}
 use Rattle.tracker.proofs.failure.Statement.{statement}
 use Rattle.tracker.proofs.failure.Tie as tie
 
-string-at-requires : tie.Need-string-at-requires
-string-at-requires c κs = search needs
-
-enum-known-reason : tie.Need-enum-known-reason
-enum-known-reason c = search needs
-
-enum-known-r : tie.Need-enum-known-r
-enum-known-r c = search needs
-
 returns : tie.Need-returns
 returns c = via stringPaper (map failure) (c .before .before .before .string-at .ensures) (c .before .reason .given .1)
 
@@ -24,4 +15,4 @@ returns-2 c = via stringPaper (map failure) (c .before .before .before .string-a
 
 pub failure-spec : {M : Type 1} → statement M
 failure-spec =
-    tie.close (tie.spec string-at-requires enum-known-reason enum-known-r returns returns-2)
+    tie.close (tie.spec (λ c κs. search needs) (λ c. search needs) (λ c. search needs) returns returns-2)

@@ -7,15 +7,6 @@ use Rattle.refusal.specs.Paper.{map}
 use Rattle.tracker.proofs.listed_peers.Statement.{statement}
 use Rattle.tracker.proofs.listed_peers.Tie as tie
 
-count-requires : tie.Need-count-requires
-count-requires c κs = search needs
-
-enum-known-count : tie.Need-enum-known-count
-enum-known-count c = search needs
-
-enum-known-r : tie.Need-enum-known-r
-enum-known-r c = search needs
-
 returns : tie.Need-returns
 returns c = via countPaper (map (listing (c .before .before .before .before .before .args .interval) (c .before .before .before .before .before .args .first))) (c .before .before .before .count .ensures) (c .before .count2 .given .1)
 
@@ -24,4 +15,4 @@ returns-2 c = via countPaper (map (listing (c .before .before .before .before .b
 
 pub listed-peers-spec : {M : Type 1} → statement M
 listed-peers-spec =
-    tie.close (tie.spec count-requires enum-known-count enum-known-r returns returns-2)
+    tie.close (tie.spec (λ c κs. search needs) (λ c. search needs) (λ c. search needs) returns returns-2)

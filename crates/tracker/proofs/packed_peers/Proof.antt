@@ -11,11 +11,8 @@ use Rattle.tracker.proofs.packed_peers.Tie as tie
 returns : tie.Need-returns
 returns c = sixes-whole (c .before .args .interval) (c .before .args .at) (c .before .args .p .from) (c .before .args .p .len) (omega arith)
 
-refused-requires : tie.Need-refused-requires
-refused-requires c κs = search needs
-
 returns-2 : tie.Need-returns-2
 returns-2 c = ap paper (c .refused .ensures) ∙ sixes-cut (c .before .before .args .interval) (c .before .before .args .at) (c .before .before .args .p .from) (c .before .before .args .p .len) (omega arith)
 
 pub packed-peers-spec : {M : Type 1} → statement M
-packed-peers-spec = tie.close (tie.spec returns refused-requires returns-2)
+packed-peers-spec = tie.close (tie.spec returns (λ c κs. search needs) returns-2)

@@ -2,22 +2,9 @@
 use borrow.Author.Needs.{needs}
 use Rattle.bencode.specs.Answers.{paper}
 use Rattle.tracker.proofs.Agreeing.{read-whole, read-refused}
-use Rattle.refusal.specs.Paper.{refused}
 use mathlib.Core.Path.{sym, ap, _∙_}
 use Rattle.tracker.proofs.read.Statement.{statement}
 use Rattle.tracker.proofs.read.Tie as tie
-
-check-requires : tie.Need-check-requires
-check-requires c κs = search needs
-
-enum-told : tie.Need-enum-told
-enum-told c = search needs
-
-whole-requires : tie.Need-whole-requires
-whole-requires c κs = search needs
-
-enum-known-r : tie.Need-enum-known-r
-enum-known-r c = search needs
 
 returns : tie.Need-returns
 returns c = (c .whole .ensures) ∙ read-whole (c .before .before .before .before .before .args .text .now) _ (ap paper (sym (c .before .enum-told .given .1)) ∙ (c .before .before .before .check .ensures .0))
@@ -27,4 +14,4 @@ returns-2 c = read-refused (c .before .before .before .before .before .args .tex
 
 pub read-spec : {M : Type 1} → statement M
 read-spec =
-    tie.close (tie.spec check-requires enum-told whole-requires enum-known-r returns returns-2)
+    tie.close (tie.spec (λ c κs. search needs) (λ c. search needs) (λ c κs. search needs) (λ c. search needs) returns returns-2)

@@ -18,32 +18,17 @@ abbrev μ-loop : tie.MeasureT-loop
 loop-holds : tie.Need-loop-holds Inv-loop μ-loop
 loop-holds c = refl
 
-file-at-requires : tie.Need-file-at-requires Inv-loop μ-loop
-file-at-requires c κs = search needs
-
-enum-known-f : tie.Need-enum-known-f Inv-loop μ-loop
-enum-known-f c = search needs
-
-listed-requires : tie.Need-listed-requires Inv-loop μ-loop
-listed-requires c κs = search needs
-
 returns : tie.Need-returns Inv-loop μ-loop
 returns c = ap foundPaper (c .listed .ensures) ∙ walk-here (c .before .before .before .before .before .before .before .before .args .text .now) (c .before .before .before .before .before .before .loop .at) (c .before .before .before .before .before .before .loop .passed .0) (c .before .before .before .before .before .before .loop .left) (c .before .before .before .f .given .0 .0) (omega arith) (ap filePaper (sym (c .before .before .before .f .given .1)) ∙ c .before .before .before .before .before .file-at .ensures) ∙ c .before .before .before .before .before .before .loop .inv
 
 sub-left : tie.Need-sub-left Inv-loop μ-loop
 sub-left c = omega arith
 
-with-file-requires : tie.Need-with-file-requires Inv-loop μ-loop
-with-file-requires c κs = search needs
-
 loop-less : tie.Need-loop-less Inv-loop μ-loop
 loop-less c = omega arith
 
 loop-again : tie.Need-loop-again Inv-loop μ-loop
 loop-again c = walk-more (c .before .before .before .before .before .before .before .before .args .text .now) (c .before .before .before .before .before .before .loop .at) (c .before .before .before .before .before .before .loop .passed .0) (c .before .before .before .before .before .before .loop .left) (c .before .before .before .f .given .0 .0) (c .with-file .result .0) (λ e. omega arith) (ap filePaper (sym (c .before .before .before .f .given .1)) ∙ c .before .before .before .before .before .file-at .ensures) (omega (arith, c .with-file .ensures)) ∙ c .before .before .before .before .before .before .loop .inv
-
-enum-known-r : tie.Need-enum-known-r Inv-loop μ-loop
-enum-known-r c = search needs
 
 returns-2 : tie.Need-returns-2 Inv-loop μ-loop
 returns-2 c = walk-bad (c .before .before .before .before .before .before .args .text .now) (c .before .before .before .before .loop .at) (c .before .before .before .before .loop .passed .0) (c .before .before .before .before .loop .left) (c .before .r .given .0 .0 .number) (c .before .r .given .0 .0 .place) (ap filePaper (sym (c .before .r .given .1)) ∙ c .before .before .before .file-at .ensures) ∙ c .before .before .before .before .loop .inv
@@ -55,13 +40,13 @@ nth-spec =
     Inv-loop
     μ-loop
     loop-holds
-    file-at-requires
-    enum-known-f
-    listed-requires
+    (λ c κs. search needs)
+    (λ c. search needs)
+    (λ c κs. search needs)
     returns
     sub-left
-    with-file-requires
+    (λ c κs. search needs)
     loop-less
     loop-again
-    enum-known-r
+    (λ c. search needs)
     returns-2)

@@ -5,18 +5,6 @@ use mathlib.Core.Path.{sym, ap, _∙_}
 use Rattle.torrent_contents.proofs.pieces.agrees.Statement.{statement}
 use Rattle.torrent_contents.proofs.pieces.agrees.Tie as tie
 
-agrees-requires : tie.Need-agrees-requires
-agrees-requires c κs = search needs
-
-enum-told : tie.Need-enum-told
-enum-told c = search needs
-
-enum-told-2 : tie.Need-enum-told-2
-enum-told-2 c = search needs
-
-enum-known-r : tie.Need-enum-known-r
-enum-known-r c = search needs
-
 returns : tie.Need-returns
 returns c = ap agreementPaper (sym (c .enum-told .given .1)) ∙ c .before .before .agrees .ensures
 
@@ -29,4 +17,4 @@ returns-3 c = ap agreementPaper (sym (c .before .r .given .1)) ∙ c .before .be
 pub agrees-spec : {M : Type 1} → statement M
 agrees-spec =
     tie.close
-    (tie.spec agrees-requires enum-told enum-told-2 enum-known-r returns returns-2 returns-3)
+    (tie.spec (λ c κs. search needs) (λ c. search needs) (λ c. search needs) (λ c. search needs) returns returns-2 returns-3)

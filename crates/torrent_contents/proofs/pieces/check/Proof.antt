@@ -7,35 +7,11 @@ use mathlib.Core.Path.{sym, ap, _∙_}
 use Rattle.torrent_contents.proofs.pieces.check.Statement.{statement}
 use Rattle.torrent_contents.proofs.pieces.check.Tie as tie
 
-hash-requires : tie.Need-hash-requires
-hash-requires c κs = search needs
-
-enum-known-part : tie.Need-enum-known-part
-enum-known-part c = search needs
-
-refused-requires : tie.Need-refused-requires
-refused-requires c κs = search needs
-
 returns : tie.Need-returns
 returns c = ap checkPaper (c .refused .ensures) ∙ check-long (c .before .before .before .before .before .before .before .before .args .text .now) (c .before .before .before .before .before .before .before .before .args .piece .0) (c .before .before .before .before .before .before .before .before .args .bytes .now) (c .before .before .before .before .before .before .before .before .args .t) (c .before .before .before .part .given .0 .0) (ap hashPaper (sym (c .before .before .before .part .given .1)) ∙ c .before .before .before .before .before .hash .ensures) (omega arith)
 
-size-requires : tie.Need-size-requires
-size-requires c κs = search needs
-
-bytes-requires : tie.Need-bytes-requires
-bytes-requires c κs = search needs
-
-agrees-requires : tie.Need-agrees-requires
-agrees-requires c κs = search needs
-
 returns-2 : tie.Need-returns-2
 returns-2 c = c .agrees .ensures ∙ check-agreed (c .before .before .before .before .before .before .before .before .before .before .before .before .args .text .now) (c .before .before .before .before .before .before .before .before .before .before .before .before .args .piece .0) (c .before .before .before .before .before .before .before .before .before .before .before .before .args .bytes .now) (c .before .before .before .before .before .before .before .before .before .before .before .before .args .t) (c .before .before .before .before .before .before .before .part .given .0 .0) (ap hashPaper (sym (c .before .before .before .before .before .before .before .part .given .1)) ∙ c .before .before .before .before .before .before .before .before .before .hash .ensures) (omega arith) (c .before .before .before .size .result) (c .before .before .before .size .ensures) (c .before .before .if2 .taken) _ (c .before .bytes .ensures .0)
-
-refused-requires-2 : tie.Need-refused-requires-2
-refused-requires-2 c κs = search needs
-
-enum-known-r : tie.Need-enum-known-r
-enum-known-r c = search needs
 
 returns-3 : tie.Need-returns-3
 returns-3 c = ap checkPaper (c .refused2 .ensures) ∙ check-outside (c .before .before .before .before .before .before .before .before .before .before .before .args .text .now) (c .before .before .before .before .before .before .before .before .before .before .before .args .piece .0) (c .before .before .before .before .before .before .before .before .before .before .before .args .bytes .now) (c .before .before .before .before .before .before .before .before .before .before .before .args .t) (c .before .before .before .before .before .before .part .given .0 .0) (ap hashPaper (sym (c .before .before .before .before .before .before .part .given .1)) ∙ c .before .before .before .before .before .before .before .before .hash .ensures) (omega arith) (c .before .before .size .result) (c .before .before .size .ensures) (λ e. c .before .if2 .left e)
@@ -47,15 +23,15 @@ pub check-spec : {M : Type 1} → statement M
 check-spec =
     tie.close
     (tie.spec
-    hash-requires
-    enum-known-part
-    refused-requires
+    (λ c κs. search needs)
+    (λ c. search needs)
+    (λ c κs. search needs)
     returns
-    size-requires
-    bytes-requires
-    agrees-requires
+    (λ c κs. search needs)
+    (λ c κs. search needs)
+    (λ c κs. search needs)
     returns-2
-    refused-requires-2
-    enum-known-r
+    (λ c κs. search needs)
+    (λ c. search needs)
     returns-3
     returns-4)

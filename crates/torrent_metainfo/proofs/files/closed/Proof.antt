@@ -8,12 +8,6 @@ use borrow.Author.Needs.{needs}
 use Rattle.torrent_metainfo.proofs.files.closed.Statement.{statement}
 use Rattle.torrent_metainfo.proofs.files.closed.Tie as tie
 
-enum-known-past : tie.Need-enum-known-past
-enum-known-past c = search needs
-
-enum-known-past-2 : tie.Need-enum-known-past-2
-enum-known-past-2 c = search needs
-
 returns : tie.Need-returns
 returns c = ap (λ (x : Past). map {B = File} (λ q. record { length = c .before .before .before .args .size; path = c .before .before .before .args .path; next = q }) (pastPaper x)) (sym (c .before .past .given .1))
 
@@ -21,4 +15,4 @@ returns-2 : tie.Need-returns-2
 returns-2 c = ap (λ (x : Past). map {B = File} (λ q. record { length = c .before .before .before .args .size; path = c .before .before .before .args .path; next = q }) (pastPaper x)) (sym (c .before .past2 .given .1))
 
 pub closed-spec : {M : Type 1} → statement M
-closed-spec = tie.close (tie.spec enum-known-past enum-known-past-2 returns returns-2)
+closed-spec = tie.close (tie.spec (λ c. search needs) (λ c. search needs) returns returns-2)

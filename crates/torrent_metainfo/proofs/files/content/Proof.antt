@@ -7,36 +7,6 @@ use borrow.Author.Needs.{needs}
 use Rattle.torrent_metainfo.proofs.files.content.Statement.{statement}
 use Rattle.torrent_metainfo.proofs.files.content.Tie as tie
 
-enum-known-length : tie.Need-enum-known-length
-enum-known-length c = search needs
-
-enum-told : tie.Need-enum-told
-enum-told c = search needs
-
-no-content-requires : tie.Need-no-content-requires
-no-content-requires c κs = search needs
-
-enum-told-2 : tie.Need-enum-told-2
-enum-told-2 c = search needs
-
-one-requires : tie.Need-one-requires
-one-requires c κs = search needs
-
-enum-known-files : tie.Need-enum-known-files
-enum-known-files c = search needs
-
-enum-told-3 : tie.Need-enum-told-3
-enum-told-3 c = search needs
-
-enum-known-listed : tie.Need-enum-known-listed
-enum-known-listed c = search needs
-
-enum-known-listed-2 : tie.Need-enum-known-listed-2
-enum-known-listed-2 c = search needs
-
-enum-known-length-2 : tie.Need-enum-known-length-2
-enum-known-length-2 c = search needs
-
 returns : tie.Need-returns
 returns c = λ d a b l t u h. ap contentPaper (c .no-content .ensures) ∙ content-both (c .before .before .before .before .before .before .before .args .text .now) d (c .before .before .before .before .before .before .before .args .info) l a b (c .before .before .before .before .before .before .before .args .length) (c .before .before .before .before .before .before .before .args .files) t u _ _ _ _ (c .before .before .before .before .length .given .1) (c .before .enum-told .given .1)
 
@@ -56,4 +26,4 @@ returns-6 : tie.Need-returns-6
 returns-6 c = λ d a b l t u h. tells-read (c .before .before .before .before .args .text .now) d a (c .before .before .before .before .args .length) t (c .before .length2 .given .1)
 
 pub content-spec : {M : Type 1} → statement M
-content-spec = tie.close (tie.spec enum-known-length enum-told no-content-requires enum-told-2 one-requires enum-known-files enum-told-3 enum-known-listed enum-known-listed-2 enum-known-length-2 returns returns-2 returns-3 returns-4 returns-5 returns-6)
+content-spec = tie.close (tie.spec (λ c. search needs) (λ c. search needs) (λ c κs. search needs) (λ c. search needs) (λ c κs. search needs) (λ c. search needs) (λ c. search needs) (λ c. search needs) (λ c. search needs) (λ c. search needs) returns returns-2 returns-3 returns-4 returns-5 returns-6)

@@ -7,45 +7,6 @@ use borrow.Author.Needs.{needs}
 use Rattle.torrent_metainfo.proofs.files.file.Statement.{statement}
 use Rattle.torrent_metainfo.proofs.files.file.Tie as tie
 
-dictionary-at-requires : tie.Need-dictionary-at-requires
-dictionary-at-requires c κs = search needs
-
-enum-known-first : tie.Need-enum-known-first
-enum-known-first c = search needs
-
-slice-aggregate-seek : tie.Need-slice-aggregate-seek
-slice-aggregate-seek c = search needs
-
-seek-requires : tie.Need-seek-requires
-seek-requires c κs = search needs
-
-enum-known-value : tie.Need-enum-known-value
-enum-known-value c = search needs
-
-number-at-requires : tie.Need-number-at-requires
-number-at-requires c κs = search needs
-
-enum-known-length : tie.Need-enum-known-length
-enum-known-length c = search needs
-
-with-path-requires : tie.Need-with-path-requires
-with-path-requires c κs = search needs
-
-enum-known-r : tie.Need-enum-known-r
-enum-known-r c = search needs
-
-enum-told : tie.Need-enum-told
-enum-told c = search needs
-
-no-file-requires : tie.Need-no-file-requires
-no-file-requires c κs = search needs
-
-enum-known-r-2 : tie.Need-enum-known-r-2
-enum-known-r-2 c = search needs
-
-enum-known-r-3 : tie.Need-enum-known-r-3
-enum-known-r-3 c = search needs
-
 returns : tie.Need-returns
 returns c = λ d v l t. file-with (c .before .before .before .before .before .before .before .before .before .before .before .before .before .before .before .args .text .now) d (c .before .before .before .before .before .before .before .before .before .before .before .before .before .before .before .args .at) l (c .before .before .before .before .before .before .before .before .before .before .before .first .given .0 .0) (ap insidePaper (sym (c .before .before .before .before .before .before .before .before .before .before .before .first .given .1)) ∙ c .before .before .before .before .before .before .before .before .before .before .before .before .before .dictionary-at .ensures) (c .before .before .before .before .before .before .before .before .seek .result) (c .before .before .before .before .before .before .before .before .seek .ensures) (c .before .before .before .before .before .before .value .given .0 .0) (c .before .before .before .before .before .before .value .given .0 .1 .0) (c .before .before .before .before .before .before .value .given .1) (c .before .before .length .given .0 .0) (c .before .before .length .given .0 .1 .0) (ap numberPaper (sym (c .before .before .length .given .1)) ∙ c .before .before .before .before .number-at .ensures) _ (λ e b ws k u. c .with-path .ensures e b ws k u) v t
 
@@ -62,4 +23,4 @@ returns-5 : tie.Need-returns-5
 returns-5 c = λ d v l t. file-none (c .before .before .before .before .before .args .text .now) d (c .before .before .before .before .before .args .at) l v t (c .before .r3 .given .0 .0 .number) (c .before .r3 .given .0 .0 .place) (ap insidePaper (sym (c .before .r3 .given .1)) ∙ c .before .before .before .dictionary-at .ensures)
 
 pub file-spec : {M : Type 1} → statement M
-file-spec = tie.close (tie.spec dictionary-at-requires enum-known-first slice-aggregate-seek seek-requires enum-known-value number-at-requires enum-known-length with-path-requires enum-known-r enum-told no-file-requires enum-known-r-2 enum-known-r-3 returns returns-2 returns-3 returns-4 returns-5)
+file-spec = tie.close (tie.spec (λ c κs. search needs) (λ c. search needs) (λ c. search needs) (λ c κs. search needs) (λ c. search needs) (λ c κs. search needs) (λ c. search needs) (λ c κs. search needs) (λ c. search needs) (λ c. search needs) (λ c κs. search needs) (λ c. search needs) (λ c. search needs) returns returns-2 returns-3 returns-4 returns-5)

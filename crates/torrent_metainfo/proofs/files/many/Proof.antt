@@ -6,18 +6,6 @@ use borrow.Author.Needs.{needs}
 use Rattle.torrent_metainfo.proofs.files.many.Statement.{statement}
 use Rattle.torrent_metainfo.proofs.files.many.Tie as tie
 
-list-at-requires : tie.Need-list-at-requires
-list-at-requires c κs = search needs
-
-enum-known-first : tie.Need-enum-known-first
-enum-known-first c = search needs
-
-listed-requires : tie.Need-listed-requires
-listed-requires c κs = search needs
-
-enum-known-r : tie.Need-enum-known-r
-enum-known-r c = search needs
-
 returns : tie.Need-returns
 returns c = λ d v l t. many-with (c .before .before .before .before .before .before .args .text .now) (c .before .before .before .before .before .before .args .at) d v l t (c .before .before .first .given .0 .0) (ap insidePaper (sym (c .before .before .first .given .1)) ∙ c .before .before .before .before .list-at .ensures) _ (λ e vs k u. c .listed .ensures e vs k u)
 
@@ -25,4 +13,4 @@ returns-2 : tie.Need-returns-2
 returns-2 c = λ d v l t. many-not (c .before .before .before .before .before .args .text .now) (c .before .before .before .before .before .args .at) d v t (c .before .r .given .0 .0 .number) (c .before .r .given .0 .0 .place) (ap insidePaper (sym (c .before .r .given .1)) ∙ c .before .before .before .list-at .ensures)
 
 pub many-spec : {M : Type 1} → statement M
-many-spec = tie.close (tie.spec list-at-requires enum-known-first listed-requires enum-known-r returns returns-2)
+many-spec = tie.close (tie.spec (λ c κs. search needs) (λ c. search needs) (λ c κs. search needs) (λ c. search needs) returns returns-2)

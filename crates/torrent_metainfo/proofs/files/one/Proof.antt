@@ -9,15 +9,6 @@ use mathlib.Core.Path.{sym, ap, _∙_}
 use Rattle.torrent_metainfo.proofs.files.one.Statement.{statement}
 use Rattle.torrent_metainfo.proofs.files.one.Tie as tie
 
-natural-at-requires : tie.Need-natural-at-requires
-natural-at-requires c κs = search needs
-
-enum-known-n : tie.Need-enum-known-n
-enum-known-n c = search needs
-
-enum-known-r : tie.Need-enum-known-r
-enum-known-r c = search needs
-
 returns : tie.Need-returns
 returns c = λ d v t. ap (map (oneFile (c .before .before .before .before .before .args .at))) (ap naturalPaper (sym (c .before .n .given .1)) ∙ c .before .before .before .natural-at .ensures ∙ natural-is (c .before .before .before .before .before .args .text .now) d (c .before .before .before .before .before .args .at) longestFile v t)
 
@@ -25,4 +16,4 @@ returns-2 : tie.Need-returns-2
 returns-2 c = λ d v t. ap (map (oneFile (c .before .before .before .before .before .args .at))) (ap naturalPaper (sym (c .before .r .given .1)) ∙ c .before .before .before .natural-at .ensures ∙ natural-is (c .before .before .before .before .before .args .text .now) d (c .before .before .before .before .before .args .at) longestFile v t)
 
 pub one-spec : {M : Type 1} → statement M
-one-spec = tie.close (tie.spec natural-at-requires enum-known-n enum-known-r returns returns-2)
+one-spec = tie.close (tie.spec (λ c κs. search needs) (λ c. search needs) (λ c. search needs) returns returns-2)

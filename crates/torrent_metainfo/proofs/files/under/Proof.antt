@@ -6,21 +6,6 @@ use borrow.Author.Needs.{needs}
 use Rattle.torrent_metainfo.proofs.files.under.Statement.{statement}
 use Rattle.torrent_metainfo.proofs.files.under.Tie as tie
 
-enum-known-files : tie.Need-enum-known-files
-enum-known-files c = search needs
-
-many-requires : tie.Need-many-requires
-many-requires c κs = search needs
-
-enum-told : tie.Need-enum-told
-enum-told c = search needs
-
-no-list-requires : tie.Need-no-list-requires
-no-list-requires c κs = search needs
-
-enum-known-files-2 : tie.Need-enum-known-files-2
-enum-known-files-2 c = search needs
-
 returns : tie.Need-returns
 returns c = λ d u l t. tells-found (c .before .before .before .before .before .args .text .now) d (c .before .before .before .before .before .args .info) filesAt u (c .before .before .before .before .before .args .files) (c .before .before .files .given .0 .0) (c .before .before .files .given .0 .1 .0) t (c .before .before .files .given .1) _ (λ v w. c .many .ensures d v l w)
 
@@ -31,4 +16,4 @@ returns-3 : tie.Need-returns-3
 returns-3 c = λ d u l t. tells-read (c .before .before .before .before .args .text .now) d u (c .before .before .before .before .args .files) t (c .before .files2 .given .1)
 
 pub under-spec : {M : Type 1} → statement M
-under-spec = tie.close (tie.spec enum-known-files many-requires enum-told no-list-requires enum-known-files-2 returns returns-2 returns-3)
+under-spec = tie.close (tie.spec (λ c. search needs) (λ c κs. search needs) (λ c. search needs) (λ c κs. search needs) (λ c. search needs) returns returns-2 returns-3)

@@ -6,39 +6,6 @@ use borrow.Author.Needs.{needs}
 use Rattle.torrent_metainfo.proofs.files.with_path.Statement.{statement}
 use Rattle.torrent_metainfo.proofs.files.with_path.Tie as tie
 
-slice-aggregate-seek : tie.Need-slice-aggregate-seek
-slice-aggregate-seek c = search needs
-
-seek-requires : tie.Need-seek-requires
-seek-requires c κs = search needs
-
-enum-known-value : tie.Need-enum-known-value
-enum-known-value c = search needs
-
-path-at-requires : tie.Need-path-at-requires
-path-at-requires c κs = search needs
-
-enum-known-first : tie.Need-enum-known-first
-enum-known-first c = search needs
-
-close-requires : tie.Need-close-requires
-close-requires c κs = search needs
-
-closed-requires : tie.Need-closed-requires
-closed-requires c κs = search needs
-
-enum-known-r : tie.Need-enum-known-r
-enum-known-r c = search needs
-
-enum-told : tie.Need-enum-told
-enum-told c = search needs
-
-no-file-requires : tie.Need-no-file-requires
-no-file-requires c κs = search needs
-
-enum-known-r-2 : tie.Need-enum-known-r-2
-enum-known-r-2 c = search needs
-
 returns : tie.Need-returns
 returns c = λ d b es l t. c .closed .ensures ∙ rest-with (c .before .before .before .before .before .before .before .before .before .before .before .before .args .text .now) d (c .before .before .before .before .before .before .before .before .before .before .before .before .args .from) b es l t (c .before .before .before .before .before .before .before .before .before .before .before .before .args .at) (c .before .before .before .before .before .before .before .before .before .before .before .before .args .size) (c .before .before .before .before .before .before .before .before .before .seek .result) (c .before .before .before .before .before .before .before .before .before .seek .ensures) (c .before .before .before .before .before .before .before .value .given .0 .0) (c .before .before .before .before .before .before .before .value .given .0 .1 .0) (c .before .before .before .before .before .before .before .value .given .1) (c .before .before .before .first .given .0 .0) (c .before .before .before .first .given .0 .1 .0) (λ e v u. ap pathPaper (sym (c .before .before .before .first .given .1)) ∙ c .before .before .before .before .before .path-at .ensures e v u) _ (λ e p ws k u. c .before .close .ensures e p ws k u)
 
@@ -52,4 +19,4 @@ returns-4 : tie.Need-returns-4
 returns-4 c = λ d b es l t. rest-unread (c .before .before .before .before .before .before .args .text .now) d (c .before .before .before .before .before .before .args .from) b es l t (c .before .before .before .before .before .before .args .at) (c .before .before .before .before .before .before .args .size) (c .before .before .before .seek .result) (c .before .before .before .seek .ensures) (c .before .r2 .given .1)
 
 pub with-path-spec : {M : Type 1} → statement M
-with-path-spec = tie.close (tie.spec slice-aggregate-seek seek-requires enum-known-value path-at-requires enum-known-first close-requires closed-requires enum-known-r enum-told no-file-requires enum-known-r-2 returns returns-2 returns-3 returns-4)
+with-path-spec = tie.close (tie.spec (λ c. search needs) (λ c κs. search needs) (λ c. search needs) (λ c κs. search needs) (λ c. search needs) (λ c κs. search needs) (λ c κs. search needs) (λ c. search needs) (λ c. search needs) (λ c κs. search needs) (λ c. search needs) returns returns-2 returns-3 returns-4)

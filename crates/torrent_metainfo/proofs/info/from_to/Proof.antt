@@ -9,8 +9,5 @@ use Rattle.torrent_metainfo.proofs.info.from_to.Tie as tie
 returns : tie.Need-returns
 returns c = let e : _≡_ {A = ℕ} 0 (c .before .args .to - c .before .args .from) = omega arith in ap (λ (x : ℕ). record { from = c .before .args .from; len = x }) e
 
-returns-2 : tie.Need-returns-2
-returns-2 c = search needs
-
 pub from-to-spec : {M : Type 1} → statement M
-from-to-spec = tie.close (tie.spec returns returns-2)
+from-to-spec = tie.close (tie.spec returns (λ c. search needs))

@@ -7,21 +7,6 @@ use mathlib.Core.Path.{ap, _∙_}
 use Rattle.torrent_metainfo.proofs.info.name_under.Statement.{statement}
 use Rattle.torrent_metainfo.proofs.info.name_under.Tie as tie
 
-enum-known-sought : tie.Need-enum-known-sought
-enum-known-sought c = search needs
-
-name-at-requires : tie.Need-name-at-requires
-name-at-requires c κs = search needs
-
-enum-told : tie.Need-enum-told
-enum-told c = search needs
-
-no-name-requires : tie.Need-no-name-requires
-no-name-requires c κs = search needs
-
-enum-known-sought-2 : tie.Need-enum-known-sought-2
-enum-known-sought-2 c = search needs
-
 returns : tie.Need-returns
 returns c = λ d u t. tells-found (c .before .before .before .before .before .args .text .now) d (c .before .before .before .before .before .args .dictionary) nameAt u (c .before .before .before .before .before .args .sought) (c .before .before .sought .given .0 .0) (c .before .before .sought .given .0 .1 .0) t (c .before .before .sought .given .1) _ (λ v w. c .name-at .ensures d v w)
 
@@ -35,11 +20,11 @@ pub name-under-spec : {M : Type 1} → statement M
 name-under-spec =
     tie.close
     (tie.spec
-    enum-known-sought
-    name-at-requires
-    enum-told
-    no-name-requires
-    enum-known-sought-2
+    (λ c. search needs)
+    (λ c κs. search needs)
+    (λ c. search needs)
+    (λ c κs. search needs)
+    (λ c. search needs)
     returns
     returns-2
     returns-3)

@@ -13,66 +13,6 @@ use borrow.Author.Needs.{needs}
 use Rattle.torrent_metainfo.proofs.info.read.Statement.{statement}
 use Rattle.torrent_metainfo.proofs.info.read.Tie as tie
 
-note-requires : tie.Need-note-requires
-note-requires c κs = search needs
-
-name-under-requires : tie.Need-name-under-requires
-name-under-requires c κs = search needs
-
-enum-known-name : tie.Need-enum-known-name
-enum-known-name c = search needs
-
-piece-length-under-requires : tie.Need-piece-length-under-requires
-piece-length-under-requires c κs = search needs
-
-enum-known-n : tie.Need-enum-known-n
-enum-known-n c = search needs
-
-string-under-requires : tie.Need-string-under-requires
-string-under-requires c κs = search needs
-
-enum-known-hashes : tie.Need-enum-known-hashes
-enum-known-hashes c = search needs
-
-content-requires : tie.Need-content-requires
-content-requires c κs = search needs
-
-enum-known-c : tie.Need-enum-known-c
-enum-known-c c = search needs
-
-stop-requires : tie.Need-stop-requires
-stop-requires c κs = search needs
-
-close-requires : tie.Need-close-requires
-close-requires c κs = search needs
-
-enum-known-end : tie.Need-enum-known-end
-enum-known-end c = search needs
-
-from-to-requires : tie.Need-from-to-requires
-from-to-requires c κs = search needs
-
-value-requires : tie.Need-value-requires
-value-requires c κs = search needs
-
-sized-requires : tie.Need-sized-requires
-sized-requires c κs = search needs
-
-enum-known-r : tie.Need-enum-known-r
-enum-known-r c = search needs
-
-enum-known-r-2 : tie.Need-enum-known-r-2
-enum-known-r-2 c = search needs
-
-enum-known-r-3 : tie.Need-enum-known-r-3
-enum-known-r-3 c = search needs
-
-enum-known-r-4 : tie.Need-enum-known-r-4
-enum-known-r-4 c = search needs
-
-enum-known-r-5 : tie.Need-enum-known-r-5
-enum-known-r-5 c = search needs
-
 returns : tie.Need-returns
 returns c = λ d es l t e. let i = informed (c .before .before .before .before .before .before .before .before .before .before .before .before .before .before .before .before .before .before .before .before .before .before .before .before .before .before .args .text .now) d (c .before .before .before .before .before .before .before .before .before .before .before .before .before .before .before .before .before .before .before .before .before .before .before .before .before .before .args .at) (c .before .before .before .before .before .before .before .before .before .before .before .before .before .before .before .before .before .before .before .before .before .before .before .before .before .before .args .first) es l t e (c .before .before .before .before .before .before .before .before .before .before .before .before .before .before .before .before .before .before .before .before .before .before .before .before .note .result) (λ f b ws g u. c .before .before .before .before .before .before .before .before .before .before .before .before .before .before .before .before .before .before .before .before .before .before .before .before .note .ensures f b ws g u) in c .sized .ensures ∙ info-sized (c .before .before .before .before .before .before .before .before .before .before .before .before .before .before .before .before .before .before .before .before .before .before .before .before .before .before .args .announce) (c .before .before .before .before .before .before .before .before .before .before .before .before .before .before .before .before .before .before .before .before .before .before .before .before .before .before .args .at) es (c .before .before .before .before .before .before .before .before .before .before .before .before .before .before .before .before .before .before .before .before .before .name .given .0 .0) (ap stringPaper (sym (c .before .before .before .before .before .before .before .before .before .before .before .before .before .before .before .before .before .before .before .before .before .name .given .1)) ∙ c .before .before .before .before .before .before .before .before .before .before .before .before .before .before .before .before .before .before .before .before .before .before .before .name-under .ensures (i .deep) (lookup (c .before .before .before .before .before .before .before .before .before .before .before .before .before .before .before .before .before .before .before .before .before .before .before .before .before .before .args .at + 1) es nameKey) (i .noted .name)) (c .before .before .before .before .before .before .before .before .before .before .before .before .before .before .before .before .before .n .given .0 .0) (ap naturalPaper (sym (c .before .before .before .before .before .before .before .before .before .before .before .before .before .before .before .before .before .n .given .1)) ∙ c .before .before .before .before .before .before .before .before .before .before .before .before .before .before .before .before .before .before .before .piece-length-under .ensures (i .deep) (lookup (c .before .before .before .before .before .before .before .before .before .before .before .before .before .before .before .before .before .before .before .before .before .before .before .before .before .before .args .at + 1) es pieceLengthKey) (i .noted .piece)) (c .before .before .before .before .before .before .before .before .before .before .before .before .before .hashes .given .0 .0) (ap stringPaper (sym (c .before .before .before .before .before .before .before .before .before .before .before .before .before .hashes .given .1)) ∙ c .before .before .before .before .before .before .before .before .before .before .before .before .before .before .before .string-under .ensures ∙ pieces-asked (c .before .before .before .before .before .before .before .before .before .before .before .before .before .before .before .before .before .before .before .before .before .before .before .before .before .before .args .text .now) (c .before .before .before .before .before .before .before .before .before .before .before .before .before .before .before .before .before .before .before .before .before .before .before .before .before .before .args .at) es (c .before .before .before .before .before .before .before .before .before .before .before .before .before .before .before .before .before .before .before .before .before .before .before .before .note .result) i) (c .before .before .from-to .result) (c .before .value .result) (c .before .before .before .before .before .before .before .before .before .c .given .0 .0) (c .before .before .from-to .ensures ∙ info-part (c .before .before .before .before .before .before .before .before .before .before .before .before .before .before .before .before .before .before .before .before .before .before .before .before .before .before .args .text .now) (i .deep) (c .before .before .before .before .before .before .before .before .before .before .before .before .before .before .before .before .before .before .before .before .before .before .before .before .before .before .args .at) (c .before .before .before .before .before .before .before .stop .result) es (i .levels) (subst (Goes (c .before .before .before .before .before .before .before .before .before .before .before .before .before .before .before .before .before .before .before .before .before .before .before .before .before .before .args .text .now) (i .deep) (c .before .before .before .before .before .before .before .before .before .before .before .before .before .before .before .before .before .before .before .before .before .before .before .before .before .before .args .at + 1) es) (sym (c .before .before .before .before .before .before .before .stop .ensures)) (i .noted .close)) (pastPaper (c .before .before .before .before .before .before .close .result)) (λ f b ws g u. c .before .before .before .before .before .before .close .ensures f b ws g u) (c .before .before .before .before .end .given .0 .0) (ap pastPaper (sym (c .before .before .before .before .end .given .1)))) (c .before .value .ensures ∙ pieces-place (c .before .before .before .before .before .before .before .before .before .before .before .before .before .before .before .before .before .before .before .before .before .before .before .before .before .before .args .text .now) (c .before .before .before .before .before .before .before .before .before .before .before .before .before .before .before .before .before .before .before .before .before .before .before .before .before .before .args .at) es (c .before .before .before .before .before .before .before .before .before .before .before .before .before .before .before .before .before .before .before .before .before .before .before .before .note .result) i) (ap contentPaper (sym (c .before .before .before .before .before .before .before .before .before .c .given .1)) ∙ c .before .before .before .before .before .before .before .before .before .before .before .content .ensures (i .deep) (lookup (c .before .before .before .before .before .before .before .before .before .before .before .before .before .before .before .before .before .before .before .before .before .before .before .before .before .before .args .at + 1) es lengthKey) (lookup (c .before .before .before .before .before .before .before .before .before .before .before .before .before .before .before .before .before .before .before .before .before .before .before .before .before .before .args .at + 1) es filesKey) (i .levels) (i .noted .length) (i .noted .files) (i .noted .listed))
 
@@ -92,4 +32,4 @@ returns-6 : tie.Need-returns-6
 returns-6 c = λ d es l t e. let i = informed (c .before .before .before .before .before .before .args .text .now) d (c .before .before .before .before .before .before .args .at) (c .before .before .before .before .before .before .args .first) es l t e (c .before .before .before .before .note .result) (λ f b ws g u. c .before .before .before .before .note .ensures f b ws g u) in info-name (c .before .before .before .before .before .before .args .announce) (c .before .before .before .before .before .before .args .at) es (c .before .r5 .given .0 .0 .number) (c .before .r5 .given .0 .0 .place) (ap stringPaper (sym (c .before .r5 .given .1)) ∙ c .before .before .before .name-under .ensures (i .deep) (lookup (c .before .before .before .before .before .before .args .at + 1) es nameKey) (i .noted .name))
 
 pub read-spec : {M : Type 1} → statement M
-read-spec = tie.close (tie.spec note-requires name-under-requires enum-known-name piece-length-under-requires enum-known-n string-under-requires enum-known-hashes content-requires enum-known-c stop-requires close-requires enum-known-end from-to-requires value-requires sized-requires enum-known-r enum-known-r-2 enum-known-r-3 enum-known-r-4 enum-known-r-5 returns returns-2 returns-3 returns-4 returns-5 returns-6)
+read-spec = tie.close (tie.spec (λ c κs. search needs) (λ c κs. search needs) (λ c. search needs) (λ c κs. search needs) (λ c. search needs) (λ c κs. search needs) (λ c. search needs) (λ c κs. search needs) (λ c. search needs) (λ c κs. search needs) (λ c κs. search needs) (λ c. search needs) (λ c κs. search needs) (λ c κs. search needs) (λ c κs. search needs) (λ c. search needs) (λ c. search needs) (λ c. search needs) (λ c. search needs) (λ c. search needs) returns returns-2 returns-3 returns-4 returns-5 returns-6)

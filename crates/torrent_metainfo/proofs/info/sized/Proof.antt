@@ -8,35 +8,17 @@ use mathlib.Core.Path.{sym, ap, _∙_}
 use Rattle.torrent_metainfo.proofs.info.sized.Statement.{statement}
 use Rattle.torrent_metainfo.proofs.info.sized.Tie as tie
 
-legal-file-count-requires : tie.Need-legal-file-count-requires
-legal-file-count-requires c κs = search needs
-
-legal-total-requires : tie.Need-legal-total-requires
-legal-total-requires c κs = search needs
-
-pieces-requires : tie.Need-pieces-requires
-pieces-requires c κs = search needs
-
 mul-if3 : tie.Need-mul-if3
 mul-if3 c = record { fits = omega (arith, few-pieces (c .before .before .before .before .before .args .c .total) (piecesOf (c .before .before .before .before .before .args .c .total) (c .before .before .before .before .before .args .piece-length)) (sym (c .before .before .legal-total .ensures) ∙ c .before .if2 .taken), c .pieces .ensures) }
 
 returns : tie.Need-returns
 returns c = sized-right (c .before .before .before .before .before .before .args .announce) (c .before .before .before .before .before .before .args .info) (c .before .before .before .before .before .before .args .name) (c .before .before .before .before .before .before .args .pieces) (c .before .before .before .before .before .before .args .place) (c .before .before .before .before .before .before .args .piece-length) (c .before .before .before .before .before .before .args .c) (sym (c .before .before .before .before .before .legal-file-count .ensures) ∙ c .before .before .before .before .if1 .taken) (sym (c .before .before .before .legal-total .ensures) ∙ c .before .before .if2 .taken) (c .before .pieces .result) (c .before .pieces .ensures) (omega arith)
 
-refused-requires : tie.Need-refused-requires
-refused-requires c κs = search needs
-
 returns-2 : tie.Need-returns-2
 returns-2 c = ap paper (c .refused .ensures) ∙ sized-wrong (c .before .before .before .before .before .before .before .args .announce) (c .before .before .before .before .before .before .before .args .info) (c .before .before .before .before .before .before .before .args .name) (c .before .before .before .before .before .before .before .args .pieces) (c .before .before .before .before .before .before .before .args .place) (c .before .before .before .before .before .before .before .args .piece-length) (c .before .before .before .before .before .before .before .args .c) (sym (c .before .before .before .before .before .before .legal-file-count .ensures) ∙ c .before .before .before .before .before .if1 .taken) (sym (c .before .before .before .before .legal-total .ensures) ∙ c .before .before .before .if2 .taken) (c .before .before .pieces .result) (c .before .before .pieces .ensures) (omega arith)
 
-refused-requires-2 : tie.Need-refused-requires-2
-refused-requires-2 c κs = search needs
-
 returns-3 : tie.Need-returns-3
 returns-3 c = ap paper (c .refused2 .ensures) ∙ sized-total (c .before .before .before .before .before .args .announce) (c .before .before .before .before .before .args .info) (c .before .before .before .before .before .args .name) (c .before .before .before .before .before .args .pieces) (c .before .before .before .before .before .args .place) (c .before .before .before .before .before .args .piece-length) (c .before .before .before .before .before .args .c) (sym (c .before .before .before .before .legal-file-count .ensures) ∙ c .before .before .before .if1 .taken) (sym (c .before .before .legal-total .ensures) ∙ c .before .if2 .left)
-
-refused-requires-3 : tie.Need-refused-requires-3
-refused-requires-3 c κs = search needs
 
 returns-4 : tie.Need-returns-4
 returns-4 c = ap paper (c .refused3 .ensures) ∙ sized-many (c .before .before .before .args .announce) (c .before .before .before .args .info) (c .before .before .before .args .name) (c .before .before .before .args .pieces) (c .before .before .before .args .place) (c .before .before .before .args .piece-length) (c .before .before .before .args .c) (sym (c .before .before .legal-file-count .ensures) ∙ c .before .if1 .left)
@@ -45,14 +27,14 @@ pub sized-spec : {M : Type 1} → statement M
 sized-spec =
     tie.close
     (tie.spec
-    legal-file-count-requires
-    legal-total-requires
-    pieces-requires
+    (λ c κs. search needs)
+    (λ c κs. search needs)
+    (λ c κs. search needs)
     mul-if3
     returns
-    refused-requires
+    (λ c κs. search needs)
     returns-2
-    refused-requires-2
+    (λ c κs. search needs)
     returns-3
-    refused-requires-3
+    (λ c κs. search needs)
     returns-4)

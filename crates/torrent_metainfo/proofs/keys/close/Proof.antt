@@ -18,41 +18,20 @@ abbrev μ-loop : tie.MeasureT-loop
 loop-holds : tie.Need-loop-holds Inv-loop μ-loop
 loop-holds c = closing-start (c .before .args .text .now) (c .before .args .from)
 
-entry-requires : tie.Need-entry-requires Inv-loop μ-loop
-entry-requires c κs = search needs
-
-enum-known-value : tie.Need-enum-known-value Inv-loop μ-loop
-enum-known-value c = search needs
-
-skip-requires : tie.Need-skip-requires Inv-loop μ-loop
-skip-requires c κs = search needs
-
-enum-known-next : tie.Need-enum-known-next Inv-loop μ-loop
-enum-known-next c = search needs
-
 loop-less : tie.Need-loop-less Inv-loop μ-loop
 loop-less c = let x = entry-further (c .before .before .before .before .before .before .before .before .before .before .args .text .now) (c .before .before .before .before .before .before .before .before .loop .p) (c .before .before .before .before .before .value .given .0 .0 .from) (c .before .before .before .before .before .value .given .0 .0 .len) (c .before .before .before .before .before .value .given .0 .1 .0) (c .before .next .given .0 .0) (ap entryPaper (sym (c .before .before .before .before .before .value .given .1)) ∙ c .before .before .before .before .before .before .before .entry .ensures) (ap pastPaper (sym (c .before .next .given .1)) ∙ c .before .before .before .skip .ensures) in omega (arith, x .0, x .1)
 
 loop-again : tie.Need-loop-again Inv-loop μ-loop
 loop-again c = closing-more (c .before .before .before .before .before .before .before .before .before .before .args .text .now) (c .before .before .before .before .before .before .before .before .before .before .args .from) (c .before .before .before .before .before .before .before .before .loop .p) (c .before .before .before .before .before .before .before .before .loop .inv) (c .before .before .before .before .before .value .given .0 .0 .from) (c .before .before .before .before .before .value .given .0 .0 .len) (c .before .before .before .before .before .value .given .0 .1 .0) (ap entryPaper (sym (c .before .before .before .before .before .value .given .1)) ∙ c .before .before .before .before .before .before .before .entry .ensures) (c .before .next .given .0 .0) (ap pastPaper (sym (c .before .next .given .1)) ∙ c .before .before .before .skip .ensures)
 
-enum-known-r : tie.Need-enum-known-r Inv-loop μ-loop
-enum-known-r c = search needs
-
 returns : tie.Need-returns Inv-loop μ-loop
 returns c = closing-bad (c .before .before .before .before .before .before .before .before .before .before .args .text .now) (c .before .before .before .before .before .before .before .before .before .before .args .from) (c .before .before .before .before .before .before .before .before .loop .p) (c .before .before .before .before .before .before .before .before .loop .inv) (c .before .before .before .before .before .value .given .0 .0 .from) (c .before .before .before .before .before .value .given .0 .0 .len) (c .before .before .before .before .before .value .given .0 .1 .0) (ap entryPaper (sym (c .before .before .before .before .before .value .given .1)) ∙ c .before .before .before .before .before .before .before .entry .ensures) (c .before .r .given .0 .0 .number) (c .before .r .given .0 .0 .place) (ap pastPaper (sym (c .before .r .given .1)) ∙ c .before .before .before .skip .ensures)
 
-enum-known-past : tie.Need-enum-known-past Inv-loop μ-loop
-enum-known-past c = search needs
-
 returns-2 : tie.Need-returns-2 Inv-loop μ-loop
 returns-2 c = closing-end (c .before .before .before .before .before .before .args .text .now) (c .before .before .before .before .before .before .args .from) (c .before .before .before .before .loop .p) (c .before .before .before .before .loop .inv) (c .before .past .given .0 .0) (ap entryPaper (sym (c .before .past .given .1)) ∙ c .before .before .before .entry .ensures)
-
-enum-known-r-2 : tie.Need-enum-known-r-2 Inv-loop μ-loop
-enum-known-r-2 c = search needs
 
 returns-3 : tie.Need-returns-3 Inv-loop μ-loop
 returns-3 c = closing-not (c .before .before .before .before .before .before .args .text .now) (c .before .before .before .before .before .before .args .from) (c .before .before .before .before .loop .p) (c .before .before .before .before .loop .inv) (c .before .r2 .given .0 .0 .number) (c .before .r2 .given .0 .0 .place) (ap entryPaper (sym (c .before .r2 .given .1)) ∙ c .before .before .before .entry .ensures)
 
 pub close-spec : {M : Type 1} → statement M
-close-spec = tie.close (tie.spec Inv-loop μ-loop loop-holds entry-requires enum-known-value skip-requires enum-known-next loop-less loop-again enum-known-r returns enum-known-past returns-2 enum-known-r-2 returns-3)
+close-spec = tie.close (tie.spec Inv-loop μ-loop loop-holds (λ c κs. search needs) (λ c. search needs) (λ c κs. search needs) (λ c. search needs) loop-less loop-again (λ c. search needs) returns (λ c. search needs) returns-2 (λ c. search needs) returns-3)

@@ -6,15 +6,6 @@ use borrow.Author.Needs.{needs}
 use Rattle.torrent_metainfo.proofs.keys.past.Statement.{statement}
 use Rattle.torrent_metainfo.proofs.keys.past.Tie as tie
 
-enum-known-listed : tie.Need-enum-known-listed
-enum-known-listed c = search needs
-
-enum-told : tie.Need-enum-told
-enum-told c = search needs
-
-stop-requires : tie.Need-stop-requires
-stop-requires c κs = search needs
-
 returns : tie.Need-returns
 returns c = ap (λ (x : Listing). pastOf (c .before .before .before .args .files) x) (sym (c .before .listed .given .1))
 
@@ -22,4 +13,4 @@ returns-2 : tie.Need-returns-2
 returns-2 c = c .stop .ensures ∙ ap (λ (x : Listing). pastOf (c .before .before .before .args .files) x) (sym (c .before .enum-told .given .1))
 
 pub past-spec : {M : Type 1} → statement M
-past-spec = tie.close (tie.spec enum-known-listed enum-told stop-requires returns returns-2)
+past-spec = tie.close (tie.spec (λ c. search needs) (λ c. search needs) (λ c κs. search needs) returns returns-2)

@@ -15,9 +15,6 @@ shared-slice-read-if3 c = omega arith
 returns-2 : tie.Need-returns-2
 returns-2 c = name-dot (c .before .before .before .before .before .args .name .now) (omega arith) (omega arith)
 
-is-clean-requires : tie.Need-is-clean-requires
-is-clean-requires c κs = search needs
-
 returns-3 : tie.Need-returns-3
 returns-3 c = c .is-clean .ensures ∙ name-one (c .before .before .before .before .before .before .args .name .now) (omega arith) (omega arith)
 
@@ -30,20 +27,11 @@ shared-slice-read-if6 c = omega arith
 returns-4 : tie.Need-returns-4
 returns-4 c = name-dots (c .before .before .before .before .before .before .before .before .args .name .now) (omega arith) (omega arith) (omega arith)
 
-is-clean-requires-2 : tie.Need-is-clean-requires-2
-is-clean-requires-2 c κs = search needs
-
 returns-5 : tie.Need-returns-5
 returns-5 c = c .is-clean2 .ensures ∙ name-two (c .before .before .before .before .before .before .before .before .before .args .name .now) (omega arith) (omega arith) (omega arith)
 
-is-clean-requires-3 : tie.Need-is-clean-requires-3
-is-clean-requires-3 c κs = search needs
-
 returns-6 : tie.Need-returns-6
 returns-6 c = c .is-clean3 .ensures ∙ name-pair (c .before .before .before .before .before .before .before .args .name .now) (omega arith) (omega arith)
-
-is-clean-requires-4 : tie.Need-is-clean-requires-4
-is-clean-requires-4 c κs = search needs
 
 returns-7 : tie.Need-returns-7
 returns-7 c = c .is-clean4 .ensures ∙ name-long (c .before .before .before .before .before .args .name .now) (omega arith) (omega arith) (omega arith)
@@ -55,14 +43,14 @@ is-good-spec =
     returns
     shared-slice-read-if3
     returns-2
-    is-clean-requires
+    (λ c κs. search needs)
     returns-3
     shared-slice-read-if5
     shared-slice-read-if6
     returns-4
-    is-clean-requires-2
+    (λ c κs. search needs)
     returns-5
-    is-clean-requires-3
+    (λ c κs. search needs)
     returns-6
-    is-clean-requires-4
+    (λ c κs. search needs)
     returns-7)

@@ -7,26 +7,8 @@ use mathlib.Core.Path.{sym, ap, _∙_}
 use Rattle.torrent_metainfo.proofs.names.name_at.Statement.{statement}
 use Rattle.torrent_metainfo.proofs.names.name_at.Tie as tie
 
-string-at-requires : tie.Need-string-at-requires
-string-at-requires c κs = search needs
-
-enum-known-part : tie.Need-enum-known-part
-enum-known-part c = search needs
-
-bytes-requires : tie.Need-bytes-requires
-bytes-requires c κs = search needs
-
-is-good-requires : tie.Need-is-good-requires
-is-good-requires c κs = search needs
-
 returns : tie.Need-returns
 returns c = λ d v t. name-good (c .before .before .before .before .before .before .before .before .args .text .now) d (c .before .before .before .before .before .before .before .before .args .at) v t (c .before .before .before .before .part .given .0 .0) (ap stringPaper (sym (c .before .before .before .before .part .given .1)) ∙ c .before .before .before .before .before .before .string-at .ensures) (sym (c .before .is-good .ensures ∙ ap goodName (c .before .before .bytes .ensures .0)) ∙ c .if1 .taken)
-
-bad-name-requires : tie.Need-bad-name-requires
-bad-name-requires c κs = search needs
-
-enum-known-r : tie.Need-enum-known-r
-enum-known-r c = search needs
 
 returns-2 : tie.Need-returns-2
 returns-2 c = λ d v t. ap stringPaper (c .bad-name .ensures) ∙ name-bad (c .before .before .before .before .before .before .before .before .before .args .text .now) d (c .before .before .before .before .before .before .before .before .before .args .at) v t (c .before .before .before .before .before .part .given .0 .0) (ap stringPaper (sym (c .before .before .before .before .before .part .given .1)) ∙ c .before .before .before .before .before .before .before .string-at .ensures) (sym (c .before .before .is-good .ensures ∙ ap goodName (c .before .before .before .bytes .ensures .0)) ∙ c .before .if1 .left)
@@ -38,12 +20,12 @@ pub name-at-spec : {M : Type 1} → statement M
 name-at-spec =
     tie.close
     (tie.spec
-    string-at-requires
-    enum-known-part
-    bytes-requires
-    is-good-requires
+    (λ c κs. search needs)
+    (λ c. search needs)
+    (λ c κs. search needs)
+    (λ c κs. search needs)
     returns
-    bad-name-requires
-    enum-known-r
+    (λ c κs. search needs)
+    (λ c. search needs)
     returns-2
     returns-3)

@@ -4,14 +4,8 @@ use native.Mathlib.Omega.{arith}
 use Rattle.tracker.proofs.compact.port.Statement.{statement}
 use Rattle.tracker.proofs.compact.port.Tie as tie
 
-mul-result : tie.Need-mul-result
-mul-result c = search needs
-
-add-result : tie.Need-add-result
-add-result c = search needs
-
 returns : tie.Need-returns
 returns c = omega arith
 
 pub port-spec : {M : Type 1} → statement M
-port-spec = tie.close (tie.spec mul-result add-result returns)
+port-spec = tie.close (tie.spec (λ c. search needs) (λ c. search needs) returns)

@@ -26,12 +26,6 @@ shared-slice-read-if1 c = omega arith
 returns : tie.Need-returns Inv-loop μ-loop
 returns c = counting-close (c .before .before .before .before .before .args .text .now) (c .before .before .before .before .before .args .first) (c .before .before .before .loop .at) (c .before .before .before .loop .n) (c .before .before .before .loop .inv) (omega arith) (c .if1 .taken)
 
-listed-at-requires : tie.Need-listed-at-requires Inv-loop μ-loop
-listed-at-requires c κs = search needs
-
-enum-known-next : tie.Need-enum-known-next Inv-loop μ-loop
-enum-known-next c = search needs
-
 add-n : tie.Need-add-n Inv-loop μ-loop
 add-n c = omega (arith, (c .before .before .before .before .before .before .before .loop .inv .few))
 
@@ -41,14 +35,8 @@ loop-less c = omega (arith, listed-further (c .before .before .before .before .b
 loop-again : tie.Need-loop-again Inv-loop μ-loop
 loop-again c = counting-more (c .before .before .before .before .before .before .before .before .before .args .text .now) (c .before .before .before .before .before .before .before .before .before .args .first) (c .before .before .before .before .before .before .before .loop .at) (c .before .before .before .before .before .before .before .loop .n) (c .before .before .before .before .before .before .before .loop .inv) _ _ (omega arith) (c .before .before .before .before .if1 .left) (ap listedPaper (sym (c .before .next .given .1)) ∙ (c .before .before .before .listed-at .ensures))
 
-enum-known-r : tie.Need-enum-known-r Inv-loop μ-loop
-enum-known-r c = search needs
-
 returns-2 : tie.Need-returns-2 Inv-loop μ-loop
 returns-2 c = counting-bad (c .before .before .before .before .before .before .before .before .before .args .text .now) (c .before .before .before .before .before .before .before .before .before .args .first) (c .before .before .before .before .before .before .before .loop .at) (c .before .before .before .before .before .before .before .loop .n) (c .before .before .before .before .before .before .before .loop .inv) _ (omega arith) (c .before .before .before .before .if1 .left) (ap listedPaper (sym (c .before .r .given .1)) ∙ (c .before .before .before .listed-at .ensures))
-
-uncounted-requires : tie.Need-uncounted-requires Inv-loop μ-loop
-uncounted-requires c κs = search needs
 
 returns-3 : tie.Need-returns-3 Inv-loop μ-loop
 returns-3 c = ap countPaper (c .uncounted .ensures) ∙ counting-out (c .before .before .before .before .args .text .now) (c .before .before .before .before .args .first) (c .before .before .loop .at) (c .before .before .loop .n) (c .before .before .loop .inv) (omega arith)
@@ -62,12 +50,12 @@ count-spec =
     loop-holds
     shared-slice-read-if1
     returns
-    listed-at-requires
-    enum-known-next
+    (λ c κs. search needs)
+    (λ c. search needs)
     add-n
     loop-less
     loop-again
-    enum-known-r
+    (λ c. search needs)
     returns-2
-    uncounted-requires
+    (λ c κs. search needs)
     returns-3)

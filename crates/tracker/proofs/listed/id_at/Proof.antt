@@ -8,20 +8,8 @@ use mathlib.Core.Path.{ap, _∙_}
 use Rattle.tracker.proofs.listed.id_at.Statement.{statement}
 use Rattle.tracker.proofs.listed.id_at.Tie as tie
 
-string-at-requires : tie.Need-string-at-requires
-string-at-requires c κs = search needs
-
-enum-known-id : tie.Need-enum-known-id
-enum-known-id c = search needs
-
 returns : tie.Need-returns
 returns c = id-good _ _ (c .if1 .taken) ∙ via stringPaper (λ o. then o (idLength (c .before .before .before .before .before .before .before .args .at))) (c .before .before .before .before .before .string-at .ensures) (c .before .before .before .id .given .1)
-
-unread-requires : tie.Need-unread-requires
-unread-requires c κs = search needs
-
-enum-known-r : tie.Need-enum-known-r
-enum-known-r c = search needs
 
 returns-2 : tie.Need-returns-2
 returns-2 c = ap stringPaper (c .unread .ensures) ∙ id-bad _ _ (c .before .if1 .left) ∙ via stringPaper (λ o. then o (idLength (c .before .before .before .before .before .before .before .before .args .at))) (c .before .before .before .before .before .before .string-at .ensures) (c .before .before .before .before .id .given .1)
@@ -33,10 +21,10 @@ pub id-at-spec : {M : Type 1} → statement M
 id-at-spec =
     tie.close
     (tie.spec
-    string-at-requires
-    enum-known-id
+    (λ c κs. search needs)
+    (λ c. search needs)
     returns
-    unread-requires
-    enum-known-r
+    (λ c κs. search needs)
+    (λ c. search needs)
     returns-2
     returns-3)

@@ -7,21 +7,6 @@ use mathlib.Core.Path.{ap, _∙_}
 use Rattle.tracker.proofs.listed.id_under.Statement.{statement}
 use Rattle.tracker.proofs.listed.id_under.Tie as tie
 
-enum-known-sought : tie.Need-enum-known-sought
-enum-known-sought c = search needs
-
-id-at-requires : tie.Need-id-at-requires
-id-at-requires c κs = search needs
-
-enum-told : tie.Need-enum-told
-enum-told c = search needs
-
-unread-requires : tie.Need-unread-requires
-unread-requires c κs = search needs
-
-enum-known-sought-2 : tie.Need-enum-known-sought-2
-enum-known-sought-2 c = search needs
-
 returns : tie.Need-returns
 returns c = (c .id-at .ensures) ∙ as-found (c .before .before .before .before .before .args .dictionary) (idOf (c .before .before .before .before .before .args .text .now)) _ _ (c .before .before .sought .given .1)
 
@@ -35,11 +20,11 @@ pub id-under-spec : {M : Type 1} → statement M
 id-under-spec =
     tie.close
     (tie.spec
-    enum-known-sought
-    id-at-requires
-    enum-told
-    unread-requires
-    enum-known-sought-2
+    (λ c. search needs)
+    (λ c κs. search needs)
+    (λ c. search needs)
+    (λ c κs. search needs)
+    (λ c. search needs)
     returns
     returns-2
     returns-3)

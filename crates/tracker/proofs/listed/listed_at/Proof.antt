@@ -8,18 +8,6 @@ use mathlib.Core.Path.{_∙_}
 use Rattle.tracker.proofs.listed.listed_at.Statement.{statement}
 use Rattle.tracker.proofs.listed.listed_at.Tie as tie
 
-dictionary-at-requires : tie.Need-dictionary-at-requires
-dictionary-at-requires c κs = search needs
-
-enum-known-first : tie.Need-enum-known-first
-enum-known-first c = search needs
-
-peer-in-requires : tie.Need-peer-in-requires
-peer-in-requires c κs = search needs
-
-enum-known-r : tie.Need-enum-known-r
-enum-known-r c = search needs
-
 returns : tie.Need-returns
 returns c = (c .peer-in .ensures) ∙ via insidePaper (λ o. then o (peerBy (c .before .before .before .before .before .before .args .text .now) (c .before .before .before .before .before .before .args .at))) (c .before .before .before .before .dictionary-at .ensures) (c .before .before .first .given .1) ∙ listed-by (c .before .before .before .before .before .before .args .text .now) (c .before .before .before .before .before .before .args .at)
 
@@ -30,9 +18,9 @@ pub listed-at-spec : {M : Type 1} → statement M
 listed-at-spec =
     tie.close
     (tie.spec
-    dictionary-at-requires
-    enum-known-first
-    peer-in-requires
-    enum-known-r
+    (λ c κs. search needs)
+    (λ c. search needs)
+    (λ c κs. search needs)
+    (λ c. search needs)
     returns
     returns-2)

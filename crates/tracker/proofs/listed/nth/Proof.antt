@@ -17,12 +17,6 @@ abbrev μ-loop : tie.MeasureT-loop
 loop-holds : tie.Need-loop-holds Inv-loop μ-loop
 loop-holds c = refl
 
-skip-requires : tie.Need-skip-requires Inv-loop μ-loop
-skip-requires c κs = search needs
-
-enum-known-next : tie.Need-enum-known-next Inv-loop μ-loop
-enum-known-next c = search needs
-
 sub-left : tie.Need-sub-left Inv-loop μ-loop
 sub-left c = omega arith
 
@@ -32,14 +26,8 @@ loop-less c = omega arith
 loop-again : tie.Need-loop-again Inv-loop μ-loop
 loop-again c = nth-more (c .before .before .before .before .before .before .before .args .text .now) (c .before .before .before .before .before .loop .at) (c .before .before .before .before .before .loop .left) _ (omega arith) (ap pastPaper (sym (c .before .next .given .1)) ∙ (c .before .before .before .skip .ensures)) ∙ (c .before .before .before .before .before .loop .inv)
 
-enum-known-r : tie.Need-enum-known-r Inv-loop μ-loop
-enum-known-r c = search needs
-
 returns : tie.Need-returns Inv-loop μ-loop
 returns c = nth-bad (c .before .before .before .before .before .before .before .args .text .now) (c .before .before .before .before .before .loop .at) (c .before .before .before .before .before .loop .left) _ (omega arith) (ap pastPaper (sym (c .before .r .given .1)) ∙ (c .before .before .before .skip .ensures)) ∙ (c .before .before .before .before .before .loop .inv)
-
-listed-at-requires : tie.Need-listed-at-requires Inv-loop μ-loop
-listed-at-requires c κs = search needs
 
 returns-2 : tie.Need-returns-2 Inv-loop μ-loop
 returns-2 c = (c .listed-at .ensures) ∙ nth-here (c .before .before .before .before .args .text .now) (c .before .before .loop .at) (c .before .before .loop .left) (omega arith) ∙ (c .before .before .loop .inv)
@@ -51,12 +39,12 @@ nth-spec =
     Inv-loop
     μ-loop
     loop-holds
-    skip-requires
-    enum-known-next
+    (λ c κs. search needs)
+    (λ c. search needs)
     sub-left
     loop-less
     loop-again
-    enum-known-r
+    (λ c. search needs)
     returns
-    listed-at-requires
+    (λ c κs. search needs)
     returns-2)
