@@ -13,7 +13,7 @@ use Rattle.hash_sha1.specs.declared.Hashed.the-variants as hashed
 use Rattle.hash_sha1.proofs.Determined.{digest-refusal-keeps, finish-refusal-keeps}
 use Rattle.torrent_metainfo.specs.Hashes.{hashedIn, infoHashOf}
 use Rattle.torrent_metainfo.specs.declared.Torrent.{Torrent}
-use Rattle.wardrail_rows.specs.Said.{numberOf}
+use Rattle.wardrail.specs.Said.{numberOf}
 use mathlib.Core.Logic.{_↔_}
 use Rattle.refusal.specs.Limits.{longestPiece}
 use Rattle.hash_sha1.specs.Parts.{finishOf}

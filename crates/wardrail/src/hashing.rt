@@ -1,11 +1,13 @@
 // SHA-1 of a message that comes in parts, for C. The message so far is held in six words, the hash value after its whole
 // blocks and how many bytes it has, and in 64 bytes, those after its whole blocks.
+ghost use mathlib.Core.Path.{_≡_};
 ghost use Rattle.hash_sha1.specs.Parts.{begun, addOf, finishOf};
-ghost use Rattle.wardrail_rows.specs.Hashing.{stateOf, Holds, Digested};
+ghost use Rattle.hash_sha1.specs.Digest.{paper as hashedPaper};
+ghost use Rattle.wardrail.specs.Said.{numberOf};
+ghost use Rattle.wardrail.specs.Hashing.{stateOf, Holds, Digested, wordsOf};
+use hash_sha1::Hashed;
 use hash_sha1::stream;
-use wardrail_rows::hashed_number;
-use wardrail_rows::hashing::state;
-use wardrail_rows::hashing::words_of;
+use hash_sha1::stream::Stream;
 
 // The empty message.
 #[no_mangle]
@@ -41,4 +43,36 @@ pub extern "C" fn wardrail_sha1_finish(
     ensures { λ r. ⌜ Digested (finishOf (stateOf (now (words .entry)) (now (tail .entry))) (now (digest .entry))) r (now (digest .exit)) ⌝ }
 {
     hashed_number(stream::finish(state(*words, *tail), digest))
+}
+
+// The six words of a message so far.
+fn words_of(s: Stream) -> [u32; 6]
+    ensures { λ r. ⌜ r ≡ wordsOf s ⌝ }
+{
+    [s.hash.a, s.hash.b, s.hash.c, s.hash.d, s.hash.e, s.length]
+}
+
+// The message so far that six words and 64 bytes hold.
+fn state(w: [u32; 6], tail: [u8; 64]) -> Stream
+    ensures { λ r. ⌜ r ≡ stateOf w tail ⌝ }
+{
+    let mut s = stream::start();
+    s.hash.a = w[0];
+    s.hash.b = w[1];
+    s.hash.c = w[2];
+    s.hash.d = w[3];
+    s.hash.e = w[4];
+    s.tail = tail;
+    s.length = w[5];
+    s
+}
+
+// The number of a digest.
+pub fn hashed_number(h: Hashed) -> u64
+    ensures { λ r. ⌜ r ≡ numberOf (hashedPaper h) ⌝ }
+{
+    match h {
+        Hashed::Written => 0,
+        Hashed::Refused(r) => r.number as u64,
+    }
 }

@@ -13,4 +13,3 @@ pub mod Seating
 pub mod Hearing
 pub mod Scans
 pub mod Telling
-pub mod Rows

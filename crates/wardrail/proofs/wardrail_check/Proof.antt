@@ -1,7 +1,7 @@
 -- `wardrail_check` meets its contract. Assumes nothing.
-use Rattle.wardrail_rows.proofs.Said.{tells}
+use Rattle.wardrail.proofs.Said.{tells}
 use borrow.Author.Needs.{needs}
-use Rattle.wardrail_rows.specs.Said.{detailOf}
+use Rattle.wardrail.specs.Said.{detailOf}
 use Rattle.wardrail.proofs.wardrail_check.Statement.{statement}
 use Rattle.wardrail.proofs.wardrail_check.Tie as tie
 

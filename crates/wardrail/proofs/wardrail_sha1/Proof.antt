@@ -1,5 +1,5 @@
 -- `wardrail_sha1` meets its contract. Assumes nothing.
-use Rattle.wardrail_rows.proofs.Said.{digested}
+use Rattle.wardrail.proofs.Said.{digested}
 use borrow.Author.Needs.{needs}
 use Rattle.wardrail.proofs.wardrail_sha1.Statement.{statement}
 use Rattle.wardrail.proofs.wardrail_sha1.Tie as tie

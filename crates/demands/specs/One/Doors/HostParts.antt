@@ -10,11 +10,11 @@ use Rattle.torrent_metainfo.specs.Reading.{fileAt}
 use Rattle.torrent_contents.specs.Files.{entryOf}
 use Rattle.torrent_contents.specs.Paths.{elementOf}
 use Rattle.torrent_contents.specs.Pieces.{hashOf, checkOf}
-use Rattle.wardrail_rows.specs.Files.{fileDetail, walkedDetail, elementDetail, partDetail, yesDetail}
-use Rattle.wardrail_rows.specs.Frames.{frameDetail, shakeDetail}
-use Rattle.wardrail_rows.specs.Mapping.{spotDetail, Parted}
-use Rattle.wardrail_rows.specs.Said.{detailOf, Tells}
-use Rattle.wardrail_rows.proofs.Keeping as laws
+use Rattle.wardrail.specs.Files.{fileDetail, walkedDetail, elementDetail, partDetail, yesDetail}
+use Rattle.wardrail.specs.Frames.{frameDetail, shakeDetail}
+use Rattle.wardrail.specs.Mapping.{spotDetail, Parted}
+use Rattle.wardrail.specs.Said.{detailOf, Tells}
+use Rattle.wardrail.proofs.Keeping as laws
 use Rattle.demands.specs.One.{Lent, now, Determined1, Determined2}
 
 -- wardrail::files::wardrail_file

@@ -11,12 +11,12 @@ use Rattle.tracker.specs.Entries.{listedAt, packedAt}
 use Rattle.tracker.specs.Reply.{replyOf, nthOf, counted}
 use Rattle.torrent_metainfo.specs.Hashes.{infoHashOf}
 use Rattle.torrent_metainfo.specs.Reading.{readOf}
-use Rattle.wardrail_rows.specs.Hashing.{stateOf, Holds, Digested}
-use Rattle.wardrail_rows.specs.Looks.{lookDetail}
-use Rattle.wardrail_rows.specs.Peers.{peerDetail}
-use Rattle.wardrail_rows.specs.Replies.{replyDetail, entryDetail}
-use Rattle.wardrail_rows.specs.Said.{detailOf, Tells}
-use Rattle.wardrail_rows.specs.Torrents.{torrentDetail}
+use Rattle.wardrail.specs.Hashing.{stateOf, Holds, Digested}
+use Rattle.wardrail.specs.Looks.{lookDetail}
+use Rattle.wardrail.specs.Peers.{peerDetail}
+use Rattle.wardrail.specs.Replies.{replyDetail, entryDetail}
+use Rattle.wardrail.specs.Said.{detailOf, Tells}
+use Rattle.wardrail.specs.Torrents.{torrentDetail}
 use Rattle.demands_laws.proofs.Digests as digests
 use Rattle.demands.specs.One.{Lent, now, Determined1, Keeps1, Determined2}
 
@@ -28,7 +28,7 @@ check-ensures text r detail =
 pub check-determined : (text : Lent (List ℕ)) → Determined1 (check-ensures text)
 check-determined text detail r r′ detail₁ detail₂ e f = (e .0 ∙ sym (f .0), e .1 ∙ sym (f .1))
 
--- wardrail::wardrail_look
+-- wardrail::looks::wardrail_look
 abbrev pub look-ensures : (text : Lent (List ℕ)) (at : ℕ) → ℕ → Lent (List ℕ) → Type 0
 look-ensures text at r detail =
     Tells lookDetail (lookOf (now (text .entry)) at) r (now (detail .exit))

@@ -9,9 +9,9 @@ use Rattle.peer_wire.specs.Message.{keepalive, encode}
 use Rattle.tracker.specs.Writing.{writeOf as replyTextOf}
 use Rattle.torrent_authoring.specs.Writing.{writeOf as torrentTextOf}
 use Rattle.torrent_authoring.specs.Writing.{fields, sizeOf}
-use Rattle.wardrail_rows.specs.Said.{detailOf, Tells}
-use Rattle.wardrail_rows.specs.Writers.{Wrote}
-use Rattle.wardrail_rows.proofs.Keeping as kept
+use Rattle.wardrail.specs.Said.{detailOf, Tells}
+use Rattle.wardrail.specs.Writers.{Wrote}
+use Rattle.wardrail.proofs.Keeping as kept
 use Rattle.demands.specs.One.{Lent, now, Determined2, Determined1}
 
 -- wardrail::writers::wardrail_write_frame

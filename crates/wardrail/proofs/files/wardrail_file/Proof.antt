@@ -1,6 +1,6 @@
 -- `wardrail_file` meets its contract. Assumes nothing.
-use Rattle.wardrail_rows.specs.Files.{fileDetail}
-use Rattle.wardrail_rows.proofs.Said.{tells}
+use Rattle.wardrail.specs.Files.{fileDetail}
+use Rattle.wardrail.proofs.Said.{tells}
 use borrow.Author.Needs.{needs}
 use Rattle.wardrail.proofs.files.wardrail_file.Statement.{statement}
 use Rattle.wardrail.proofs.files.wardrail_file.Tie as tie

@@ -1,6 +1,6 @@
 -- `wardrail_file_at` meets its contract. Assumes nothing.
-use Rattle.wardrail_rows.specs.Files.{walkedDetail}
-use Rattle.wardrail_rows.proofs.Said.{tells}
+use Rattle.wardrail.specs.Files.{walkedDetail}
+use Rattle.wardrail.proofs.Said.{tells}
 use borrow.Author.Needs.{needs}
 use Rattle.wardrail.proofs.files.wardrail_file_at.Statement.{statement}
 use Rattle.wardrail.proofs.files.wardrail_file_at.Tie as tie

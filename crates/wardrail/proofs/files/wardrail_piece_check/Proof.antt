@@ -1,6 +1,6 @@
 -- `wardrail_piece_check` meets its contract. Assumes nothing.
-use Rattle.wardrail_rows.specs.Files.{yesDetail}
-use Rattle.wardrail_rows.proofs.Said.{tells}
+use Rattle.wardrail.specs.Files.{yesDetail}
+use Rattle.wardrail.proofs.Said.{tells}
 use borrow.Author.Needs.{needs}
 use Rattle.wardrail.proofs.files.wardrail_piece_check.Statement.{statement}
 use Rattle.wardrail.proofs.files.wardrail_piece_check.Tie as tie

@@ -1,6 +1,6 @@
 -- `wardrail_piece_hash` meets its contract. Assumes nothing.
-use Rattle.wardrail_rows.specs.Files.{partDetail}
-use Rattle.wardrail_rows.proofs.Said.{tells}
+use Rattle.wardrail.specs.Files.{partDetail}
+use Rattle.wardrail.proofs.Said.{tells}
 use borrow.Author.Needs.{needs}
 use Rattle.wardrail.proofs.files.wardrail_piece_hash.Statement.{statement}
 use Rattle.wardrail.proofs.files.wardrail_piece_hash.Tie as tie

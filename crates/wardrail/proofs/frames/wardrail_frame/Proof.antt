@@ -1,6 +1,6 @@
 -- `wardrail_frame` meets its contract. Assumes nothing.
-use Rattle.wardrail_rows.specs.Frames.{frameDetail}
-use Rattle.wardrail_rows.proofs.Said.{tells}
+use Rattle.wardrail.specs.Frames.{frameDetail}
+use Rattle.wardrail.proofs.Said.{tells}
 use borrow.Author.Needs.{needs}
 use Rattle.wardrail.proofs.frames.wardrail_frame.Statement.{statement}
 use Rattle.wardrail.proofs.frames.wardrail_frame.Tie as tie

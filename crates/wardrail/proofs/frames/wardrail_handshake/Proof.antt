@@ -1,6 +1,6 @@
 -- `wardrail_handshake` meets its contract. Assumes nothing.
-use Rattle.wardrail_rows.specs.Frames.{shakeDetail}
-use Rattle.wardrail_rows.proofs.Said.{tells}
+use Rattle.wardrail.specs.Frames.{shakeDetail}
+use Rattle.wardrail.proofs.Said.{tells}
 use borrow.Author.Needs.{needs}
 use Rattle.wardrail.proofs.frames.wardrail_handshake.Statement.{statement}
 use Rattle.wardrail.proofs.frames.wardrail_handshake.Tie as tie

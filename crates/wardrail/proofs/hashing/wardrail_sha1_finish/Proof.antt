@@ -2,7 +2,7 @@
 use mathlib.Core.Path.{ap, _∙_}
 use Rattle.hash_sha1.specs.Parts.{finishOf}
 use Rattle.hash_sha1.specs.declared.stream.Stream.{Stream}
-use Rattle.wardrail_rows.proofs.Said.{digested}
+use Rattle.wardrail.proofs.Said.{digested}
 use borrow.Author.Needs.{needs}
 use Rattle.wardrail.proofs.hashing.wardrail_sha1_finish.Statement.{statement}
 use Rattle.wardrail.proofs.hashing.wardrail_sha1_finish.Tie as tie

@@ -1,5 +1,5 @@
 -- `wardrail_block` meets its contract. Assumes nothing.
-use Rattle.wardrail_rows.proofs.Said.{parted}
+use Rattle.wardrail.proofs.Said.{parted}
 use borrow.Author.Needs.{needs}
 use Rattle.wardrail.proofs.mapping.wardrail_block.Statement.{statement}
 use Rattle.wardrail.proofs.mapping.wardrail_block.Tie as tie

@@ -1,6 +1,6 @@
 -- `wardrail_byte` meets its contract. Assumes nothing.
-use Rattle.wardrail_rows.specs.Mapping.{spotDetail}
-use Rattle.wardrail_rows.proofs.Said.{tells}
+use Rattle.wardrail.specs.Mapping.{spotDetail}
+use Rattle.wardrail.proofs.Said.{tells}
 use borrow.Author.Needs.{needs}
 use Rattle.wardrail.proofs.mapping.wardrail_byte.Statement.{statement}
 use Rattle.wardrail.proofs.mapping.wardrail_byte.Tie as tie

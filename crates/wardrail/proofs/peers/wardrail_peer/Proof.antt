@@ -1,6 +1,6 @@
 -- `wardrail_peer` meets its contract. Assumes nothing.
-use Rattle.wardrail_rows.specs.Peers.{peerDetail}
-use Rattle.wardrail_rows.proofs.Said.{tells}
+use Rattle.wardrail.specs.Peers.{peerDetail}
+use Rattle.wardrail.proofs.Said.{tells}
 use borrow.Author.Needs.{needs}
 use Rattle.wardrail.proofs.peers.wardrail_peer.Statement.{statement}
 use Rattle.wardrail.proofs.peers.wardrail_peer.Tie as tie

@@ -1,7 +1,7 @@
 -- `wardrail_reply` meets its contract. Assumes nothing.
-use Rattle.wardrail_rows.proofs.Said.{tells}
+use Rattle.wardrail.proofs.Said.{tells}
 use borrow.Author.Needs.{needs}
-use Rattle.wardrail_rows.specs.Replies.{replyDetail}
+use Rattle.wardrail.specs.Replies.{replyDetail}
 use Rattle.wardrail.proofs.replies.wardrail_reply.Statement.{statement}
 use Rattle.wardrail.proofs.replies.wardrail_reply.Tie as tie
 

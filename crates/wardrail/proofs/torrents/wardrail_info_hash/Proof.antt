@@ -1,5 +1,5 @@
 -- `wardrail_info_hash` meets its contract. Assumes nothing.
-use Rattle.wardrail_rows.proofs.Said.{digested}
+use Rattle.wardrail.proofs.Said.{digested}
 use borrow.Author.Needs.{needs}
 use Rattle.wardrail.proofs.torrents.wardrail_info_hash.Statement.{statement}
 use Rattle.wardrail.proofs.torrents.wardrail_info_hash.Tie as tie

@@ -1,7 +1,7 @@
 -- `wardrail_torrent` meets its contract. Assumes nothing.
-use Rattle.wardrail_rows.proofs.Said.{tells}
+use Rattle.wardrail.proofs.Said.{tells}
 use borrow.Author.Needs.{needs}
-use Rattle.wardrail_rows.specs.Torrents.{torrentDetail}
+use Rattle.wardrail.specs.Torrents.{torrentDetail}
 use Rattle.wardrail.proofs.torrents.wardrail_torrent.Statement.{statement}
 use Rattle.wardrail.proofs.torrents.wardrail_torrent.Tie as tie
 

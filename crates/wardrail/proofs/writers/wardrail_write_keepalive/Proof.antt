@@ -1,5 +1,5 @@
 -- `wardrail_write_keepalive` meets its contract. Assumes nothing.
-use Rattle.wardrail_rows.proofs.Said.{wrote}
+use Rattle.wardrail.proofs.Said.{wrote}
 use borrow.Author.Needs.{needs}
 use Rattle.wardrail.proofs.writers.wardrail_write_keepalive.Statement.{statement}
 use Rattle.wardrail.proofs.writers.wardrail_write_keepalive.Tie as tie

@@ -1,0 +1,29 @@
+-- `packed_detail` meets its contract. Assumes nothing.
+use borrow.Author.Needs.{needs}
+use Rattle.wardrail.specs.Replies.{entryDetail}
+use Rattle.tracker.specs.declared.compact.Packing.{Packing}
+use Rattle.tracker.specs.Entries.{packedPaper}
+use mathlib.Core.Path.{sym, ap, _∙_}
+use Rattle.wardrail.proofs.replies.packed_detail.Statement.{statement}
+use Rattle.wardrail.proofs.replies.packed_detail.Tie as tie
+
+returns : tie.Need-returns
+returns c = c .six .ensures ∙ ap (λ (x : Packing). entryDetail (packedPaper x)) (sym (c .before .before .before .before .before .before .p .given .1))
+
+returns-2 : tie.Need-returns-2
+returns-2 c = c .six2 .ensures ∙ ap (λ (x : Packing). entryDetail (packedPaper x)) (sym (c .before .before .p2 .given .1))
+
+pub packed-detail-spec : {M : Type 1} → statement M
+packed-detail-spec =
+    tie.close
+    (tie.spec
+    (λ c. search needs)
+    (λ c. search needs)
+    (λ c. search needs)
+    (λ c. search needs)
+    (λ c. search needs)
+    (λ c κs. search needs)
+    (λ c. search needs)
+    (λ c κs. search needs)
+    returns
+    returns-2)
