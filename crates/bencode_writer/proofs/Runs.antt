@@ -1,12 +1,12 @@
 -- Bytes put one after the other. Assumes nothing.
 use mathlib.Core.Path.{_≡_, refl, sym, ap, _∙_, subst}
 use mathlib.Core.List.{List, [], _++_, append-assoc}
-use Prim.Native.Nat.{ℕ, _+_, _≤_}
+use Prim.Native.Nat.{ℕ, _+_, _-_, _≤_}
 use native.Mathlib.Omega.{arith}
-use lib.ListN.{length, length-append}
-use lib.Seq.{sets, length-sets}
+use lib.ListN.{length, take, drop, length-append}
+use lib.Seq.{length-sets}
 use Rattle.refusal.specs.Paper.{Outcome}
-use Rattle.refusal.proofs.Places.{sets-append}
+use Rattle.refusal.proofs.Places.{sets-append, stands}
 use Rattle.bencode_writer.specs.Put.{Left, left, putOf, placePast, Ran}
 use Rattle.bencode_writer.proofs.Laws.{put-whole}
 
@@ -29,6 +29,12 @@ module _ {w : List ℕ} {at : ℕ} {o : List ℕ} {r : ℕ} {p : List ℕ} (h : 
   -- what comes next has its room where the whole has
   pub ran-room : (x : List ℕ) → at + length (w ++ x) ≤ length o → r + length x ≤ length p
   ran-room x l = omega (arith, h .place, length-append w x, ran-length)
+
+-- what was put, where it had its room
+pub ran-there : (w : List ℕ) (at : ℕ) (o : List ℕ) {r : ℕ} {p : List ℕ} → Ran w at o r p → at + length w ≤ length o → take (r - at) (drop at p) ≡ w
+ran-there w at o {r} {p} h l =
+    let e : r - at ≡ length w = omega (arith, h .place) in
+    rw (e, h .out) (stands (length w) at w o refl l)
 
 -- a writer that has room puts its bytes
 pub put-ran : (w : List ℕ) (at : ℕ) (o : List ℕ) {a : Outcome ℕ} {r : ℕ} {p : List ℕ} → at + length w ≤ length o → left a p ≡ putOf w at o → r ≡ placePast a → Ran w at o r p

@@ -1,4 +1,4 @@
-// Writers' parts: bytes, decimal numbers, strings and integers, put at a place of lent output.
+// Writers' parts: bytes, decimal numbers, strings and integers, put at a place of lent output; and a byte's escape.
 // Where one does not fit, nothing is written; what stands before the place and past the part stays.
 ghost use mathlib.Core.Path.{_≡_};
 ghost use mathlib.Core.Bool.{true, false};
@@ -8,6 +8,7 @@ ghost use lib.IntN.{natAbs};
 ghost use lib.ListN.{length};
 ghost use Rattle.refusal.specs.Numbers.{room};
 ghost use Rattle.bencode_scalar.specs.Written.{decimal, writtenString, writtenInt};
+ghost use Rattle.bencode_writer.specs.Escaped.{hexDigit, percent};
 ghost use Rattle.bencode_writer.specs.Put.{paper, left, putOf, placePast, Ran};
 use refusal::Refusal;
 use refusal::number;
@@ -80,6 +81,13 @@ pub fn end(put: Put) -> usize
     }
 }
 
+// A byte as % and two capital hex digits, for what keeps only some bytes plain.
+pub fn escape(b: u8) -> [u8; 3]
+    ensures { λ r. ⌜ r ≡ percent b ⌝ }
+{
+    [b'%', hex(b / 16), hex(b % 16)]
+}
+
 // Some bytes, a number in decimal, a mark, and more bytes.
 fn joined(out: &mut [u8], at: usize, before: &[u8], n: u64, mark: u8, after: &[u8]) -> Put
     requires { ⌜ length (now before) ≤ 2 ⌝ }
@@ -147,6 +155,13 @@ fn digit(d: u64) -> u8
     ensures { λ r. ⌜ r ≡ 48 + d ⌝ }
 {
     b'0' + d as u8
+}
+
+fn hex(n: u8) -> u8
+    requires { ⌜ n < 16 ⌝ }
+    ensures { λ r. ⌜ r ≡ hexDigit n ⌝ }
+{
+    if n < 10 { b'0' + n } else { b'A' - 10 + n }
 }
 
 // z without its sign; -z itself has no i64 where z is the least.

@@ -12,9 +12,9 @@ use Rattle.bencode_writer.proofs.Decimals.{length-one, length-last}
 use Rattle.bencode.specs.Value.{Value, Items, Entries, str, int, list, dict, none, item, empty, entry, encode, encodeItems, encodeEntries}
 use Rattle.bencode.proofs.Complete.{encode-pos}
 use Rattle.bencode_walk.specs.Has.{Has, here, there}
-use Rattle.torrent_lines.specs.Lines.{bytesIn, elementsIn, escaped}
+use Rattle.torrent_lines.specs.Lines.{bytesIn, elementsIn, escaped, plain}
 use Rattle.torrent_lines.specs.Places.{marked}
-use Rattle.torrent_lines.proofs.Running.{escaped-most}
+use Rattle.bencode_writer.proofs.Escapes.{escaped-most}
 
 -- ---- numbers
 
@@ -64,4 +64,4 @@ pub marked-most : (m : ℕ) (vs : Items) → length (marked m (elementsIn vs)) +
 unfolding marked elementsIn encodeItems
 marked-most m none = omega arith
 marked-most m (item v vs) =
-    omega (arith, length-append (escaped (bytesIn v)) (marked 47 (elementsIn vs)), length-append (encode v) (encodeItems vs), escaped-most (bytesIn v), bytes-most v, marked-most 47 vs)
+    omega (arith, length-append (escaped (bytesIn v)) (marked 47 (elementsIn vs)), length-append (encode v) (encodeItems vs), escaped-most plain (bytesIn v), bytes-most v, marked-most 47 vs)

@@ -35,10 +35,10 @@ use Rattle.torrent_metainfo.specs.declared.Content.{Content}
 use Rattle.torrent_metainfo.specs.declared.Torrent.{Torrent}
 use Rattle.torrent_metainfo.proofs.Naming.{no-way}
 use Rattle.torrent_metainfo.proofs.Filing.{file-next}
-use Rattle.torrent_lines.specs.Lines.{bytesIn, numberIn, found, within, Listed, filesIn, filesBy, filesOf, lengthsIn, escaped, slashed, fileLine, fileLines, firstLine, filesWord, bytesWord, piecesWord, linesBy, refusedLine, torrentLines, valueLines, mostListed, mostPrinted, listingOf}
+use Rattle.torrent_lines.specs.Lines.{bytesIn, numberIn, found, within, Listed, filesIn, filesBy, filesOf, lengthsIn, escaped, slashed, fileLine, fileLines, firstLine, filesWord, bytesWord, piecesWord, linesBy, refusedLine, torrentLines, valueLines, mostListed, mostPrinted, listingOf, plain}
 use Rattle.torrent_lines.specs.Lines as lines
 use Rattle.torrent_lines.specs.Places.{FilesPrinted}
-use Rattle.torrent_lines.proofs.Running.{escaped-most}
+use Rattle.bencode_writer.proofs.Escapes.{escaped-most}
 use Rattle.torrent_lines.proofs.Fitting.{string-length, list-length, dict-length, has-room}
 use Rattle.torrent_lines.proofs.Taken.{provided-taken, must-taken, number-taken, list-taken, dictionary-taken, name-taken, found-any, found-is}
 use Rattle.torrent_lines.proofs.Walking.{file-read}
@@ -227,7 +227,7 @@ first-most b f n q l hf hn hq hl =
     let x₂ = decimal n ++ (bytesWord ++ x₃) in
     omega (
       arith,
-      escaped-most b,
+      escaped-most plain b,
       length-most 3 f (omega arith),
       length-most 14 n (omega arith),
       length-most 4 q (omega arith),
@@ -268,7 +268,7 @@ module _ (s name : List ℕ) (fs : List Listed) (c : Content) where
       omega (
         arith,
         ap length (alone-lines (alone a f n e) a),
-        escaped-most name,
+        escaped-most plain name,
         length-most 11 (c .total) (omega arith),
         length-append (decimal (c .total)) (32 ∷ (escaped name ++ (10 ∷ []))),
         length-append (escaped name) (10 ∷ []),
@@ -312,7 +312,7 @@ ready s b t e h k =
     let fm = first-most b (t .content .files) (t .content .total) (t .«piece_count») (t .«piece_length») (few .0) (few .1) (d .few) (d .little) in
     let lm = lines-most s b fs (t .content) m con in
     record {
-      short = omega (arith, escaped-most b);
+      short = omega (arith, escaped-most plain b);
       head = omega arith;
       most = omega (arith, ap length whole, length-append (firstOf t b) (fileLines 0 fs));
       alone-is = λ x. ap (λ (l : List ℕ). firstOf t b ++ l) (sym (alone-lines s b fs (t .content) con x)) ∙ sym whole;

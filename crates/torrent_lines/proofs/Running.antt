@@ -1,19 +1,21 @@
 -- Runs of bytes one after the other, and loops that put them. Assumes nothing.
 use mathlib.Core.Path.{_≡_, refl, sym, ap, _∙_}
-use mathlib.Core.Bool.{Bool, true, false, not}
+use mathlib.Core.Bool.{false, not}
 use mathlib.Core.List.{List, [], _∷_, _++_, map, append-assoc}
-use Prim.Native.Nat.{ℕ, _+_, _*_, _/_, _%_, _<_, _≤_}
+use Prim.Native.Nat.{ℕ, _+_, _-_, _<_, _≤_}
 use native.Mathlib.Omega.{arith}
 use native.Mathlib.Numerals.{add-one}
-use borrow.Author.Tests.{lt-ltb, le-ltb, le-leb, lt-leb}
+use borrow.Author.Tests.{le-leb, lt-leb}
 use lib.Dec.{eqb}
-use lib.ListN.{length, getD, drop, length-append, drop-of-length-le}
+use lib.ListN.{length, getD, take, drop, replicate, length-append, drop-of-length-le}
 use lib.Seq.{sets, set-out, drop-cons}
 use Rattle.refusal.proofs.Places.{sets-append}
 use Rattle.bencode_scalar.specs.Written.{decimal, decimalIn}
-use Rattle.bencode_writer.specs.Put.{Ran}
+use Rattle.refusal.specs.Paper.{Outcome}
+use Rattle.bencode_writer.specs.Put.{left, putOf, placePast, Ran}
 use Rattle.bencode_writer.proofs.Decimals.{length-most}
-use Rattle.torrent_lines.specs.Lines.{plain, hexDigit, escapedByte, escaped, slashed, filesWord, bytesWord, piecesWord, refusedWord, atWord}
+use Rattle.bencode_writer.proofs.Runs.{ran-length, ran-there, put-ran}
+use Rattle.torrent_lines.specs.Lines.{plain, escaped, slashed, filesWord, bytesWord, piecesWord, refusedWord, atWord}
 
 -- a byte past the output is counted and not stored
 pub ran-out : (b at : ℕ) (o : List ℕ) → length o ≤ at → Ran (b ∷ []) at o (at + 1) o
@@ -50,18 +52,10 @@ module _ (s : List ℕ) (i : ℕ) (h : i < length s) where
   pub one-more : drop i s ≡ (getD s i 0 ∷ []) ++ drop (i + 1) s
   one-more = drop-cons s i 0 h ∙ ap (λ (k : ℕ). getD s i 0 ∷ drop k s) (sym (add-one i))
 
-  pub escaped-more : escaped (drop i s) ≡ escapedByte (getD s i 0) ++ escaped (drop (i + 1) s)
-  unfolding escaped
-  escaped-more = ap escaped one-more
-
 pub none-left : (s : List ℕ) (i : ℕ) → length s ≤ i → drop i s ≡ []
 none-left s i h = drop-of-length-le s h
 
-pub escaped-none : (s : List ℕ) (i : ℕ) → length s ≤ i → escaped (drop i s) ≡ []
-unfolding escaped
-escaped-none s i h = ap escaped (drop-of-length-le s h)
-
--- ---- escapes
+-- ---- which bytes are plain
 
 module _ (b : ℕ) where
   pub plain-low : b < 33 → false ≡ plain b
@@ -73,31 +67,17 @@ module _ (b : ℕ) where
   pub plain-in : 33 ≤ b → b ≤ 126 → not (eqb b 37) ≡ plain b
   plain-in l h = rw (le-leb 33 b l, le-leb b 126 h)
 
-  pub escape-plain : plain b ≡ true → b ∷ [] ≡ escapedByte b
-  escape-plain h = rw h
-
-  pub escape-other : (h l : ℕ) → h ≡ hexDigit (b / 16) → l ≡ hexDigit (b % 16) → plain b ≡ false → 37 ∷ h ∷ l ∷ [] ≡ escapedByte b
-  escape-other h l x y e = rw (x, y, e)
-
-pub hex-low : (n : ℕ) → n < 10 → 48 + n ≡ hexDigit n
-hex-low n h = rw (lt-ltb n 10 h)
-
-pub hex-high : (n : ℕ) → 10 ≤ n → 55 + n ≡ hexDigit n
-hex-high n h = rw (le-ltb n 10 h)
-
--- at most three bytes for one
-byte-most : (b : ℕ) (t : Bool) → plain b ≡ t → length (escapedByte b) ≤ 3
-byte-most b true e = omega (arith, ap length (escape-plain b e))
-byte-most b false e = omega (arith, ap length (escape-other b (hexDigit (b / 16)) (hexDigit (b % 16)) refl refl e))
-
-pub escaped-most : (s : List ℕ) → length (escaped s) ≤ 3 * length s
-unfolding escaped
-escaped-most [] = omega arith
-escaped-most (b ∷ s) = omega (arith, length-append (escapedByte b) (escaped s), byte-most b (plain b) refl, escaped-most s)
-
 -- a number of 64 bits has 20 digits at most
 pub digits-most : (n : ℕ) → n < 18446744073709551616 → length (decimal n) ≤ 20
 digits-most n h = length-most 19 n (omega arith)
+
+-- 20 bytes that the digits were written to begin with them
+pub digits-there : (n : ℕ) {a : Outcome ℕ} {count : ℕ} {word : List ℕ} → n < 18446744073709551616 → left a word ≡ putOf (decimal n) 0 (replicate 20 0) → count ≡ placePast a
+    → (count ≤ 20) × (length word ≡ 20) × (take (count - 0) (drop 0 word) ≡ decimal n)
+digits-there n h e f =
+    let l : 0 + length (decimal n) ≤ length (replicate {A = ℕ} 20 0) = omega (arith, digits-most n h) in
+    let r = put-ran (decimal n) 0 (replicate 20 0) l e f in
+    (omega (arith, r .place), ran-length r, ran-there (decimal n) 0 (replicate 20 0) r l)
 
 -- ---- lines, as the code puts them together
 

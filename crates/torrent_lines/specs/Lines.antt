@@ -1,13 +1,14 @@
 -- Document 01's listing: the bytes printed for a text, from the value that the text is. Assumes nothing: these are definitions.
 use mathlib.Core.Bool.{Bool, cond, _&&_, not}
 use mathlib.Core.List.{List, [], _∷_, _++_, map}
-use Prim.Native.Nat.{ℕ, _+_, _/_, _%_}
+use Prim.Native.Nat.{ℕ, _+_}
 use lib.Dec.{ltb, leb, eqb}
 use lib.IntN.{pos, negsuc}
 use lib.ListN.{length}
 use Rattle.refusal.specs.Paper.{Outcome, taken, refused}
 use Rattle.refusal.specs.Numbers.{long}
 use Rattle.bencode_scalar.specs.Written.{decimal}
+use Rattle.bencode_writer.specs.Escaped.{escapedBy}
 use Rattle.bencode.specs.Value.{Value, Items, str, int, list, dict, none, item}
 use Rattle.bencode.specs.Decode.{decode}
 use Rattle.bencode_walk.specs.Lookup.{Under, nothing, under, lookup}
@@ -87,17 +88,9 @@ lengthsIn fs = map (λ (f : Listed). f .length) fs
 abbrev pub plain : ℕ → Bool
 plain b = leb 33 b && (leb b 126 && not (eqb b 37))
 
--- a hex digit, capital from ten on
-abbrev pub hexDigit : ℕ → ℕ
-hexDigit n = cond (ltb n 10) (48 + n) (55 + n)
-
 -- the others print as % and two hex digits
-abbrev pub escapedByte : ℕ → List ℕ
-escapedByte b = cond (plain b) (b ∷ []) (37 ∷ hexDigit (b / 16) ∷ hexDigit (b % 16) ∷ [])
-
-unfoldable pub escaped : List ℕ → List ℕ
-escaped [] = []
-escaped (b ∷ bs) = escapedByte b ++ escaped bs
+abbrev pub escaped : List ℕ → List ℕ
+escaped bs = escapedBy plain bs
 
 -- with "/" between each two
 unfoldable pub slashed : List (List ℕ) → List ℕ

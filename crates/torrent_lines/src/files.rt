@@ -45,7 +45,7 @@ fn line(text: &[u8], f: File, offset: u64, out: &mut [u8], at: usize) -> usize
 
 // A space and the elements of a path, of which the first stands at `first`, with "/" between them.
 fn path(text: &[u8], first: usize, out: &mut [u8], at: usize) -> usize
-    requires { ⌜ ((w : List ℕ) × PathPrinted (now text) first 32 w × (at + length w + 2 ≤ far)) ⌝ }
+    requires { ⌜ ((w : List ℕ) × PathPrinted (now text) first 32 w × (at + length w + 3 ≤ far)) ⌝ }
     ensures { λ r. ⌜ ((w : List ℕ) → PathPrinted (now (text .entry)) first 32 w → Ran w at (now (out .entry)) r (now (out .exit))) ⌝ }
 {
     let mut p = first;

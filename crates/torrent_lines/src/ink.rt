@@ -2,12 +2,13 @@
 // counted and not stored. So the same calls tell how many bytes there are, and write them.
 ghost use mathlib.Core.Path.{_≡_};
 ghost use mathlib.Core.List.{_∷_, [], _++_};
-ghost use Prim.Native.Nat.{_+_, _<_, _≤_};
+ghost use Prim.Native.Nat.{_+_, _≤_};
 ghost use lib.ListN.{length};
 ghost use Rattle.bencode_scalar.specs.Written.{decimal};
-ghost use Rattle.torrent_lines.specs.Lines.{plain, hexDigit, escapedByte, escaped};
-ghost use Rattle.torrent_lines.specs.Places.{far};
+ghost use Rattle.bencode_writer.specs.Escaped.{escapedByte};
 ghost use Rattle.bencode_writer.specs.Put.{Ran};
+ghost use Rattle.torrent_lines.specs.Lines.{plain, escaped};
+ghost use Rattle.torrent_lines.specs.Places.{far};
 
 // One byte at a place: the place past it.
 pub fn byte(out: &mut [u8], at: usize, b: u8) -> usize
@@ -40,11 +41,9 @@ pub fn decimal(out: &mut [u8], at: usize, n: u64) -> usize
     requires { ⌜ at + 20 ≤ far ⌝ }
     ensures { λ r. ⌜ Ran (decimal n) at (now (out .entry)) r (now (out .exit)) ⌝ }
 {
-    if n < 10 {
-        return byte(out, at, digit(n));
-    }
-    let to = decimal(out, at, n / 10);
-    byte(out, to, digit(n % 10))
+    let mut word = [0u8; 20];
+    let count = bencode_writer::end(bencode_writer::decimal(&mut word, 0, n));
+    literal(out, at, &word[0..count])
 }
 
 // A number in decimal, and a word after it.
@@ -59,7 +58,7 @@ pub fn numbered(out: &mut [u8], at: usize, n: u64, word: &[u8]) -> usize
 
 // A name or an element of a path: bytes outside 33 to 126, and "%", as % and two capital hex digits.
 pub fn escaped(out: &mut [u8], at: usize, bytes: &[u8]) -> usize
-    requires { ⌜ at + length (escaped (now bytes)) + 2 ≤ far ⌝ }
+    requires { ⌜ at + length (escaped (now bytes)) + 3 ≤ far ⌝ }
     ensures { λ r. ⌜ Ran (escaped (now (bytes .entry))) at (now (out .entry)) r (now (out .exit)) ⌝ }
 {
     let mut to = at;
@@ -72,15 +71,13 @@ pub fn escaped(out: &mut [u8], at: usize, bytes: &[u8]) -> usize
 }
 
 fn one(out: &mut [u8], at: usize, b: u8) -> usize
-    requires { ⌜ at + 2 ≤ far ⌝ }
-    ensures { λ r. ⌜ Ran (escapedByte b) at (now (out .entry)) r (now (out .exit)) ⌝ }
+    requires { ⌜ at + 3 ≤ far ⌝ }
+    ensures { λ r. ⌜ Ran (escapedByte plain b) at (now (out .entry)) r (now (out .exit)) ⌝ }
 {
     if is_plain(b) {
         return byte(out, at, b);
     }
-    let high = byte(out, at, b'%');
-    let low = byte(out, high, hex(b / 16));
-    byte(out, low, hex(b % 16))
+    literal(out, at, &bencode_writer::escape(b))
 }
 
 fn is_plain(b: u8) -> bool
@@ -93,18 +90,4 @@ fn is_plain(b: u8) -> bool
         return false;
     }
     b != b'%'
-}
-
-fn hex(n: u8) -> u8
-    requires { ⌜ n < 16 ⌝ }
-    ensures { λ r. ⌜ r ≡ hexDigit n ⌝ }
-{
-    if n < 10 { b'0' + n } else { b'A' - 10 + n }
-}
-
-fn digit(d: u64) -> u8
-    requires { ⌜ d < 10 ⌝ }
-    ensures { λ r. ⌜ r ≡ 48 + d ⌝ }
-{
-    b'0' + d as u8
 }

@@ -12,29 +12,11 @@ use Rattle.torrent_lines.proofs.listing.Tie as tie
 sum-zero : (r n : ℕ) → r ≡ 0 + n → r ≡ n
 sum-zero r n e = omega arith
 
-write-requires : tie.Need-write-requires
-write-requires c κs = search needs
-
-same-length : tie.Need-same-length
-same-length c = search needs
-
 returns : tie.Need-returns
 returns c = (put-done (listingOf (c .before .before .before .before .before .before .before .args .text .now)) 0 (c .before .before .before .before .before .before .before .args .out .now) (omega (arith, c .before .before .write .ensures .0 .place, c .before .before .write .ensures .1)) (c .before .before .write .ensures .0 .place) (c .before .before .write .ensures .0 .out), λ h. ap (λ (n : ℕ). taken n) (sum-zero _ _ (c .before .before .write .ensures .0 .place)))
 
-size-requires : tie.Need-size-requires
-size-requires c κs = search needs
-
-no-room-requires : tie.Need-no-room-requires
-no-room-requires c κs = search needs
-
 returns-2 : tie.Need-returns-2
 returns-2 c = (put-nothing (listingOf (c .before .before .before .before .before .before .args .text .now)) 0 (c .before .before .before .before .before .before .args .out .now) (omega (arith, c .before .before .size .ensures)) (c .no-room .ensures), λ h. absurd (omega arith))
-
-write-requires-2 : tie.Need-write-requires-2
-write-requires-2 c κs = search needs
-
-same-length-2 : tie.Need-same-length-2
-same-length-2 c = search needs
 
 returns-3 : tie.Need-returns-3
 returns-3 c = (put-done (listingOf (c .before .before .before .before .before .before .before .before .before .args .text .now)) 0 (c .before .before .before .before .before .before .before .before .before .args .out .now) (omega (arith, c .before .before .before .before .before .size .ensures)) (c .before .before .write2 .ensures .0 .place) (c .before .before .write2 .ensures .0 .out), λ h. absurd (omega arith))
@@ -43,12 +25,5 @@ pub listing-spec : {M : Type 1} → statement M
 listing-spec =
     tie.close
     (tie.spec
-    write-requires
-    same-length
-    returns
-    size-requires
-    no-room-requires
-    returns-2
-    write-requires-2
-    same-length-2
+    (λ c κs. search needs) (λ c. search needs) returns (λ c κs. search needs) (λ c κs. search needs) returns-2 (λ c κs. search needs) (λ c. search needs)
     returns-3)

@@ -7,26 +7,11 @@ use native.Mathlib.Omega.{arith}
 use Rattle.torrent_lines.proofs.only_file.Statement.{statement}
 use Rattle.torrent_lines.proofs.only_file.Tie as tie
 
-slice-aggregate-literal : tie.Need-slice-aggregate-literal
-slice-aggregate-literal c = search needs
-
-literal-requires : tie.Need-literal-requires
-literal-requires c κs = search needs
-
-slice-aggregate-numbered : tie.Need-slice-aggregate-numbered
-slice-aggregate-numbered c = search needs
-
-numbered-requires : tie.Need-numbered-requires
-numbered-requires c κs = search needs
-
 escaped-requires : tie.Need-escaped-requires
 escaped-requires c κs = omega (arith, c .before .before .before .numbered .ensures .1, c .before .before .before .before .before .before .before .before .literal .ensures .place)
 
 byte-requires : tie.Need-byte-requires
 byte-requires c κs = omega (arith, c .before .before .before .before .before .before .before .numbered .ensures .1, c .before .before .before .before .before .before .before .before .before .before .before .before .literal .ensures .place, c .before .before .before .escaped .ensures .place)
-
-same-length : tie.Need-same-length
-same-length c = search needs
 
 returns : tie.Need-returns
 returns c = ran-as (ran-then (c .before .before .before .before .before .before .before .before .before .before .before .before .before .before .before .literal .ensures) (ran-then (c .before .before .before .before .before .before .before .before .before .before .numbered .ensures .0) (ran-then (c .before .before .before .before .before .before .escaped .ensures) (c .before .before .byte .ensures)))) (only-joined (decimal (c .before .before .before .before .before .before .before .before .before .before .before .before .before .before .before .before .before .before .before .before .args .total)) (c .before .before .before .before .before .before .before .before .before .before .before .before .before .before .before .before .before .before .before .before .args .name .now))
@@ -35,11 +20,4 @@ pub only-file-spec : {M : Type 1} → statement M
 only-file-spec =
     tie.close
     (tie.spec
-    slice-aggregate-literal
-    literal-requires
-    slice-aggregate-numbered
-    numbered-requires
-    escaped-requires
-    byte-requires
-    same-length
-    returns)
+    (λ c. search needs) (λ c κs. search needs) (λ c. search needs) (λ c κs. search needs) escaped-requires byte-requires (λ c. search needs) returns)

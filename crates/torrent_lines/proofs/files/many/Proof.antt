@@ -20,12 +20,6 @@ abbrev μ-loop : tie.MeasureT-loop
 loop-holds : tie.Need-loop-holds Inv-loop μ-loop
 loop-holds c = files-start (c .before .before .args .text .now) (c .before .before .args .first) (c .before .before .args .at) (c .before .before .args .out .now)
 
-file-at-requires : tie.Need-file-at-requires Inv-loop μ-loop
-file-at-requires c κs = search needs
-
-enum-known-f : tie.Need-enum-known-f Inv-loop μ-loop
-enum-known-f c = search needs
-
 line-requires : tie.Need-line-requires Inv-loop μ-loop
 line-requires c κs = files-room (c .before .before .before .before .before .before .before .before .args .text .now) (c .before .before .before .before .before .before .before .before .args .first) (c .before .before .before .before .before .before .before .before .args .at) (c .before .before .before .before .before .before .before .before .args .out .now) (c .before .before .before .before .before .loop .p) (c .before .before .before .before .before .loop .offset) (c .before .before .before .before .before .loop .to) (c .before .before .before .before .before .loop .out) (c .before .before .before .before .before .loop .inv) (c .before .before .f .given .0 .0) (ap filePaper (sym (c .before .before .f .given .1)) ∙ c .before .before .before .before .file-at .ensures) (c .before .before .before .before .before .before .before .before .pre .0) (c .before .before .before .before .before .before .before .before .pre .1) (c .before .before .before .before .before .before .before .before .pre .2)
 
@@ -38,9 +32,6 @@ loop-less c = omega (arith, file-further (c .before .before .before .before .bef
 loop-again : tie.Need-loop-again Inv-loop μ-loop
 loop-again c = files-again (c .before .before .before .before .before .before .before .before .before .before .before .before .args .text .now) (c .before .before .before .before .before .before .before .before .before .before .before .before .args .first) (c .before .before .before .before .before .before .before .before .before .before .before .before .args .at) (c .before .before .before .before .before .before .before .before .before .before .before .before .args .out .now) (c .before .before .before .before .before .before .before .before .before .loop .p) (c .before .before .before .before .before .before .before .before .before .loop .offset) (c .before .before .before .before .before .before .before .before .before .loop .to) (c .before .before .before .before .before .before .before .before .before .loop .out) (c .before .before .before .before .before .before .before .before .before .loop .inv) (c .before .before .before .before .before .before .f .given .0 .0) (ap filePaper (sym (c .before .before .before .before .before .before .f .given .1)) ∙ c .before .before .before .before .before .before .before .before .file-at .ensures) _ (omega arith) _ _ (c .before .before .before .line .ensures)
 
-enum-told : tie.Need-enum-told Inv-loop μ-loop
-enum-told c = search needs
-
 same-length : tie.Need-same-length Inv-loop μ-loop
 same-length c = ran-length (files-done (c .before .before .before .before .before .before .args .text .now) (c .before .before .before .before .before .before .args .first) (c .before .before .before .before .before .before .args .at) (c .before .before .before .before .before .before .args .out .now) (c .before .before .before .loop .p) (c .before .before .before .loop .offset) (c .before .before .before .loop .to) (c .before .before .before .loop .out) (c .before .before .before .loop .inv) _ _ (ap filePaper (sym (c .enum-told .given .1)) ∙ c .before .before .file-at .ensures) (c .before .before .before .before .before .before .pre .0) (c .before .before .before .before .before .before .pre .1))
 
@@ -51,15 +42,4 @@ pub many-spec : {M : Type 1} → statement M
 many-spec =
     tie.close
     (tie.spec
-    Inv-loop
-    μ-loop
-    loop-holds
-    file-at-requires
-    enum-known-f
-    line-requires
-    add-offset
-    loop-less
-    loop-again
-    enum-told
-    same-length
-    returns)
+    Inv-loop μ-loop loop-holds (λ c κs. search needs) (λ c. search needs) line-requires add-offset loop-less loop-again (λ c. search needs) same-length returns)

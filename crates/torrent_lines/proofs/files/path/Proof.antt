@@ -22,17 +22,8 @@ abbrev μ-loop : tie.MeasureT-loop
 loop-holds : tie.Need-loop-holds Inv-loop μ-loop
 loop-holds c = path-start (c .before .before .args .text .now) (c .before .before .args .first) (c .before .before .args .at) (c .before .before .args .out .now)
 
-string-at-requires : tie.Need-string-at-requires Inv-loop μ-loop
-string-at-requires c κs = search needs
-
-enum-known-part : tie.Need-enum-known-part Inv-loop μ-loop
-enum-known-part c = search needs
-
 byte-requires : tie.Need-byte-requires Inv-loop μ-loop
 byte-requires c κs = omega (arith, path-room (c .before .before .before .before .before .before .before .before .args .text .now) (c .before .before .before .before .before .before .before .before .args .first) (c .before .before .before .before .before .before .before .before .args .at) (c .before .before .before .before .before .before .before .before .args .out .now) (c .before .before .before .before .before .loop .p) (c .before .before .before .before .before .loop .mark) (c .before .before .before .before .before .loop .to) (c .before .before .before .before .before .loop .out) (c .before .before .before .before .before .loop .inv) (c .before .before .part .given .0 .0) (ap stringPaper (sym (c .before .before .part .given .1)) ∙ c .before .before .before .before .string-at .ensures) (c .before .before .before .before .before .before .before .before .pre .0) (c .before .before .before .before .before .before .before .before .pre .1), c .before .before .before .before .before .before .before .before .pre .2)
-
-bytes-requires : tie.Need-bytes-requires Inv-loop μ-loop
-bytes-requires c κs = search needs
 
 escaped-requires : tie.Need-escaped-requires Inv-loop μ-loop
 escaped-requires c κs = omega (arith, path-room (c .before .before .before .before .before .before .before .before .before .before .before .before .before .args .text .now) (c .before .before .before .before .before .before .before .before .before .before .before .before .before .args .first) (c .before .before .before .before .before .before .before .before .before .before .before .before .before .args .at) (c .before .before .before .before .before .before .before .before .before .before .before .before .before .args .out .now) (c .before .before .before .before .before .before .before .before .before .before .loop .p) (c .before .before .before .before .before .before .before .before .before .before .loop .mark) (c .before .before .before .before .before .before .before .before .before .before .loop .to) (c .before .before .before .before .before .before .before .before .before .before .loop .out) (c .before .before .before .before .before .before .before .before .before .before .loop .inv) (c .before .before .before .before .before .before .before .part .given .0 .0) (ap stringPaper (sym (c .before .before .before .before .before .before .before .part .given .1)) ∙ c .before .before .before .before .before .before .before .before .before .string-at .ensures) (c .before .before .before .before .before .before .before .before .before .before .before .before .before .pre .0) (c .before .before .before .before .before .before .before .before .before .before .before .before .before .pre .1), c .before .before .before .before .before .before .before .before .before .before .before .before .before .pre .2, c .before .before .before .before .byte .ensures .place, ap (λ (l : List ℕ). length (escaped l)) (c .bytes .ensures .0))
@@ -46,9 +37,6 @@ loop-less c = omega (arith, path-further (c .before .before .before .before .bef
 loop-again : tie.Need-loop-again Inv-loop μ-loop
 loop-again c = path-again (c .before .before .before .before .before .before .before .before .before .before .before .before .before .before .before .before .before .args .text .now) (c .before .before .before .before .before .before .before .before .before .before .before .before .before .before .before .before .before .args .first) (c .before .before .before .before .before .before .before .before .before .before .before .before .before .before .before .before .before .args .at) (c .before .before .before .before .before .before .before .before .before .before .before .before .before .before .before .before .before .args .out .now) (c .before .before .before .before .before .before .before .before .before .before .before .before .before .before .loop .p) (c .before .before .before .before .before .before .before .before .before .before .before .before .before .before .loop .mark) (c .before .before .before .before .before .before .before .before .before .before .before .before .before .before .loop .to) (c .before .before .before .before .before .before .before .before .before .before .before .before .before .before .loop .out) (c .before .before .before .before .before .before .before .before .before .before .before .before .before .before .loop .inv) (c .before .before .before .before .before .before .before .before .before .before .before .part .given .0 .0) (ap stringPaper (sym (c .before .before .before .before .before .before .before .before .before .before .before .part .given .1)) ∙ c .before .before .before .before .before .before .before .before .before .before .before .before .before .string-at .ensures) _ (c .before .before .before .before .bytes .ensures .0) _ _ _ _ (c .before .before .before .before .before .before .before .before .byte .ensures) (c .before .before .before .escaped .ensures) _ (c .past .ensures)
 
-enum-told : tie.Need-enum-told Inv-loop μ-loop
-enum-told c = search needs
-
 same-length : tie.Need-same-length Inv-loop μ-loop
 same-length c = ran-length (path-done (c .before .before .before .before .before .before .args .text .now) (c .before .before .before .before .before .before .args .first) (c .before .before .before .before .before .before .args .at) (c .before .before .before .before .before .before .args .out .now) (c .before .before .before .loop .p) (c .before .before .before .loop .mark) (c .before .before .before .loop .to) (c .before .before .before .loop .out) (c .before .before .before .loop .inv) _ _ (ap stringPaper (sym (c .enum-told .given .1)) ∙ c .before .before .string-at .ensures) (c .before .before .before .before .before .before .pre .0) (c .before .before .before .before .before .before .pre .1))
 
@@ -59,17 +47,5 @@ pub path-spec : {M : Type 1} → statement M
 path-spec =
     tie.close
     (tie.spec
-    Inv-loop
-    μ-loop
-    loop-holds
-    string-at-requires
-    enum-known-part
-    byte-requires
-    bytes-requires
-    escaped-requires
-    past-requires
-    loop-less
-    loop-again
-    enum-told
-    same-length
-    returns)
+    Inv-loop μ-loop loop-holds (λ c κs. search needs) (λ c. search needs) byte-requires (λ c κs. search needs) escaped-requires past-requires loop-less
+    loop-again (λ c. search needs) same-length returns)

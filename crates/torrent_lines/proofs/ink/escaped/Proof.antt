@@ -1,7 +1,8 @@
 -- `torrent_lines::ink::escaped` meets its contract. Assumes nothing.
-use Rattle.torrent_lines.proofs.Running.{Going, going-start, going-more, going-end, going-near, escaped-more, escaped-none}
+use Rattle.torrent_lines.proofs.Running.{Going, going-start, going-more, going-end, going-near}
+use Rattle.bencode_writer.proofs.Escapes.{escaped-more, escaped-none}
 use Rattle.bencode_writer.proofs.Runs.{ran-length}
-use Rattle.torrent_lines.specs.Lines.{escaped}
+use Rattle.torrent_lines.specs.Lines.{plain, escaped}
 use Prim.Native.Nat.{_-_, _≤_}
 use lib.ListN.{length, drop}
 use native.Mathlib.Omega.{arith}
@@ -17,38 +18,20 @@ abbrev μ-loop : tie.MeasureT-loop
 loop-holds : tie.Need-loop-holds Inv-loop μ-loop
 loop-holds c = (omega arith, going-start _ _ _)
 
-shared-slice-read-one : tie.Need-shared-slice-read-one Inv-loop μ-loop
-shared-slice-read-one c = omega arith
-
 one-requires : tie.Need-one-requires Inv-loop μ-loop
 one-requires c κs = omega (arith, going-near _ _ _ (c .before .before .before .loop .inv .1))
 
-add-i : tie.Need-add-i Inv-loop μ-loop
-add-i c = omega arith
-
-loop-less : tie.Need-loop-less Inv-loop μ-loop
-loop-less c = omega arith
-
 loop-again : tie.Need-loop-again Inv-loop μ-loop
-loop-again c = (omega arith, going-more _ _ _ (c .before .before .before .before .before .before .loop .inv .1) _ _ (escaped-more (c .before .before .before .before .before .before .before .before .before .args .bytes .now) (c .before .before .before .before .before .before .loop .i) (omega arith)) (c .before .before .one .ensures))
+loop-again c = (omega arith, going-more _ _ _ (c .before .before .before .before .before .before .loop .inv .1) _ _ (escaped-more plain (c .before .before .before .before .before .before .before .before .before .args .bytes .now) (c .before .before .before .before .before .before .loop .i) (omega arith)) (c .before .before .one .ensures))
 
 same-length : tie.Need-same-length Inv-loop μ-loop
-same-length c = ran-length (going-end _ _ _ (c .before .loop .inv .1) (escaped-none (c .before .before .before .before .args .bytes .now) (c .before .loop .i) (omega arith)))
+same-length c = ran-length (going-end _ _ _ (c .before .loop .inv .1) (escaped-none plain (c .before .before .before .before .args .bytes .now) (c .before .loop .i) (omega arith)))
 
 returns : tie.Need-returns Inv-loop μ-loop
-returns c = going-end _ _ _ (c .before .loop .inv .1) (escaped-none (c .before .before .before .before .args .bytes .now) (c .before .loop .i) (omega arith))
+returns c = going-end _ _ _ (c .before .loop .inv .1) (escaped-none plain (c .before .before .before .before .args .bytes .now) (c .before .loop .i) (omega arith))
 
 pub escaped-spec : {M : Type 1} → statement M
 escaped-spec =
     tie.close
     (tie.spec
-    Inv-loop
-    μ-loop
-    loop-holds
-    shared-slice-read-one
-    one-requires
-    add-i
-    loop-less
-    loop-again
-    same-length
-    returns)
+    Inv-loop μ-loop loop-holds (λ c. omega arith) one-requires (λ c. omega arith) (λ c. omega arith) loop-again same-length returns)

@@ -6,17 +6,11 @@ use native.Mathlib.Omega.{arith}
 use Rattle.torrent_lines.proofs.ink.numbered.Statement.{statement}
 use Rattle.torrent_lines.proofs.ink.numbered.Tie as tie
 
-decimal-requires : tie.Need-decimal-requires
-decimal-requires c κs = search needs
-
 literal-requires : tie.Need-literal-requires
 literal-requires c κs = omega (arith, c .before .before .before .decimal .ensures .place, digits-most (c .before .before .before .before .before .before .before .args .n) (omega arith))
-
-same-length : tie.Need-same-length
-same-length c = search needs
 
 returns : tie.Need-returns
 returns c = (ran-then (c .before .before .before .before .before .before .decimal .ensures) (c .before .before .literal .ensures), omega (arith, c .before .before .before .before .before .before .decimal .ensures .place, c .before .before .literal .ensures .place, digits-most (c .before .before .before .before .before .before .before .before .before .before .args .n) (omega arith)))
 
 pub numbered-spec : {M : Type 1} → statement M
-numbered-spec = tie.close (tie.spec decimal-requires literal-requires same-length returns)
+numbered-spec = tie.close (tie.spec (λ c κs. search needs) literal-requires (λ c. search needs) returns)

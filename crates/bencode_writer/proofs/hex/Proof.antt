@@ -1,9 +1,9 @@
--- `torrent_lines::ink::hex` meets its contract. Assumes nothing.
+-- `hex` meets its contract: by whether the digit is a letter. Assumes nothing.
 use borrow.Author.Needs.{needs}
 use native.Mathlib.Omega.{arith}
-use Rattle.torrent_lines.proofs.Running.{hex-low, hex-high}
-use Rattle.torrent_lines.proofs.ink.hex.Statement.{statement}
-use Rattle.torrent_lines.proofs.ink.hex.Tie as tie
+use Rattle.bencode_writer.proofs.Escapes.{hex-low, hex-high}
+use Rattle.bencode_writer.proofs.hex.Statement.{statement}
+use Rattle.bencode_writer.proofs.hex.Tie as tie
 
 add-result : tie.Need-add-result
 add-result c = search needs
