@@ -27,7 +27,8 @@ use Rattle.peer_wire.specs.Frames.{least, most, sizedOf, readOf}
 use Rattle.peer_wire.specs.Frames.{messageOf as messageBy}
 use Rattle.torrent_metainfo.specs.Rules.{clean, goodName, elementsOf, fileOf, lengthsOf, infoOf, topOf, torrentOf}
 use Rattle.torrent_metainfo.specs.Rules.{sizedOf as torrentSized}
-use Rattle.torrent_lines.specs.Lines.{elementsIn, filesIn, escaped, fileLines, listingOf}
+use Rattle.bencode_writer.specs.Escaped.{escapedBy}
+use Rattle.torrent_lines.specs.Lines.{elementsIn, filesIn, fileLines, listingOf}
 use Rattle.torrent_lines.specs.Lines.{slashed}
 use Rattle.yard_tables.specs.Counting.{eachFrom}
 use Rattle.yard_tables.specs.Rows.{orBytes}
@@ -177,5 +178,5 @@ lent = record {
 
 -- every row gives its answer
 pub stars-hold : given stars lent lent ≡ asked stars
-unfolding given asked stars bytes blockOf byteOf lawful powerFrom sum fileLengths joinedFrom lengths endFrom partsFrom sizesIn step startOf sizesFit lowestFree sitOf seatedAt leaveOf atZero left feedOf messageOf haveOf bitfieldOf overTop announced eachFrom orBytes readOf sizedOf least most messageBy bigEndian numberBytes event sizesWith lowestWithout decode valueFrom itemsOf entriesOf kindOf stringOf closedOf integerOf keyOf digitsVal digitsLen keyLt countIn listingOf fileLines slashed escaped filesIn elementsIn lookup sameKey torrentOf topOf infoOf torrentSized lengthsOf fileOf elementsOf goodName clean decimalIn encode
+unfolding given asked stars bytes blockOf byteOf lawful powerFrom sum fileLengths joinedFrom lengths endFrom partsFrom sizesIn step startOf sizesFit lowestFree sitOf seatedAt leaveOf atZero left feedOf messageOf haveOf bitfieldOf overTop announced eachFrom orBytes readOf sizedOf least most messageBy bigEndian numberBytes event sizesWith lowestWithout decode valueFrom itemsOf entriesOf kindOf stringOf closedOf integerOf keyOf digitsVal digitsLen keyLt countIn listingOf fileLines slashed escapedBy filesIn elementsIn lookup sameKey torrentOf topOf infoOf torrentSized lengthsOf fileOf elementsOf goodName clean decimalIn encode
 stars-hold = refl

@@ -5,6 +5,7 @@ use Prim.Native.Nat.{ℕ, _≤_}
 use lib.IntN.{ℤ}
 use lib.ListN.{length}
 use Rattle.bencode_scalar.specs.Written.{decimal, writtenString, writtenInt}
+use Rattle.bencode_writer.specs.Escaped.{percent}
 use Rattle.bencode_writer.specs.Put.{paper, left, putOf, placePast}
 use Rattle.bencode_writer.specs.declared.Put.{Put}
 use Rattle.bencode_writer.proofs.Laws as laws
@@ -63,3 +64,10 @@ end-ensures put r = r ≡ placePast (paper put)
 
 pub end-determined : (put : Put) → Determined (end-ensures put)
 end-determined put r r′ e f = e ∙ sym f
+
+-- bencode_writer::escape
+abbrev pub escape-ensures : (b : ℕ) → List ℕ → Type 0
+escape-ensures b r = r ≡ percent b
+
+pub escape-determined : (b : ℕ) → Determined (escape-ensures b)
+escape-determined b r r′ e f = e ∙ sym f
