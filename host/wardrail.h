@@ -11,6 +11,8 @@
  *     if (refused) printf("refused %d at byte %d\n", (int)refused, (int)t.place);
  *     else printf("%.*s: %d files\n", (int)t.name.len, (const char *)text + t.name.from, (int)t.files);
  *
+ * A struct has the name of its call, as with stat(), so C++ too writes `struct wardrail_torrent`.
+ *
  * WHAT A CALLER OWES. A slice is a pointer and a count: the pointer is not null, also where the count is 0, is aligned for
  * its type, and that many elements are there. An array has as many elements as is written. What a call writes (not const)
  * overlaps nothing else that is passed to it. Nothing is asked of the content: any bytes and any numbers are answered.
