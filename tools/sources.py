@@ -45,16 +45,13 @@ class Function:
 
     def owner(self, name):
         """The crate, with its modules, that declares a type which the function names."""
-        if "::" in name:
-            return name.rpartition("::")[0]
-        used = re.search(rf"^(?:pub )?use ([\w:]+)::{name};", self.source, re.M)
-        return used.group(1) if used else self.path.rpartition("::")[0]
+        return owner(name, self.source, self.path.rpartition("::")[0])
 
 
 def function(path):
     """The function with that path, public or not."""
     crate, *modules, name = path.split("::")
-    file = source_of(crate, modules)
+    file = source_of(crate, *modules)
     source = file.read_text()
     match = function_head(name, public=False).search(source)
     if match is None:
@@ -65,7 +62,7 @@ def function(path):
 def declared(path):
     """A type's fields, each with its type as it is written and the crate that declares that; none for an enum."""
     crate, *modules, name = path.split("::")
-    source = source_of(crate, modules).read_text()
+    source = source_of(crate, *modules).read_text()
     struct = re.search(rf"^pub struct {name} \{{\n(.*?)^\}}", source, re.S | re.M)
     if struct is None:
         if not re.search(rf"^pub enum {name} \{{", source, re.M):
@@ -74,14 +71,22 @@ def declared(path):
     return re.findall(r"^    (?:pub )?(\w+): ([^\n]+),$", struct.group(1), re.M)
 
 
-def source_of(crate, modules):
+def owner(name, source, here):
+    """The crate, with its modules, that declares a type which a source names."""
+    if "::" in name:
+        return name.rpartition("::")[0]
+    used = re.search(rf"^(?:pub )?use ([\w:]+)::{name};", source, re.M)
+    return used.group(1) if used else here
+
+
+def source_of(crate, *modules):
     return ROOT / "crates" / crate / "src" / f"{modules[-1] if modules else 'lib'}.rt"
 
 
 def public_functions():
     crates = [line.split(":")[0] for line in (ROOT / "crates.txt").read_text().splitlines() if re.match(r"\w+:", line)]
     for crate in crates:
-        library = source_of(crate, [])
+        library = source_of(crate)
         if library.exists():
             yield from in_module(crate, [crate], library, True)
 

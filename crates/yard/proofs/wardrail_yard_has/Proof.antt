@@ -1,5 +1,5 @@
--- `yard::wardrail_yard_has` meets its contract: a walk of its MIR, by hand, written by tools/walks.py. Of its callees the proof knows the contracts alone.
--- No field that the code does not name is named. Assumes nothing.
+-- `yard::wardrail_yard_has` meets its contract: a walk of its MIR, by hand, written by tools/walks.py. Of its callees the proof knows the
+-- contracts alone, and no field that the code does not name is named. Assumes nothing.
 use mathlib.Core.Path.{_≡_, refl, ap, subst}
 use Prim.Native.Nat.{ℕ}
 use mathlib.Core.List.{List, [], _∷_}
@@ -21,7 +21,7 @@ use types.Kit.{suffices, frame, await, done}
 use types.Run.{look-raw, store-raw, stop, hop, fld, from, load, of-opd, and-then, no-more, assigns, land, returns, enter}
 use types.Part.{sub, look-in}
 use types.SemTy.{Body}
-use sound.WpLaws.{FmC, fmOf, WpFn-mono}
+use sound.WpLaws.{fmOf, WpFn-mono}
 use denote.RattleType.{RattleType, owns}
 use denote.Laws.{Is, shows}
 use denote.Memory.{mem as memOf}
@@ -41,11 +41,11 @@ use denote.Triple.Spec.{Meets, tripleOf}
 use denote.Triple.Table.{entered, cited}
 use denote.Triple.Walked.{says, Stays, stay-ref, stay-none, stay-none-slice, walkOf, goes-ref, goes-none, goes-none-slice, Walks, ends-at, walked, walk-meets}
 use Rattle.yard_scans.proofs.Locals.{at-local, puts, respells, allots, takes, frees-all}
+use Rattle.yard.proofs.Calls.{has-is}
 use Rattle.yard_tables.specs.declared.Seat.{Seat}
 use Rattle.yard_tables.specs.Tables.{paper, around}
 use Rattle.yard_tables.specs.Looks.{hasOf}
 use Rattle.yard_telling.specs.Telling.{toldOf, codeOf}
-use Rattle.yard.proofs.Calls.{has-is}
 use Rattle.yard_tables.specs.declared.Answer.{Answer}
 use Rattle.yard_tables.specs.declared.Head.{Head}
 use Rattle.yard_telling.specs.declared.Told.{Told}
@@ -75,9 +75,6 @@ use Rattle.yard.proofs.wardrail_yard_has as f
 use Rattle.yard.proofs.wardrail_yard_has.Statement as stated
 use Rattle.yard.proofs.wardrail_yard_has.Code as code
 
-abbrev ref : {A : Type 0} → ℕ → ℕ → GName → A → RefT A
-ref b o γ x = record { ptr = (b, o); name = γ; now = x }
-
 abbrev R-Answer : RattleType
 R-Answer = T-Answer.the-row
 
@@ -94,6 +91,9 @@ abbrev stayed : Stays (f.ended .signature .params) (f.ended .kept)
 stayed =
     (stay-ref (0 ∷ []) tt (plain (λ _. R-Head)), (stay-none-slice (1 ∷ []) tt (plain (λ _. R-Seat)) yes, (stay-none-slice (2 ∷ []) tt (plain (λ _. u8)) yes, (stay-none-slice (3 ∷ []) tt (plain (λ _. u16)) yes, (stay-none (λ _. usize) yes, (stay-none (λ _. usize) yes, (stay-ref (4 ∷ []) tt (plain (λ _. R-Told)), tt)))))))
 
+abbrev ref : {A : Type 0} → ℕ → ℕ → GName → A → RefT A
+ref b o γ x = record { ptr = (b, o); name = γ; now = x }
+
 -- the contracts that the proof cites
 module _ {M : Type 1} (𝓤 : URA M) (H : Heap 𝓤) (A : Atoms 𝓤) (mem : Memory → SProp 𝓤) (run : Routine → Fun 𝓤) where
   abbrev K0 : Contract 𝓤
@@ -108,8 +108,7 @@ module _ {M : Type 1} (𝓤 : URA M) (H : Heap 𝓤) (A : Atoms 𝓤) (mem : Mem
 module _ {M : Type 1} (𝓤 : URA M) (H : Heap 𝓤) (A : Atoms 𝓤) (W : Given 𝓤 H A) (mem : Memory → SProp 𝓤) (run : Routine → Fun 𝓤) (κ0 κ1 κ2 κ3 κ4 : Lft) (q0 q1 q2
     q3 q4 : Share)
     (b0 o0 : ℕ) (γ0 : GName) (head : Head) (b1 o1 : ℕ) (γ1 : GName) (seats : List Seat) (b2 o2 : ℕ) (γ2 : GName) (rows : List ℕ) (b3 o3 : ℕ) (γ3 : GName)
-    (holders : List ℕ) (seat : ℕ) (piece : ℕ) (b4 o4 : ℕ) (γ4 : GName) (told : Told) (g-seats : Room R-Seat (length seats)) (g-rows : Room u8 (length rows))
-    (g-holders : Room u16 (length holders)) (g-seat : Is usize seat (vint w64 seat ∷ [])) (g-piece : Is usize piece (vint w64 piece ∷ [])) where
+    (holders : List ℕ) (seat : ℕ) (piece : ℕ) (b4 o4 : ℕ) (γ4 : GName) (told : Told) where
   abbrev xs : Args f.signature (κ0, (κ1, (κ2, (κ3, (κ4, tt)))))
   xs = (ref b0 o0 γ0 head, (ref b1 o1 γ1 seats, (ref b2 o2 γ2 rows, (ref b3 o3 γ3 holders, (seat, (piece, (ref b4 o4 γ4 told, tt)))))))
 
@@ -122,16 +121,23 @@ module _ {M : Type 1} (𝓤 : URA M) (H : Heap 𝓤) (A : Atoms 𝓤) (W : Given
   abbrev Post : Val → SProp 𝓤
   Post = walkOf 𝓤 H A f.ended stayed (f.clauses 𝓤 H A mem run) .post bound
 
-  module _ (C : Calls 𝓤 H) (Λ : Loops 𝓤 H) (fm : FmC 𝓤 H (W .laws) C) (k0 : Triple 𝓤 (C #yard-seating·looks·has) (K0 𝓤 H A mem run)) (k1 : Triple 𝓤 (C
-      #yard-telling·tell) (K1 𝓤 H A mem run)) (k2 : Triple 𝓤 (C #yard-telling·code) (K2 𝓤 H A mem run)) where
+  module _ (𝓣 : Tables 𝓤 H) (known-c0 : Triple 𝓤 (𝓣 .C #yard-seating·looks·has) (K0 𝓤 H A mem run)) (known-c1 : Triple 𝓤 (𝓣 .C #yard-telling·tell) (K1 𝓤 H A mem
+      run)) (known-c2 : Triple 𝓤 (𝓣 .C #yard-telling·code) (K2 𝓤 H A mem run)) (g-seats : Room R-Seat (length seats)) (g-rows : Room u8 (length rows))
+      (g-holders : Room u16 (length holders)) (g-seat : Is usize seat (vint w64 seat ∷ [])) (g-piece : Is usize piece (vint w64 piece ∷ [])) where
+    abbrev C : Calls 𝓤 H
+    C = 𝓣 .C
+
+    abbrev Λ : Loops 𝓤 H
+    Λ = 𝓣 .Λ
+
     walk : ent 𝓤 (onEntry 𝓤 H A f.signature (κ0, (κ1, (κ2, (κ3, (κ4, tt))))) (q0, (q1, (q2, (q3, (q4, tt))))) xs at) (WpFn 𝓤 H C Λ code.function (vptr b0 o0 ∷
         sliceVal (b1, o1) (length seats) ∷ sliceVal (b2, o2) (length rows) ∷ sliceVal (b3, o3) (length holders) ∷ vint w64 seat ∷ vint w64 piece ∷ vptr b4 o4 ∷
         []) Post)
     walk =
         qed W ((‵ (flft κ0 q0) ⊛ ‵ (flft κ1 q1) ⊛ ‵ (flft κ2 q2) ⊛ ‵ (flft κ3 q3) ⊛ ‵ (flft κ4 q4) ⊛ ‵ ftrue) ∷ ‵ (owns (MutRef (named 0) κ0 R-Head ∷ ShrSlice
-        (named 1) κ1 R-Seat ∷ ShrSlice (named 2) κ2 u8 ∷ ShrSlice (named 3) κ3 u16 ∷ usize ∷ usize ∷ MutRef (named 4) κ4 R-Told ∷ []) xs at) ∷ []) ∵
-        enter ! C Λ code.function (vptr b0 o0 ∷ sliceVal (b1, o1) (length seats) ∷ sliceVal (b2, o2) (length rows) ∷ sliceVal (b3, o3) (length holders) ∷ vint
-        w64 seat ∷ vint w64 piece ∷ vptr b4 o4 ∷ []) _ $
+        (named 1) κ1 R-Seat ∷ ShrSlice (named 2) κ2 u8 ∷ ShrSlice (named 3) κ3 u16 ∷ usize ∷ usize ∷ MutRef (named 4) κ4 R-Told ∷ []) xs at) ∷ []) ∵ enter !
+        C Λ code.function (vptr b0 o0 ∷ sliceVal (b1, o1) (length seats) ∷ sliceVal (b2, o2) (length rows) ∷ sliceVal (b3, o3) (length holders) ∷ vint w64
+        seat ∷ vint w64 piece ∷ vptr b4 o4 ∷ []) _ $
         allots ! (λ bs. takes !
         ((tt, tt), ((tt, (tt, (record { fits = g-seats .0 }, tt))), ((tt, (tt, (record { fits = g-rows .0 }, tt))), ((tt, (tt, (record { fits = g-holders .0 }, tt))), ((tt, record { fits = g-seat .1 }), ((tt, record { fits = g-piece .1 }), ((tt, tt), tt)))))))
         $ move ! (1 ∷ []) $ split ! $ move ! (1 ∷ []) $ split ! $ move ! (1 ∷ []) $ split ! $ move ! (1 ∷ []) $ split ! $ move ! (1 ∷ []) $ split ! $
@@ -152,25 +158,25 @@ module _ {M : Type 1} (𝓤 : URA M) (H : Heap 𝓤) (A : Atoms 𝓤) (W : Given
         (length holders) ∷ [])) ⊛ ‵ (ShrSlice (named 3) κ3 u16 .own (ref b3 o3 γ3 holders) (sliceVal (b3, o3) (length holders) ∷ []))) (shr-slice-copy 𝓤 H A
         W (named 3) κ3 u16 .twice (ref b3 o3 γ3 holders) (sliceVal (b3, o3) (length holders) ∷ [])) $ split ! $ move ! (3 ∷ 1 ∷ []) $ join ! $
         move ! (12 ∷ 0 ∷ []) $ join ! $ move ! (12 ∷ 0 ∷ []) $ join ! $ use1 W (raw (K0 𝓤 H A mem run .pre
-        ((((κ2, (κ3, tt))), ((q2, (q3, tt))), tt, ((head, (seat, (piece, ((length seats), (ref b2 o2 γ2 rows, (ref b3 o3 γ3 holders, tt))))))), ((L-Head.lowered head ∷ [], (vint w64 seat ∷ [], (vint w64 piece ∷ [], (vint w64 (length seats) ∷ [], (sliceVal (b2, o2) (length rows) ∷ [], (sliceVal (b3, o3) (length holders) ∷ [], tt)))))))), tt)))
+        (((κ2, (κ3, tt)), (q2, (q3, tt)), tt, (head, (seat, (piece, ((length seats), (ref b2 o2 γ2 rows, (ref b3 o3 γ3 holders, tt)))))), (L-Head.lowered head ∷ [], (vint w64 seat ∷ [], (vint w64 piece ∷ [], (vint w64 (length seats) ∷ [], (sliceVal (b2, o2) (length rows) ∷ [], (sliceVal (b3, o3) (length holders) ∷ [], tt))))))), tt)))
         (qed W (‵ (flft κ2 q2) ∷ ‵ (flft κ3 q3) ∷ ‵ (ShrSlice (named 2) κ2 u8 .own (ref b2 o2 γ2 rows) (sliceVal (b2, o2) (length rows) ∷ [])) ∷ ‵ (ShrSlice
         (named 3) κ3 u16 .own (ref b3 o3 γ3 holders) (sliceVal (b3, o3) (length holders) ∷ [])) ∷ []) ∵ nothing ! $ move ! (2 ∷ 0 ∷ []) $ join ! $
         move ! (1 ∷ 0 ∷ []) $ join ! $ nothing ! $ move ! (3 ∷ 0 ∷ []) $ fjoin ! $ move ! (2 ∷ 0 ∷ []) $ fjoin ! $
         owned ! usize (Is usize) (uint-makes 𝓤 H A W w64) (length seats) (vint w64 (length seats) ∷ []) (refl, g-seats .0) $ fjoin ! $
         owned ! usize (Is usize) (uint-makes 𝓤 H A W w64) piece (vint w64 piece ∷ []) g-piece $ fjoin ! $ owned ! usize (Is usize) (uint-makes 𝓤 H A W w64)
         seat (vint w64 seat ∷ []) g-seat $ fjoin ! $ owned ! R-Head (Is R-Head) (LL.makes T-Head.the-type L-Head.the-plain 𝓤 H A) head (L-Head.lowered head
-        ∷ []) was-head $ fjoin ! $ move ! (1 ∷ 0 ∷ []) $ join ! $ frame ! $ done !) $ calls-at ! fm (K0 𝓤 H A mem run) k0
-        ((((κ2, (κ3, tt))), ((q2, (q3, tt))), tt, ((head, (seat, (piece, ((length seats), (ref b2 o2 γ2 rows, (ref b3 o3 γ3 holders, tt))))))), ((L-Head.lowered head ∷ [], (vint w64 seat ∷ [], (vint w64 piece ∷ [], (vint w64 (length seats) ∷ [], (sliceVal (b2, o2) (length rows) ∷ [], (sliceVal (b3, o3) (length holders) ∷ [], tt)))))))), tt)
+        ∷ []) was-head $ fjoin ! $ move ! (1 ∷ 0 ∷ []) $ join ! $ frame ! $ done !) $ calls-at ! (fmOf 𝓤 H (W .laws) 𝓣) (K0 𝓤 H A mem run) known-c0
+        (((κ2, (κ3, tt)), (q2, (q3, tt)), tt, (head, (seat, (piece, ((length seats), (ref b2 o2 γ2 rows, (ref b3 o3 γ3 holders, tt)))))), (L-Head.lowered head ∷ [], (vint w64 seat ∷ [], (vint w64 piece ∷ [], (vint w64 (length seats) ∷ [], (sliceVal (b2, o2) (length rows) ∷ [], (sliceVal (b3, o3) (length holders) ∷ [], tt))))))), tt)
         (and-then ! (load ! (from ! (stop !)) (look-in ! 13 (at-local ! 11 refl tt))) (and-then ! (load ! (from ! (stop !)) (look-in ! 13 (at-local ! 5 refl
         tt))) (and-then ! (load ! (from ! (stop !)) (look-in ! 13 (at-local ! 6 refl tt))) (and-then ! (load ! (from ! (stop !)) (look-in ! 13 (at-local ! 8
         refl tt))) (and-then ! (load ! (from ! (stop !)) (look-in ! 13 (at-local ! 3 refl tt))) (and-then ! (load ! (from ! (stop !)) (look-in ! 13
         (at-local ! 4 refl tt))) (no-more !))))))) (λ v1. use1 W (later (some (λ (r1 : Answer). ((‵ (flft κ2 q2) ⊛ ‵ (flft κ3 q3) ⊛ ‵ ftrue) ⊛ ‵ (R-Answer
-        .own r1 (v1 ∷ []))) ⊛ raw (ensured 𝓤 H A c0.ended (c0.clauses 𝓤 H A mem run) ((κ2, (κ3, tt)))
-        ((head, (seat, (piece, ((length seats), (ref b2 o2 γ2 rows, (ref b3 o3 γ3 holders, tt))))))) tt r1)))) (id⊢ 𝓤 _) $ await ! tt $
-        pick ! (λ r1. split ! $ move ! (1 ∷ []) $ use1 W (some (λ (z1 : Lasts c0.ended ((κ2, (κ3, tt)))
-        ((head, (seat, (piece, ((length seats), (ref b2 o2 γ2 rows, (ref b3 o3 γ3 holders, tt)))))))). ‵ (lasts c0.ended ((κ2, (κ3, tt)))
-        ((head, (seat, (piece, ((length seats), (ref b2 o2 γ2 rows, (ref b3 o3 γ3 holders, tt))))))) z1) ⊛ (raw (fact 𝓤 (((s′ : Seat) → paper r1 ≡ hasOf
-        seat piece (length seats) (around head s′ rows holders) .answer)))))) (id⊢ 𝓤 _) $ pick ! (λ z1. split ! $ move ! (1 ∷ []) $
+        .own r1 (v1 ∷ []))) ⊛ raw (ensured 𝓤 H A c0.ended (c0.clauses 𝓤 H A mem run) (κ2, (κ3, tt))
+        (head, (seat, (piece, ((length seats), (ref b2 o2 γ2 rows, (ref b3 o3 γ3 holders, tt)))))) tt r1)))) (id⊢ 𝓤 _) $ await ! tt $
+        pick ! (λ r1. split ! $ move ! (1 ∷ []) $ use1 W (some (λ (z1 : Lasts c0.ended (κ2, (κ3, tt))
+        (head, (seat, (piece, ((length seats), (ref b2 o2 γ2 rows, (ref b3 o3 γ3 holders, tt))))))). ‵ (lasts c0.ended (κ2, (κ3, tt))
+        (head, (seat, (piece, ((length seats), (ref b2 o2 γ2 rows, (ref b3 o3 γ3 holders, tt)))))) z1) ⊛ (raw (fact 𝓤 (((s′ : Seat) → paper r1 ≡ hasOf seat
+        piece (length seats) (around head s′ rows holders) .answer)))))) (id⊢ 𝓤 _) $ pick ! (λ z1. split ! $ move ! (1 ∷ []) $
         heard ! (((s′ : Seat) → paper r1 ≡ hasOf seat piece (length seats) (around head s′ rows holders) .answer)) (λ e1. fsplit ! $ drop ! $ fsplit ! $
         drop ! $ fsplit ! $ drop ! $ fsplit ! $ drop ! $ fsplit ! $ drop ! $ fsplit ! $ drop ! $ drop ! $ split ! $ split ! $ move ! (1 ∷ []) $ split ! $
         move ! (1 ∷ []) $ drop ! $ move ! (2 ∷ []) $ peeks ! R-Answer (Is R-Answer) (shows 𝓤 H A R-Answer) r1 (v1 ∷ []) (λ is1. drop ! $
@@ -179,29 +185,30 @@ module _ {M : Type 1} (𝓤 : URA M) (H : Heap 𝓤) (A : Atoms 𝓤) (W : Given
         tt)) (stop !))) (look-raw ! 4 refl))) (from ! (stop !)) (puts ! 14 12 refl refl tt (LL.lawful T-Told.the-type L-Told.the-laws 𝓤 H A W .typed told _
         was-told .0)) $
         -- the call of `tell`
-        use0 W (raw (K1 𝓤 H A mem run .pre (((tt), (tt), tt, ((r1, (told, tt))), ((L-Answer.lowered r1 ∷ [], (L-Told.lowered told ∷ [], tt)))), tt))) (qed W
-        ([]) ∵ nothing ! $ nothing ! $ owned ! R-Told (Is R-Told) (LL.makes T-Told.the-type L-Told.the-plain 𝓤 H A) told (L-Told.lowered told ∷ []) was-told
-        $ fjoin ! $ owned ! R-Answer (Is R-Answer) (EL.makes T-Answer.the-type L-Answer.the-plain 𝓤 H A) r1 (L-Answer.lowered r1 ∷ []) (subst (Is R-Answer
-        r1) (L-Answer.lowers .val-is r1 _ is1) is1) $ fjoin ! $ move ! (1 ∷ 0 ∷ []) $ join ! $ frame ! $ done !) $
-        calls-at ! fm (K1 𝓤 H A mem run) k1 (((tt), (tt), tt, ((r1, (told, tt))), ((L-Answer.lowered r1 ∷ [], (L-Told.lowered told ∷ [], tt)))), tt)
-        (and-then ! (load ! (from ! (stop !)) (look-in ! 15 (at-local ! 9 refl tt))) (and-then ! (load ! (from ! (stop !)) (look-in ! 15 (at-local ! 12 refl
-        tt))) (no-more !))) (λ v2. use1 W (later (some (λ (r2 : Told). ((‵ ftrue) ⊛ ‵ (R-Told .own r2 (v2 ∷ []))) ⊛ raw (ensured 𝓤 H A c1.ended (c1.clauses
-        𝓤 H A mem run) (tt) ((r1, (told, tt))) tt r2)))) (id⊢ 𝓤 _) $ await ! tt $ pick ! (λ r2. split ! $ move ! (1 ∷ []) $
-        use1 W (some (λ (z2 : Lasts c1.ended (tt) ((r1, (told, tt)))). ‵ (lasts c1.ended (tt) ((r1, (told, tt))) z2) ⊛ (raw (fact 𝓤 (r2 ≡ toldOf (paper r1)
-        told))))) (id⊢ 𝓤 _) $ pick ! (λ z2. split ! $ move ! (1 ∷ []) $ heard ! (r2 ≡ toldOf (paper r1) told) (λ e2. fsplit ! $ drop ! $ fsplit ! $ drop ! $
-        drop ! $ split ! $ drop ! $ peeks ! R-Told (Is R-Told) (shows 𝓤 H A R-Told) r2 (v2 ∷ []) (λ is2. drop ! $
-        land ! (from ! (stop !)) (puts ! 14 10 refl refl tt (LL.lawful T-Told.the-type L-Told.the-laws 𝓤 H A W .typed r2 _ is2 .0)) $
-        respells ! 14 10 refl refl (ap only (L-Told.lowers .val-is r2 _ is2)) $ assigns ! (of-opd ! (load ! (from ! (stop !)) (look-in ! 14 (at-local ! 10
-        refl tt)))) (from ! (hop ! (look-in ! 14 (at-local ! 7 refl tt)) (stop !))) (store-raw ! 4 refl (LL.lawful T-Told.the-type L-Told.the-laws 𝓤 H A W
-        .typed r2 _ (subst (Is R-Told r2) (L-Told.lowers .val-is r2 _ is2) is2) .0)) $
+        use0 W (raw (K1 𝓤 H A mem run .pre ((tt, tt, tt, (r1, (told, tt)), (L-Answer.lowered r1 ∷ [], (L-Told.lowered told ∷ [], tt))), tt))) (qed W ([]) ∵
+        nothing ! $ nothing ! $ owned ! R-Told (Is R-Told) (LL.makes T-Told.the-type L-Told.the-plain 𝓤 H A) told (L-Told.lowered told ∷ []) was-told $
+        fjoin ! $ owned ! R-Answer (Is R-Answer) (EL.makes T-Answer.the-type L-Answer.the-plain 𝓤 H A) r1 (L-Answer.lowered r1 ∷ []) (subst (Is R-Answer r1)
+        (L-Answer.lowers .val-is r1 _ is1) is1) $ fjoin ! $ move ! (1 ∷ 0 ∷ []) $ join ! $ frame ! $ done !) $
+        calls-at ! (fmOf 𝓤 H (W .laws) 𝓣) (K1 𝓤 H A mem run) known-c1
+        ((tt, tt, tt, (r1, (told, tt)), (L-Answer.lowered r1 ∷ [], (L-Told.lowered told ∷ [], tt))), tt) (and-then ! (load ! (from ! (stop !)) (look-in ! 15
+        (at-local ! 9 refl tt))) (and-then ! (load ! (from ! (stop !)) (look-in ! 15 (at-local ! 12 refl tt))) (no-more !))) (λ v2. use1 W (later (some (λ
+        (r2 : Told). ((‵ ftrue) ⊛ ‵ (R-Told .own r2 (v2 ∷ []))) ⊛ raw (ensured 𝓤 H A c1.ended (c1.clauses 𝓤 H A mem run) tt (r1, (told, tt)) tt r2)))) (id⊢
+        𝓤 _) $ await ! tt $ pick ! (λ r2. split ! $ move ! (1 ∷ []) $ use1 W (some (λ (z2 : Lasts c1.ended tt (r1, (told, tt))). ‵ (lasts c1.ended tt
+        (r1, (told, tt)) z2) ⊛ (raw (fact 𝓤 (r2 ≡ toldOf (paper r1) told))))) (id⊢ 𝓤 _) $ pick ! (λ z2. split ! $ move ! (1 ∷ []) $
+        heard ! (r2 ≡ toldOf (paper r1) told) (λ e2. fsplit ! $ drop ! $ fsplit ! $ drop ! $ drop ! $ split ! $ drop ! $
+        peeks ! R-Told (Is R-Told) (shows 𝓤 H A R-Told) r2 (v2 ∷ []) (λ is2. drop ! $ land ! (from ! (stop !)) (puts ! 14 10 refl refl tt (LL.lawful
+        T-Told.the-type L-Told.the-laws 𝓤 H A W .typed r2 _ is2 .0)) $ respells ! 14 10 refl refl (ap only (L-Told.lowers .val-is r2 _ is2)) $
+        assigns ! (of-opd ! (load ! (from ! (stop !)) (look-in ! 14 (at-local ! 10 refl tt)))) (from ! (hop ! (look-in ! 14 (at-local ! 7 refl tt)) (stop
+        !))) (store-raw ! 4 refl (LL.lawful T-Told.the-type L-Told.the-laws 𝓤 H A W .typed r2 _ (subst (Is R-Told r2) (L-Told.lowers .val-is r2 _ is2) is2)
+        .0)) $
         -- the call of `code`
-        use0 W (raw (K2 𝓤 H A mem run .pre (((tt), (tt), tt, ((r1, tt)), ((L-Answer.lowered r1 ∷ [], tt))), tt))) (qed W ([]) ∵ nothing ! $ nothing ! $
+        use0 W (raw (K2 𝓤 H A mem run .pre ((tt, tt, tt, (r1, tt), (L-Answer.lowered r1 ∷ [], tt)), tt))) (qed W ([]) ∵ nothing ! $ nothing ! $
         owned ! R-Answer (Is R-Answer) (EL.makes T-Answer.the-type L-Answer.the-plain 𝓤 H A) r1 (L-Answer.lowered r1 ∷ []) (subst (Is R-Answer r1)
         (L-Answer.lowers .val-is r1 _ is1) is1) $ fjoin ! $ move ! (1 ∷ 0 ∷ []) $ join ! $ frame ! $ done !) $
-        calls-at ! fm (K2 𝓤 H A mem run) k2 (((tt), (tt), tt, ((r1, tt)), ((L-Answer.lowered r1 ∷ [], tt))), tt) (and-then ! (load ! (from ! (stop !))
-        (look-in ! 15 (at-local ! 9 refl tt))) (no-more !)) (λ v3. use1 W (later (some (λ (r3 : ℕ). ((‵ ftrue) ⊛ ‵ (u64 .own r3 (v3 ∷ []))) ⊛ raw (ensured 𝓤
-        H A c2.ended (c2.clauses 𝓤 H A mem run) (tt) ((r1, tt)) tt r3)))) (id⊢ 𝓤 _) $ await ! tt $ pick ! (λ r3. split ! $ move ! (1 ∷ []) $
-        use1 W (some (λ (z3 : Lasts c2.ended (tt) ((r1, tt))). ‵ (lasts c2.ended (tt) ((r1, tt)) z3) ⊛ (raw (fact 𝓤 (r3 ≡ codeOf (paper r1)))))) (id⊢ 𝓤 _) $
+        calls-at ! (fmOf 𝓤 H (W .laws) 𝓣) (K2 𝓤 H A mem run) known-c2 ((tt, tt, tt, (r1, tt), (L-Answer.lowered r1 ∷ [], tt)), tt) (and-then ! (load ! (from
+        ! (stop !)) (look-in ! 15 (at-local ! 9 refl tt))) (no-more !)) (λ v3. use1 W (later (some (λ (r3 : ℕ). ((‵ ftrue) ⊛ ‵ (u64 .own r3 (v3 ∷ []))) ⊛
+        raw (ensured 𝓤 H A c2.ended (c2.clauses 𝓤 H A mem run) tt (r1, tt) tt r3)))) (id⊢ 𝓤 _) $ await ! tt $ pick ! (λ r3. split ! $ move ! (1 ∷ []) $
+        use1 W (some (λ (z3 : Lasts c2.ended tt (r1, tt)). ‵ (lasts c2.ended tt (r1, tt) z3) ⊛ (raw (fact 𝓤 (r3 ≡ codeOf (paper r1)))))) (id⊢ 𝓤 _) $
         pick ! (λ z3. split ! $ move ! (1 ∷ []) $ heard ! (r3 ≡ codeOf (paper r1)) (λ e3. fsplit ! $ drop ! $ drop ! $ split ! $ drop ! $
         peeks ! u64 (Is u64) (shows 𝓤 H A u64) r3 (v3 ∷ []) (λ is3. drop ! $ land ! (from ! (stop !)) (puts ! 14 0 refl refl tt (uint-lawful 𝓤 H A W w64
         .typed r3 _ is3 .0)) $ respells ! 14 0 refl refl (ap only (is3 .0)) $ owned ! R-Head (Is R-Head) (LL.makes T-Head.the-type L-Head.the-plain 𝓤 H A)
@@ -224,26 +231,25 @@ module _ {M : Type 1} (𝓤 : URA M) (H : Heap 𝓤) (A : Atoms 𝓤) (W : Given
         done !)))))))))))))))))))))
 
 module _ {M : Type 1} (𝓤 : URA M) (H : Heap 𝓤) (A : Atoms 𝓤) (W : Given 𝓤 H A) (mem : Memory → SProp 𝓤) (run : Routine → Fun 𝓤) where
-  f-walks : (C : Calls 𝓤 H) (Λ : Loops 𝓤 H) → FmC 𝓤 H (W .laws) C → Triple 𝓤 (C #yard-seating·looks·has) (K0 𝓤 H A mem run) → Triple 𝓤 (C #yard-telling·tell)
-      (K1 𝓤 H A mem run) → Triple 𝓤 (C #yard-telling·code) (K2 𝓤 H A mem run) → Walks 𝓤 H A f.ended stayed (WpFn 𝓤 H C Λ code.function) (f.clauses 𝓤 H A mem
-      run)
-  f-walks C Λ fm k0 k1 k2 = walked 𝓤 H A f.ended stayed (f.clauses 𝓤 H A mem run) (WpFn 𝓤 H C Λ code.function) (λ κs.
+  f-walks : (𝓣 : Tables 𝓤 H) → Triple 𝓤 (𝓣 .C #yard-seating·looks·has) (K0 𝓤 H A mem run) → Triple 𝓤 (𝓣 .C #yard-telling·tell) (K1 𝓤 H A mem run) → Triple 𝓤 (𝓣
+      .C #yard-telling·code) (K2 𝓤 H A mem run) → Walks 𝓤 H A f.ended stayed (WpFn 𝓤 H (𝓣 .C) (𝓣 .Λ) code.function) (f.clauses 𝓤 H A mem run)
+  f-walks 𝓣 known-c0 known-c1 known-c2 = walked 𝓤 H A f.ended stayed (f.clauses 𝓤 H A mem run) (WpFn 𝓤 H (𝓣 .C) (𝓣 .Λ) code.function) (λ κs.
       (ptr-vals, (slice-vals, (slice-vals, (slice-vals, (uint-vals w64, (uint-vals w64, (ptr-vals, tt)))))))) (λ κs.
       (mut-tells (named 0) (κs .0) R-Head, (shr-slice-tells (named 1) (κs .1 .0) R-Seat, (shr-slice-tells (named 2) (κs .1 .1 .0) u8, (shr-slice-tells (named 3) (κs .1 .1 .1 .0) u16, (uint-tells w64, (uint-tells w64, (mut-tells (named 4) (κs .1 .1 .1 .1 .0) R-Told, tt))))))))
       (λ κs qs bounds a _ are. via 𝓤 _ (fst∗ 𝓤 _ (emp 𝓤)) (walk 𝓤 H A W mem run (κs .0) (κs .1 .0) (κs .1 .1 .0) (κs .1 .1 .1 .0) (κs .1 .1 .1 .1 .0) (qs .0)
       (qs .1 .0) (qs .1 .1 .0) (qs .1 .1 .1 .0) (qs .1 .1 .1 .1 .0) (a .0 .ptr .0) (a .0 .ptr .1) (a .0 .name) (a .0 .now) (a .1 .0 .ptr .0) (a .1 .0 .ptr
       .1) (a .1 .0 .name) (a .1 .0 .now) (a .1 .1 .0 .ptr .0) (a .1 .1 .0 .ptr .1) (a .1 .1 .0 .name) (a .1 .1 .0 .now) (a .1 .1 .1 .0 .ptr .0) (a .1 .1 .1
       .0 .ptr .1) (a .1 .1 .1 .0 .name) (a .1 .1 .1 .0 .now) (a .1 .1 .1 .1 .0) (a .1 .1 .1 .1 .1 .0) (a .1 .1 .1 .1 .1 .1 .0 .ptr .0) (a .1 .1 .1 .1 .1 .1
-      .0 .ptr .1) (a .1 .1 .1 .1 .1 .1 .0 .name) (a .1 .1 .1 .1 .1 .1 .0 .now) (are .1 .0 .0 .1) (are .1 .1 .0 .0 .1) (are .1 .1 .1 .0 .0 .1) (are .1 .1 .1
-      .1 .0) (are .1 .1 .1 .1 .1 .0) C Λ fm k0 k1 k2))
+      .0 .ptr .1) (a .1 .1 .1 .1 .1 .1 .0 .name) (a .1 .1 .1 .1 .1 .1 .0 .now) 𝓣 known-c0 known-c1 known-c2 (are .1 .0 .0 .1) (are .1 .1 .0 .0 .1) (are .1
+      .1 .1 .0 .0 .1) (are .1 .1 .1 .1 .0) (are .1 .1 .1 .1 .1 .0)))
 
 f-meets : {M : Type 1} (𝓤 : URA M) (H : Heap 𝓤) (A : Atoms 𝓤) → Given 𝓤 H A → (mem : Memory → SProp 𝓤) (run : Routine → Fun 𝓤) (𝓣 : Tables 𝓤 H) → Triple 𝓤 (𝓣 .C
     #yard-seating·looks·has) (K0 𝓤 H A mem run) → Triple 𝓤 (𝓣 .C #yard-telling·tell) (K1 𝓤 H A mem run) → Triple 𝓤 (𝓣 .C #yard-telling·code) (K2 𝓤 H A mem run)
     → Meets 𝓤 H A f.signature (WpFn 𝓤 H (𝓣 .C) (𝓣 .Λ) code.function) (f.spec 𝓤 H A mem run)
-f-meets 𝓤 H A W mem run 𝓣 k0 k1 k2 = walk-meets 𝓤 H A f.ended stayed W
+f-meets 𝓤 H A W mem run 𝓣 known-c0 known-c1 known-c2 = walk-meets 𝓤 H A f.ended stayed W
     (goes-ref 𝓤 H A W 5 0 tt (plain (λ _. R-Head)), (goes-none-slice 𝓤 H A W 5 (1 ∷ []) tt (plain (λ _. R-Seat)) yes, (goes-none-slice 𝓤 H A W 5 (2 ∷ []) tt (plain (λ _. u8)) yes, (goes-none-slice 𝓤 H A W 5 (3 ∷ []) tt (plain (λ _. u16)) yes, (goes-none 𝓤 H A W 5 (λ _. usize) yes (λ κs x f. refl), (goes-none 𝓤 H A W 5 (λ _. usize) yes (λ κs x f. refl), (goes-ref 𝓤 H A W 5 4 tt (plain (λ _. R-Told)), tt)))))))
     (f.clauses 𝓤 H A mem run)
-    (WpFn 𝓤 H (𝓣 .C) (𝓣 .Λ) code.function) (WpFn-mono 𝓤 H (W .laws) 𝓣 code.function) (f-walks 𝓤 H A W mem run (𝓣 .C) (𝓣 .Λ) (fmOf 𝓤 H (W .laws) 𝓣) k0 k1 k2)
+    (WpFn 𝓤 H (𝓣 .C) (𝓣 .Λ) code.function) (WpFn-mono 𝓤 H (W .laws) 𝓣 code.function) (f-walks 𝓤 H A W mem run 𝓣 known-c0 known-c1 known-c2)
 
 pub wardrail-yard-has-spec : {M : Type 1} → stated.statement M
 unfolding code.routine tablesOf

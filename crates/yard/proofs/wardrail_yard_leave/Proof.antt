@@ -1,5 +1,5 @@
--- `yard::wardrail_yard_leave` meets its contract: a walk of its MIR, by hand, written by tools/walks.py. Of its callees the proof knows the contracts alone.
--- No field that the code does not name is named. Assumes nothing.
+-- `yard::wardrail_yard_leave` meets its contract: a walk of its MIR, by hand, written by tools/walks.py. Of its callees the proof knows the
+-- contracts alone, and no field that the code does not name is named. Assumes nothing.
 use mathlib.Core.Path.{_≡_, refl, ap, subst}
 use Prim.Native.Nat.{ℕ}
 use mathlib.Core.List.{List, [], _∷_}
@@ -22,7 +22,7 @@ use types.Run.{look-raw, store-raw, stop, hop, fld, from, load, addr, of-opd, an
 use types.Part.{agg, sub, look-in}
 use types.SemTy.{Body}
 use types.Tokens.{lft-new, lft-end}
-use sound.WpLaws.{FmC, fmOf, WpFn-mono}
+use sound.WpLaws.{fmOf, WpFn-mono}
 use denote.RattleType.{RattleType, owns}
 use denote.Laws.{Is, shows}
 use denote.Memory.{mem as memOf}
@@ -44,11 +44,11 @@ use denote.Triple.Walked.{says, Stays, stay-ref, stay-none, stay-slice, walkOf, 
 use Rattle.yard_scans.proofs.Shared.{LentShared, lends-shared, shared-back}
 use Rattle.yard_scans.proofs.Again.{LentAgain, lends-again, comes-back}
 use Rattle.yard_scans.proofs.Locals.{at-local, puts, respells, allots, takes, frees-all}
+use Rattle.yard.proofs.Calls.{leave-is}
 use Rattle.yard_tables.specs.Seats.{cleared}
 use Rattle.yard_tables.specs.Tables.{turn, around, paper}
 use Rattle.yard_tables.specs.Seating.{leaveOf}
 use Rattle.yard_telling.specs.Telling.{codeOf}
-use Rattle.yard.proofs.Calls.{leave-is}
 use Rattle.yard_tables.specs.declared.Head.{Head}
 use Rattle.yard_tables.specs.declared.Seat.{Seat}
 use Rattle.yard_tables.specs.declared.Stepped.{Stepped}
@@ -83,9 +83,6 @@ use Rattle.yard.proofs.wardrail_yard_leave as f
 use Rattle.yard.proofs.wardrail_yard_leave.Statement as stated
 use Rattle.yard.proofs.wardrail_yard_leave.Code as code
 
-abbrev ref : {A : Type 0} → ℕ → ℕ → GName → A → RefT A
-ref b o γ x = record { ptr = (b, o); name = γ; now = x }
-
 abbrev R-Answer : RattleType
 R-Answer = T-Answer.the-row
 
@@ -101,6 +98,9 @@ R-Stepped = T-Stepped.the-row
 abbrev stayed : Stays (f.ended .signature .params) (f.ended .kept)
 stayed =
     (stay-ref (0 ∷ []) tt (plain (λ _. R-Head)), (stay-slice (1 ∷ []) tt (plain (λ _. R-Seat)), (stay-slice (2 ∷ []) tt (plain (λ _. u8)), (stay-slice (3 ∷ []) tt (plain (λ _. u16)), (stay-none (λ _. usize) yes, tt)))))
+
+abbrev ref : {A : Type 0} → ℕ → ℕ → GName → A → RefT A
+ref b o γ x = record { ptr = (b, o); name = γ; now = x }
 
 -- what whoever holds a Stepped knows of its fields
 parts-Stepped : (r : Stepped) (vs : List Val) → Is R-Stepped r vs → (Is R-Head (r .head) (L-Head.lowered (r .head) ∷ []) × (Is R-Seat (r .seat) (L-Seat.lowered
@@ -125,8 +125,7 @@ module _ {M : Type 1} (𝓤 : URA M) (H : Heap 𝓤) (A : Atoms 𝓤) (mem : Mem
 module _ {M : Type 1} (𝓤 : URA M) (H : Heap 𝓤) (A : Atoms 𝓤) (W : Given 𝓤 H A) (mem : Memory → SProp 𝓤) (run : Routine → Fun 𝓤) (κ0 κ1 κ2 κ3 : Lft) (q0 q1 q2 q3
     : Share)
     (b0 o0 : ℕ) (γ0 : GName) (head : Head) (b1 o1 : ℕ) (γ1 : GName) (seats : List Seat) (b2 o2 : ℕ) (γ2 : GName) (rows : List ℕ) (b3 o3 : ℕ) (γ3 : GName)
-    (holders : List ℕ) (seat : ℕ) (g-seats : Room R-Seat (length seats)) (g-rows : Room u8 (length rows)) (g-holders : Room u16 (length holders)) (g-seat :
-    Is usize seat (vint w64 seat ∷ [])) where
+    (holders : List ℕ) (seat : ℕ) where
   abbrev xs : Args f.signature (κ0, (κ1, (κ2, (κ3, tt))))
   xs = (ref b0 o0 γ0 head, (ref b1 o1 γ1 seats, (ref b2 o2 γ2 rows, (ref b3 o3 γ3 holders, (seat, tt)))))
 
@@ -139,16 +138,21 @@ module _ {M : Type 1} (𝓤 : URA M) (H : Heap 𝓤) (A : Atoms 𝓤) (W : Given
   abbrev Post : Val → SProp 𝓤
   Post = walkOf 𝓤 H A f.ended stayed (f.clauses 𝓤 H A mem run) .post bound
 
-  module _ (C : Calls 𝓤 H) (Λ : Loops 𝓤 H) (fm : FmC 𝓤 H (W .laws) C) (k0 : Triple 𝓤 (C #yard-scans·seat-get) (K0 𝓤 H A mem run)) (k1 : Triple 𝓤 (C
-      #yard-seating·leave-step) (K1 𝓤 H A mem run)) (k2 : Triple 𝓤 (C #yard-scans·seat-set) (K2 𝓤 H A mem run)) (k3 : Triple 𝓤 (C #yard-telling·code) (K3 𝓤 H A
-      mem run)) where
+  module _ (𝓣 : Tables 𝓤 H) (known-c0 : Triple 𝓤 (𝓣 .C #yard-scans·seat-get) (K0 𝓤 H A mem run)) (known-c1 : Triple 𝓤 (𝓣 .C #yard-seating·leave-step) (K1 𝓤 H A
+      mem run)) (known-c2 : Triple 𝓤 (𝓣 .C #yard-scans·seat-set) (K2 𝓤 H A mem run)) (known-c3 : Triple 𝓤 (𝓣 .C #yard-telling·code) (K3 𝓤 H A mem run)) (g-seats
+      : Room R-Seat (length seats)) (g-rows : Room u8 (length rows)) (g-holders : Room u16 (length holders)) (g-seat : Is usize seat (vint w64 seat ∷ [])) where
+    abbrev C : Calls 𝓤 H
+    C = 𝓣 .C
+
+    abbrev Λ : Loops 𝓤 H
+    Λ = 𝓣 .Λ
+
     walk : ent 𝓤 (onEntry 𝓤 H A f.signature (κ0, (κ1, (κ2, (κ3, tt)))) (q0, (q1, (q2, (q3, tt)))) xs at) (WpFn 𝓤 H C Λ code.function (vptr b0 o0 ∷ sliceVal
         (b1, o1) (length seats) ∷ sliceVal (b2, o2) (length rows) ∷ sliceVal (b3, o3) (length holders) ∷ vint w64 seat ∷ []) Post)
     walk =
         qed W ((‵ (flft κ0 q0) ⊛ ‵ (flft κ1 q1) ⊛ ‵ (flft κ2 q2) ⊛ ‵ (flft κ3 q3) ⊛ ‵ ftrue) ∷ ‵ (owns (MutRef (named 0) κ0 R-Head ∷ MutSlice (named 1) κ1
-        R-Seat ∷ MutSlice (named 2) κ2 u8 ∷ MutSlice (named 3) κ3 u16 ∷ usize ∷ []) xs at) ∷ []) ∵
-        enter ! C Λ code.function (vptr b0 o0 ∷ sliceVal (b1, o1) (length seats) ∷ sliceVal (b2, o2) (length rows) ∷ sliceVal (b3, o3) (length holders) ∷ vint
-        w64 seat ∷ []) _ $
+        R-Seat ∷ MutSlice (named 2) κ2 u8 ∷ MutSlice (named 3) κ3 u16 ∷ usize ∷ []) xs at) ∷ []) ∵ enter ! C Λ code.function (vptr b0 o0 ∷ sliceVal (b1, o1)
+        (length seats) ∷ sliceVal (b2, o2) (length rows) ∷ sliceVal (b3, o3) (length holders) ∷ vint w64 seat ∷ []) _ $
         allots ! (λ bs. takes !
         ((tt, tt), ((tt, (tt, (record { fits = g-seats .0 }, tt))), ((tt, (tt, (record { fits = g-rows .0 }, tt))), ((tt, (tt, (record { fits = g-holders .0 }, tt))), ((tt, record { fits = g-seat .1 }), tt)))))
         $ move ! (1 ∷ []) $ split ! $ move ! (1 ∷ []) $ split ! $ move ! (1 ∷ []) $ split ! $ move ! (1 ∷ []) $ split ! $ move ! (1 ∷ []) $ drop ! $
@@ -166,28 +170,27 @@ module _ {M : Type 1} (𝓤 : URA M) (H : Heap 𝓤) (A : Atoms 𝓤) (W : Given
         δ1-seats seats) (sliceVal (b1, o1) (length seats) ∷ [])) ⊛ ‵ (LentShared R-Seat κ1 (ν1-seats ∷ []) q1 γ1 b1 o1 seats)))) (lends-shared R-Seat κ1
         (ν1-seats ∷ []) q1 γ1 b1 o1 𝓤 H A W (named 1) (named 0) seats) $ await ! tt $ pick ! (λ δ1-seats. split ! $ move ! (2 ∷ 0 ∷ []) $
         use2 W (raw (K0 𝓤 H A mem run .pre
-        (((((ν1-seats ∷ []), tt)), ((fullShare, tt)), tt, ((ref b1 o1 δ1-seats seats, (seat, tt))), ((sliceVal (b1, o1) (length seats) ∷ [], (vint w64 seat ∷ [], tt)))), tt)))
+        ((((ν1-seats ∷ []), tt), (fullShare, tt), tt, (ref b1 o1 δ1-seats seats, (seat, tt)), (sliceVal (b1, o1) (length seats) ∷ [], (vint w64 seat ∷ [], tt))), tt)))
         (qed W (‵ (flft (ν1-seats ∷ []) fullShare) ∷ ‵ (ShrSlice (named 0) (ν1-seats ∷ []) R-Seat .own (ref b1 o1 δ1-seats seats) (sliceVal (b1, o1) (length
         seats) ∷ [])) ∷ []) ∵ nothing ! $ move ! (1 ∷ 0 ∷ []) $ join ! $ nothing ! $ owned ! usize (Is usize) (uint-makes 𝓤 H A W w64) seat (vint w64 seat ∷
         []) g-seat $ fjoin ! $ move ! (2 ∷ 0 ∷ []) $ fjoin ! $ move ! (1 ∷ 0 ∷ []) $ join ! $ frame ! $ done !) $
-        calls-at ! fm (K0 𝓤 H A mem run) k0
-        (((((ν1-seats ∷ []), tt)), ((fullShare, tt)), tt, ((ref b1 o1 δ1-seats seats, (seat, tt))), ((sliceVal (b1, o1) (length seats) ∷ [], (vint w64 seat ∷ [], tt)))), tt)
+        calls-at ! (fmOf 𝓤 H (W .laws) 𝓣) (K0 𝓤 H A mem run) known-c0
+        ((((ν1-seats ∷ []), tt), (fullShare, tt), tt, (ref b1 o1 δ1-seats seats, (seat, tt)), (sliceVal (b1, o1) (length seats) ∷ [], (vint w64 seat ∷ [], tt))), tt)
         (and-then ! (load ! (from ! (stop !)) (look-in ! 10 (at-local ! 10 refl tt))) (and-then ! (load ! (from ! (stop !)) (look-in ! 10 (at-local ! 5 refl
         tt))) (no-more !))) (λ v1. use1 W (later (some (λ (r1 : Seat). ((‵ (flft (ν1-seats ∷ []) fullShare) ⊛ ‵ ftrue) ⊛ ‵ (R-Seat .own r1 (v1 ∷ []))) ⊛ raw
-        (ensured 𝓤 H A c0.ended (c0.clauses 𝓤 H A mem run) (((ν1-seats ∷ []), tt)) ((ref b1 o1 δ1-seats seats, (seat, tt))) tt r1)))) (id⊢ 𝓤 _) $
-        await ! tt $ pick ! (λ r1. split ! $ move ! (1 ∷ []) $ use1 W (some (λ (z1 : Lasts c0.ended (((ν1-seats ∷ []), tt))
-        ((ref b1 o1 δ1-seats seats, (seat, tt)))). ‵ (lasts c0.ended (((ν1-seats ∷ []), tt)) ((ref b1 o1 δ1-seats seats, (seat, tt))) z1) ⊛ (raw (fact 𝓤 (r1
-        ≡ getD seats seat cleared))))) (id⊢ 𝓤 _) $ pick ! (λ z1. split ! $ move ! (1 ∷ []) $ heard ! (r1 ≡ getD seats seat cleared) (λ e1. fsplit ! $
-        drop ! $ fsplit ! $ drop ! $ drop ! $ split ! $ split ! $ move ! (1 ∷ []) $ drop ! $ move ! (1 ∷ []) $
-        peeks ! R-Seat (Is R-Seat) (shows 𝓤 H A R-Seat) r1 (v1 ∷ []) (λ is1. drop ! $ land ! (from ! (stop !)) (puts ! 10 7 refl refl tt (LL.lawful
-        T-Seat.the-type L-Seat.the-laws 𝓤 H A W .typed r1 _ is1 .0)) $ respells ! 10 7 refl refl (ap only (L-Seat.lowers .val-is r1 _ is1)) $ lft-end ! tt $
-        use2 W (later (‵ (MutSlice (named 1) κ1 R-Seat .own (ref b1 o1 γ1 seats) (sliceVal (b1, o1) (length seats) ∷ [])) ⊛ ‵ (flft κ1 q1))) (shared-back
-        R-Seat κ1 (ν1-seats ∷ []) q1 γ1 b1 o1 𝓤 H A W (named 1) (named 0) seats g-seats) $ await ! tt $ split ! $
-        assigns ! (of-opd ! (load ! (from ! (hop ! (look-in ! 10 (at-local ! 1 refl tt)) (stop !))) (look-raw ! 2 refl))) (from ! (stop !)) (puts ! 10 11
-        refl refl tt (LL.lawful T-Head.the-type L-Head.the-laws 𝓤 H A W .typed head _ was-head .0)) $ assigns ! (addr ! (from ! (fld ! refl (hop ! (look-in
-        ! 10 (sub ! 0 refl (at-local ! 3 refl tt))) (stop !))))) (from ! (stop !)) (puts ! 10 12 refl refl tt (tt, tt)) $
-        assigns ! (agg ! (and-then ! (load ! (from ! (stop !)) (look-in ! 10 (at-local ! 12 refl tt))) (and-then ! (load ! (from ! (fld ! refl (stop !)))
-        (look-in ! 10 (sub ! 1 refl (at-local ! 3 refl tt)))) (no-more !)))) (from ! (stop !)) (puts ! 10 13 refl refl tt
+        (ensured 𝓤 H A c0.ended (c0.clauses 𝓤 H A mem run) ((ν1-seats ∷ []), tt) (ref b1 o1 δ1-seats seats, (seat, tt)) tt r1)))) (id⊢ 𝓤 _) $ await ! tt $
+        pick ! (λ r1. split ! $ move ! (1 ∷ []) $ use1 W (some (λ (z1 : Lasts c0.ended ((ν1-seats ∷ []), tt) (ref b1 o1 δ1-seats seats, (seat, tt))). ‵
+        (lasts c0.ended ((ν1-seats ∷ []), tt) (ref b1 o1 δ1-seats seats, (seat, tt)) z1) ⊛ (raw (fact 𝓤 (r1 ≡ getD seats seat cleared))))) (id⊢ 𝓤 _) $
+        pick ! (λ z1. split ! $ move ! (1 ∷ []) $ heard ! (r1 ≡ getD seats seat cleared) (λ e1. fsplit ! $ drop ! $ fsplit ! $ drop ! $ drop ! $ split ! $
+        split ! $ move ! (1 ∷ []) $ drop ! $ move ! (1 ∷ []) $ peeks ! R-Seat (Is R-Seat) (shows 𝓤 H A R-Seat) r1 (v1 ∷ []) (λ is1. drop ! $
+        land ! (from ! (stop !)) (puts ! 10 7 refl refl tt (LL.lawful T-Seat.the-type L-Seat.the-laws 𝓤 H A W .typed r1 _ is1 .0)) $
+        respells ! 10 7 refl refl (ap only (L-Seat.lowers .val-is r1 _ is1)) $ lft-end ! tt $ use2 W (later (‵ (MutSlice (named 1) κ1 R-Seat .own (ref b1 o1
+        γ1 seats) (sliceVal (b1, o1) (length seats) ∷ [])) ⊛ ‵ (flft κ1 q1))) (shared-back R-Seat κ1 (ν1-seats ∷ []) q1 γ1 b1 o1 𝓤 H A W (named 1) (named 0)
+        seats g-seats) $ await ! tt $ split ! $ assigns ! (of-opd ! (load ! (from ! (hop ! (look-in ! 10 (at-local ! 1 refl tt)) (stop !))) (look-raw ! 2
+        refl))) (from ! (stop !)) (puts ! 10 11 refl refl tt (LL.lawful T-Head.the-type L-Head.the-laws 𝓤 H A W .typed head _ was-head .0)) $
+        assigns ! (addr ! (from ! (fld ! refl (hop ! (look-in ! 10 (sub ! 0 refl (at-local ! 3 refl tt))) (stop !))))) (from ! (stop !)) (puts ! 10 12 refl
+        refl tt (tt, tt)) $ assigns ! (agg ! (and-then ! (load ! (from ! (stop !)) (look-in ! 10 (at-local ! 12 refl tt))) (and-then ! (load ! (from ! (fld
+        ! refl (stop !))) (look-in ! 10 (sub ! 1 refl (at-local ! 3 refl tt)))) (no-more !)))) (from ! (stop !)) (puts ! 10 13 refl refl tt
         (tt, (tt, (record { fits = g-rows .0 }, tt)))) $ assigns ! (addr ! (from ! (fld ! refl (hop ! (look-in ! 10 (sub ! 0 refl (at-local ! 4 refl tt)))
         (stop !))))) (from ! (stop !)) (puts ! 10 14 refl refl tt (tt, tt)) $ assigns ! (agg ! (and-then ! (load ! (from ! (stop !)) (look-in ! 10 (at-local
         ! 14 refl tt))) (and-then ! (load ! (from ! (fld ! refl (stop !))) (look-in ! 10 (sub ! 1 refl (at-local ! 4 refl tt)))) (no-more !)))) (from !
@@ -200,7 +203,7 @@ module _ {M : Type 1} (𝓤 : URA M) (H : Heap 𝓤) (A : Atoms 𝓤) (W : Given
         (length holders) ∷ [])) ⊛ ‵ (LentAgain u16 κ3 (ν2-holders ∷ []) q3 γ3 b3 o3 δ2-holders holders)))) (lends-again u16 κ3 (ν2-holders ∷ []) q3 γ3 b3 o3
         𝓤 H A W (named 3) (named 1) holders) $ await ! tt $ pick ! (λ δ2-holders. split ! $ move ! (3 ∷ 0 ∷ []) $ join ! $ move ! (2 ∷ 0 ∷ []) $ join ! $
         move ! (3 ∷ 0 ∷ []) $ join ! $ use1 W (raw (K1 𝓤 H A mem run .pre
-        (((((ν2-rows ∷ []), ((ν2-holders ∷ []), tt))), ((fullShare, (fullShare, tt))), tt, ((head, (r1, (ref b2 o2 δ2-rows rows, (ref b3 o3 δ2-holders holders, (seat, ((length seats), tt))))))), ((L-Head.lowered head ∷ [], (L-Seat.lowered r1 ∷ [], (sliceVal (b2, o2) (length rows) ∷ [], (sliceVal (b3, o3) (length holders) ∷ [], (vint w64 seat ∷ [], (vint w64 (length seats) ∷ [], tt)))))))), tt)))
+        ((((ν2-rows ∷ []), ((ν2-holders ∷ []), tt)), (fullShare, (fullShare, tt)), tt, (head, (r1, (ref b2 o2 δ2-rows rows, (ref b3 o3 δ2-holders holders, (seat, ((length seats), tt)))))), (L-Head.lowered head ∷ [], (L-Seat.lowered r1 ∷ [], (sliceVal (b2, o2) (length rows) ∷ [], (sliceVal (b3, o3) (length holders) ∷ [], (vint w64 seat ∷ [], (vint w64 (length seats) ∷ [], tt))))))), tt)))
         (qed W (‵ (flft (ν2-rows ∷ []) fullShare) ∷ ‵ (flft (ν2-holders ∷ []) fullShare) ∷ ‵ (MutSlice (named 0) (ν2-rows ∷ []) u8 .own (ref b2 o2 δ2-rows
         rows) (sliceVal (b2, o2) (length rows) ∷ [])) ∷ ‵ (MutSlice (named 1) (ν2-holders ∷ []) u16 .own (ref b3 o3 δ2-holders holders) (sliceVal (b3, o3)
         (length holders) ∷ [])) ∷ []) ∵ nothing ! $ move ! (2 ∷ 0 ∷ []) $ join ! $ move ! (1 ∷ 0 ∷ []) $ join ! $ nothing ! $
@@ -208,18 +211,18 @@ module _ {M : Type 1} (𝓤 : URA M) (H : Heap 𝓤) (A : Atoms 𝓤) (W : Given
         owned ! usize (Is usize) (uint-makes 𝓤 H A W w64) seat (vint w64 seat ∷ []) g-seat $ fjoin ! $ move ! (3 ∷ 0 ∷ []) $ fjoin ! $ move ! (2 ∷ 0 ∷ []) $
         fjoin ! $ owned ! R-Seat (Is R-Seat) (LL.makes T-Seat.the-type L-Seat.the-plain 𝓤 H A) r1 (L-Seat.lowered r1 ∷ []) (subst (Is R-Seat r1)
         (L-Seat.lowers .val-is r1 _ is1) is1) $ fjoin ! $ owned ! R-Head (Is R-Head) (LL.makes T-Head.the-type L-Head.the-plain 𝓤 H A) head (L-Head.lowered
-        head ∷ []) was-head $ fjoin ! $ move ! (1 ∷ 0 ∷ []) $ join ! $ frame ! $ done !) $ calls-at ! fm (K1 𝓤 H A mem run) k1
-        (((((ν2-rows ∷ []), ((ν2-holders ∷ []), tt))), ((fullShare, (fullShare, tt))), tt, ((head, (r1, (ref b2 o2 δ2-rows rows, (ref b3 o3 δ2-holders holders, (seat, ((length seats), tt))))))), ((L-Head.lowered head ∷ [], (L-Seat.lowered r1 ∷ [], (sliceVal (b2, o2) (length rows) ∷ [], (sliceVal (b3, o3) (length holders) ∷ [], (vint w64 seat ∷ [], (vint w64 (length seats) ∷ [], tt)))))))), tt)
+        head ∷ []) was-head $ fjoin ! $ move ! (1 ∷ 0 ∷ []) $ join ! $ frame ! $ done !) $ calls-at ! (fmOf 𝓤 H (W .laws) 𝓣) (K1 𝓤 H A mem run) known-c1
+        ((((ν2-rows ∷ []), ((ν2-holders ∷ []), tt)), (fullShare, (fullShare, tt)), tt, (head, (r1, (ref b2 o2 δ2-rows rows, (ref b3 o3 δ2-holders holders, (seat, ((length seats), tt)))))), (L-Head.lowered head ∷ [], (L-Seat.lowered r1 ∷ [], (sliceVal (b2, o2) (length rows) ∷ [], (sliceVal (b3, o3) (length holders) ∷ [], (vint w64 seat ∷ [], (vint w64 (length seats) ∷ [], tt))))))), tt)
         (and-then ! (load ! (from ! (stop !)) (look-in ! 9 (at-local ! 11 refl tt))) (and-then ! (load ! (from ! (stop !)) (look-in ! 9 (at-local ! 7 refl
         tt))) (and-then ! (load ! (from ! (stop !)) (look-in ! 9 (at-local ! 13 refl tt))) (and-then ! (load ! (from ! (stop !)) (look-in ! 9 (at-local ! 15
         refl tt))) (and-then ! (load ! (from ! (stop !)) (look-in ! 9 (at-local ! 5 refl tt))) (and-then ! (load ! (from ! (stop !)) (look-in ! 9 (at-local
         ! 6 refl tt))) (no-more !))))))) (λ v2. use1 W (later (some (λ (r2 : Stepped). ((‵ (flft (ν2-rows ∷ []) fullShare) ⊛ ‵ (flft (ν2-holders ∷ [])
         fullShare) ⊛ ‵ ftrue) ⊛ ‵ (R-Stepped .own r2 (v2 ∷ []))) ⊛ raw (ensured 𝓤 H A c1.ended (c1.clauses 𝓤 H A mem run)
-        (((ν2-rows ∷ []), ((ν2-holders ∷ []), tt))) ((head, (r1, (ref b2 o2 δ2-rows rows, (ref b3 o3 δ2-holders holders, (seat, ((length seats), tt)))))))
-        tt r2)))) (id⊢ 𝓤 _) $ await ! tt $ pick ! (λ r2. split ! $ move ! (1 ∷ []) $ use1 W (some (λ (z2 : Lasts c1.ended
-        (((ν2-rows ∷ []), ((ν2-holders ∷ []), tt))) ((head, (r1, (ref b2 o2 δ2-rows rows, (ref b3 o3 δ2-holders holders, (seat, ((length seats), tt)))))))).
-        ‵ (lasts c1.ended (((ν2-rows ∷ []), ((ν2-holders ∷ []), tt)))
-        ((head, (r1, (ref b2 o2 δ2-rows rows, (ref b3 o3 δ2-holders holders, (seat, ((length seats), tt))))))) z2) ⊛ (raw (fact 𝓤 (turn r2 (z2 .1 .1 .0) (z2
+        ((ν2-rows ∷ []), ((ν2-holders ∷ []), tt)) (head, (r1, (ref b2 o2 δ2-rows rows, (ref b3 o3 δ2-holders holders, (seat, ((length seats), tt)))))) tt
+        r2)))) (id⊢ 𝓤 _) $ await ! tt $ pick ! (λ r2. split ! $ move ! (1 ∷ []) $ use1 W (some (λ (z2 : Lasts c1.ended
+        ((ν2-rows ∷ []), ((ν2-holders ∷ []), tt)) (head, (r1, (ref b2 o2 δ2-rows rows, (ref b3 o3 δ2-holders holders, (seat, ((length seats), tt))))))). ‵
+        (lasts c1.ended ((ν2-rows ∷ []), ((ν2-holders ∷ []), tt))
+        (head, (r1, (ref b2 o2 δ2-rows rows, (ref b3 o3 δ2-holders holders, (seat, ((length seats), tt)))))) z2) ⊛ (raw (fact 𝓤 (turn r2 (z2 .1 .1 .0) (z2
         .1 .1 .1 .0) ≡ leaveOf seat (length seats) (around head r1 rows holders)))))) (id⊢ 𝓤 _) $ pick ! (λ z2. split ! $ move ! (1 ∷ []) $
         heard ! (turn r2 (z2 .1 .1 .0) (z2 .1 .1 .1 .0) ≡ leaveOf seat (length seats) (around head r1 rows holders)) (λ e2. fsplit ! $ drop ! $ fsplit ! $
         drop ! $ fsplit ! $ fsplit ! $ move ! (1 ∷ []) $ feqL ! (λ n2-rows. move ! (1 ∷ []) $ fsplit ! $ fsplit ! $ move ! (1 ∷ []) $
@@ -240,20 +243,19 @@ module _ {M : Type 1} (𝓤 : URA M) (H : Heap 𝓤) (A : Atoms 𝓤) (W : Given
         δ3-seats seats) (sliceVal (b1, o1) (length seats) ∷ [])) ⊛ ‵ (LentAgain R-Seat κ1 (ν3-seats ∷ []) q1 γ1 b1 o1 δ3-seats seats)))) (lends-again R-Seat
         κ1 (ν3-seats ∷ []) q1 γ1 b1 o1 𝓤 H A W (named 1) (named 0) seats) $ await ! tt $ pick ! (λ δ3-seats. split ! $ move ! (2 ∷ 0 ∷ []) $
         use2 W (raw (K2 𝓤 H A mem run .pre
-        (((((ν3-seats ∷ []), tt)), ((fullShare, tt)), tt, ((ref b1 o1 δ3-seats seats, (seat, (r2 .seat, tt)))), ((sliceVal (b1, o1) (length seats) ∷ [], (vint w64 seat ∷ [], (L-Seat.lowered (r2 .seat) ∷ [], tt))))), tt)))
+        ((((ν3-seats ∷ []), tt), (fullShare, tt), tt, (ref b1 o1 δ3-seats seats, (seat, (r2 .seat, tt))), (sliceVal (b1, o1) (length seats) ∷ [], (vint w64 seat ∷ [], (L-Seat.lowered (r2 .seat) ∷ [], tt)))), tt)))
         (qed W (‵ (flft (ν3-seats ∷ []) fullShare) ∷ ‵ (MutSlice (named 0) (ν3-seats ∷ []) R-Seat .own (ref b1 o1 δ3-seats seats) (sliceVal (b1, o1) (length
         seats) ∷ [])) ∷ []) ∵ nothing ! $ move ! (1 ∷ 0 ∷ []) $ join ! $ nothing ! $ owned ! R-Seat (Is R-Seat) (LL.makes T-Seat.the-type L-Seat.the-plain 𝓤
         H A) (r2 .seat) (L-Seat.lowered (r2 .seat) ∷ []) (parts-Stepped r2 _ (subst (Is R-Stepped r2) (L-Stepped.lowers .val-is r2 _ is2) is2) .1 .0) $
         fjoin ! $ owned ! usize (Is usize) (uint-makes 𝓤 H A W w64) seat (vint w64 seat ∷ []) g-seat $ fjoin ! $ move ! (2 ∷ 0 ∷ []) $ fjoin ! $
-        move ! (1 ∷ 0 ∷ []) $ join ! $ frame ! $ done !) $ calls-at ! fm (K2 𝓤 H A mem run) k2
-        (((((ν3-seats ∷ []), tt)), ((fullShare, tt)), tt, ((ref b1 o1 δ3-seats seats, (seat, (r2 .seat, tt)))), ((sliceVal (b1, o1) (length seats) ∷ [], (vint w64 seat ∷ [], (L-Seat.lowered (r2 .seat) ∷ [], tt))))), tt)
+        move ! (1 ∷ 0 ∷ []) $ join ! $ frame ! $ done !) $ calls-at ! (fmOf 𝓤 H (W .laws) 𝓣) (K2 𝓤 H A mem run) known-c2
+        ((((ν3-seats ∷ []), tt), (fullShare, tt), tt, (ref b1 o1 δ3-seats seats, (seat, (r2 .seat, tt))), (sliceVal (b1, o1) (length seats) ∷ [], (vint w64 seat ∷ [], (L-Seat.lowered (r2 .seat) ∷ [], tt)))), tt)
         (and-then ! (load ! (from ! (stop !)) (look-in ! 10 (at-local ! 18 refl tt))) (and-then ! (load ! (from ! (stop !)) (look-in ! 10 (at-local ! 5 refl
         tt))) (and-then ! (load ! (from ! (fld ! refl (stop !))) (look-in ! 10 (sub ! 1 refl (at-local ! 8 refl tt)))) (no-more !)))) (λ v3. use1 W (later
         (some (λ (r3 : Unit {0}). ((‵ (flft (ν3-seats ∷ []) fullShare) ⊛ ‵ ftrue) ⊛ ‵ (Nothing .own r3 (v3 ∷ []))) ⊛ raw (ensured 𝓤 H A c2.ended (c2.clauses
-        𝓤 H A mem run) (((ν3-seats ∷ []), tt)) ((ref b1 o1 δ3-seats seats, (seat, (r2 .seat, tt)))) tt r3)))) (id⊢ 𝓤 _) $ await ! tt $
-        pick ! (λ r3. split ! $ move ! (1 ∷ []) $ use1 W (some (λ (z3 : Lasts c2.ended (((ν3-seats ∷ []), tt))
-        ((ref b1 o1 δ3-seats seats, (seat, (r2 .seat, tt))))). ‵ (lasts c2.ended (((ν3-seats ∷ []), tt))
-        ((ref b1 o1 δ3-seats seats, (seat, (r2 .seat, tt)))) z3) ⊛ (raw (fact 𝓤 ((z3 .0) ≡ set seats seat (r2 .seat)))))) (id⊢ 𝓤 _) $
+        𝓤 H A mem run) ((ν3-seats ∷ []), tt) (ref b1 o1 δ3-seats seats, (seat, (r2 .seat, tt))) tt r3)))) (id⊢ 𝓤 _) $ await ! tt $ pick ! (λ r3. split ! $
+        move ! (1 ∷ []) $ use1 W (some (λ (z3 : Lasts c2.ended ((ν3-seats ∷ []), tt) (ref b1 o1 δ3-seats seats, (seat, (r2 .seat, tt)))). ‵ (lasts c2.ended
+        ((ν3-seats ∷ []), tt) (ref b1 o1 δ3-seats seats, (seat, (r2 .seat, tt))) z3) ⊛ (raw (fact 𝓤 ((z3 .0) ≡ set seats seat (r2 .seat)))))) (id⊢ 𝓤 _) $
         pick ! (λ z3. split ! $ move ! (1 ∷ []) $ heard ! ((z3 .0) ≡ set seats seat (r2 .seat)) (λ e3. fsplit ! $ fsplit ! $ move ! (1 ∷ []) $
         feqL ! (λ n3-seats. move ! (1 ∷ []) $ fsplit ! $ drop ! $ fsplit ! $ drop ! $ drop ! $ move ! (1 ∷ []) $ split ! $ split ! $ move ! (1 ∷ []) $
         drop ! $ move ! (1 ∷ []) $ peeks ! Nothing (Is Nothing) (shows 𝓤 H A Nothing) r3 (v3 ∷ []) (λ is3. drop ! $
@@ -264,25 +266,25 @@ module _ {M : Type 1} (𝓤 : URA M) (H : Heap 𝓤) (A : Atoms 𝓤) (W : Given
         (from ! (hop ! (look-in ! 10 (at-local ! 1 refl tt)) (stop !))) (store-raw ! 6 refl (LL.lawful T-Head.the-type L-Head.the-laws 𝓤 H A W .typed (r2
         .head) _ (parts-Stepped r2 _ (subst (Is R-Stepped r2) (L-Stepped.lowers .val-is r2 _ is2) is2) .0) .0)) $
         -- the call of `code`
-        use0 W (raw (K3 𝓤 H A mem run .pre (((tt), (tt), tt, ((r2 .answer, tt)), ((L-Answer.lowered (r2 .answer) ∷ [], tt))), tt))) (qed W ([]) ∵ nothing ! $
+        use0 W (raw (K3 𝓤 H A mem run .pre ((tt, tt, tt, (r2 .answer, tt), (L-Answer.lowered (r2 .answer) ∷ [], tt)), tt))) (qed W ([]) ∵ nothing ! $
         nothing ! $ owned ! R-Answer (Is R-Answer) (EL.makes T-Answer.the-type L-Answer.the-plain 𝓤 H A) (r2 .answer) (L-Answer.lowered (r2 .answer) ∷ [])
         (parts-Stepped r2 _ (subst (Is R-Stepped r2) (L-Stepped.lowers .val-is r2 _ is2) is2) .1 .1 .0) $ fjoin ! $ move ! (1 ∷ 0 ∷ []) $ join ! $ frame ! $
-        done !) $ calls-at ! fm (K3 𝓤 H A mem run) k3 (((tt), (tt), tt, ((r2 .answer, tt)), ((L-Answer.lowered (r2 .answer) ∷ [], tt))), tt) (and-then !
-        (load ! (from ! (fld ! refl (stop !))) (look-in ! 11 (sub ! 2 refl (at-local ! 8 refl tt)))) (no-more !)) (λ v4. use1 W (later (some (λ (r4 : ℕ).
-        ((‵ ftrue) ⊛ ‵ (u64 .own r4 (v4 ∷ []))) ⊛ raw (ensured 𝓤 H A c3.ended (c3.clauses 𝓤 H A mem run) (tt) ((r2 .answer, tt)) tt r4)))) (id⊢ 𝓤 _) $
-        await ! tt $ pick ! (λ r4. split ! $ move ! (1 ∷ []) $ use1 W (some (λ (z4 : Lasts c3.ended (tt) ((r2 .answer, tt))). ‵ (lasts c3.ended (tt)
-        ((r2 .answer, tt)) z4) ⊛ (raw (fact 𝓤 (r4 ≡ codeOf (paper (r2 .answer))))))) (id⊢ 𝓤 _) $ pick ! (λ z4. split ! $ move ! (1 ∷ []) $
-        heard ! (r4 ≡ codeOf (paper (r2 .answer))) (λ e4. fsplit ! $ drop ! $ drop ! $ split ! $ drop ! $ peeks ! u64 (Is u64) (shows 𝓤 H A u64) r4 (v4 ∷
-        []) (λ is4. drop ! $ land ! (from ! (stop !)) (puts ! 10 0 refl refl tt (uint-lawful 𝓤 H A W w64 .typed r4 _ is4 .0)) $
-        respells ! 10 0 refl refl (ap only (is4 .0)) $ owned ! R-Head (Is R-Head) (LL.makes T-Head.the-type L-Head.the-plain 𝓤 H A) (r2 .head)
-        (L-Head.lowered (r2 .head) ∷ []) (parts-Stepped r2 _ (subst (Is R-Stepped r2) (L-Stepped.lowers .val-is r2 _ is2) is2) .0) $
-        move ! (7 ∷ 0 ∷ 8 ∷ 9 ∷ 10 ∷ []) $ closes ! tt R-Head (r2 .head) (L-Head.lowered (r2 .head) ∷ []) b0 o0 $
+        done !) $ calls-at ! (fmOf 𝓤 H (W .laws) 𝓣) (K3 𝓤 H A mem run) known-c3
+        ((tt, tt, tt, (r2 .answer, tt), (L-Answer.lowered (r2 .answer) ∷ [], tt)), tt) (and-then ! (load ! (from ! (fld ! refl (stop !))) (look-in ! 11 (sub
+        ! 2 refl (at-local ! 8 refl tt)))) (no-more !)) (λ v4. use1 W (later (some (λ (r4 : ℕ). ((‵ ftrue) ⊛ ‵ (u64 .own r4 (v4 ∷ []))) ⊛ raw (ensured 𝓤 H A
+        c3.ended (c3.clauses 𝓤 H A mem run) tt (r2 .answer, tt) tt r4)))) (id⊢ 𝓤 _) $ await ! tt $ pick ! (λ r4. split ! $ move ! (1 ∷ []) $
+        use1 W (some (λ (z4 : Lasts c3.ended tt (r2 .answer, tt)). ‵ (lasts c3.ended tt (r2 .answer, tt) z4) ⊛ (raw (fact 𝓤 (r4 ≡ codeOf (paper (r2
+        .answer))))))) (id⊢ 𝓤 _) $ pick ! (λ z4. split ! $ move ! (1 ∷ []) $ heard ! (r4 ≡ codeOf (paper (r2 .answer))) (λ e4. fsplit ! $ drop ! $ drop ! $
+        split ! $ drop ! $ peeks ! u64 (Is u64) (shows 𝓤 H A u64) r4 (v4 ∷ []) (λ is4. drop ! $ land ! (from ! (stop !)) (puts ! 10 0 refl refl tt
+        (uint-lawful 𝓤 H A W w64 .typed r4 _ is4 .0)) $ respells ! 10 0 refl refl (ap only (is4 .0)) $ owned ! R-Head (Is R-Head) (LL.makes T-Head.the-type
+        L-Head.the-plain 𝓤 H A) (r2 .head) (L-Head.lowered (r2 .head) ∷ []) (parts-Stepped r2 _ (subst (Is R-Stepped r2) (L-Stepped.lowers .val-is r2 _ is2)
+        is2) .0) $ move ! (7 ∷ 0 ∷ 8 ∷ 9 ∷ 10 ∷ []) $ closes ! tt R-Head (r2 .head) (L-Head.lowered (r2 .head) ∷ []) b0 o0 $
         returns ! (look-in ! 9 (at-local ! 0 refl tt)) $ move ! (9 ∷ []) $ frees-all ! $ keep ! (2 ∷ 4 ∷ 8 ∷ 6 ∷ 0 ∷ 1 ∷ 3 ∷ 7 ∷ 5 ∷ []) $
         by ! (qed W (‵ (flft κ0 q0) ∷ ‵ (flft κ1 q1) ∷ ‵ (flft κ2 q2) ∷ ‵ (flft κ3 q3) ∷ ‵ (fobs γ0 (R-Head .coded .code (r2 .head))) ∷ ‵ (fbor κ0 (Body
         (memOf R-Head) b0 o0 γ0)) ∷ ‵ (MutSlice (named 1) κ1 R-Seat .own (ref b1 o1 γ1 (z3 .0)) (sliceVal (b1, o1) (length seats) ∷ [])) ∷ ‵ (MutSlice
         (named 2) κ2 u8 .own (ref b2 o2 γ2 (z2 .1 .1 .0)) (sliceVal (b2, o2) (length rows) ∷ [])) ∷ ‵ (MutSlice (named 3) κ3 u16 .own (ref b3 o3 γ3 (z2 .1
         .1 .1 .0)) (sliceVal (b3, o3) (length holders) ∷ [])) ∷ []) ∵ suffices ! _ (ends-at 𝓤 H A f.ended stayed (f.clauses 𝓤 H A mem run) W bound (vint w64
-        r4) r4 ((r2 .head), ((z3 .0), ((z2 .1 .1 .0), ((z2 .1 .1 .1 .0), (tt, tt))))) (tt, ((n3-seats), ((n2-rows), ((n2-holders), (tt, tt)))))) $
+        r4) r4 ((r2 .head), ((z3 .0), ((z2 .1 .1 .0), ((z2 .1 .1 .1 .0), (tt, tt))))) (tt, (n3-seats, (n2-rows, (n2-holders, (tt, tt)))))) $
         says ! (leave-is head seats rows holders seat (z3 .0) (z2 .1 .1 .0) (z2 .1 .1 .1 .0) r1 r2 r4 e1 e2 e3 e4) $ move ! (4 ∷ 5 ∷ []) $
         feqI ! (List Val) (vptr b0 o0 ∷ []) (vptr b0 o0 ∷ []) refl $ fjoin3 ! $ nothing ! $ move ! (5 ∷ 0 ∷ []) $ join ! $ move ! (4 ∷ 0 ∷ []) $ join ! $
         move ! (3 ∷ 0 ∷ []) $ join ! $ move ! (2 ∷ 0 ∷ []) $ join ! $ nothing ! $ owned ! usize (Is usize) (uint-makes 𝓤 H A W w64) seat (vint w64 seat ∷
@@ -291,25 +293,26 @@ module _ {M : Type 1} (𝓤 : URA M) (H : Heap 𝓤) (A : Atoms 𝓤) (W : Given
         done !)))))))))))))))))))))))))))))))))))
 
 module _ {M : Type 1} (𝓤 : URA M) (H : Heap 𝓤) (A : Atoms 𝓤) (W : Given 𝓤 H A) (mem : Memory → SProp 𝓤) (run : Routine → Fun 𝓤) where
-  f-walks : (C : Calls 𝓤 H) (Λ : Loops 𝓤 H) → FmC 𝓤 H (W .laws) C → Triple 𝓤 (C #yard-scans·seat-get) (K0 𝓤 H A mem run) → Triple 𝓤 (C #yard-seating·leave-step)
-      (K1 𝓤 H A mem run) → Triple 𝓤 (C #yard-scans·seat-set) (K2 𝓤 H A mem run) → Triple 𝓤 (C #yard-telling·code) (K3 𝓤 H A mem run) → Walks 𝓤 H A f.ended
-      stayed (WpFn 𝓤 H C Λ code.function) (f.clauses 𝓤 H A mem run)
-  f-walks C Λ fm k0 k1 k2 k3 = walked 𝓤 H A f.ended stayed (f.clauses 𝓤 H A mem run) (WpFn 𝓤 H C Λ code.function) (λ κs.
+  f-walks : (𝓣 : Tables 𝓤 H) → Triple 𝓤 (𝓣 .C #yard-scans·seat-get) (K0 𝓤 H A mem run) → Triple 𝓤 (𝓣 .C #yard-seating·leave-step) (K1 𝓤 H A mem run) → Triple 𝓤
+      (𝓣 .C #yard-scans·seat-set) (K2 𝓤 H A mem run) → Triple 𝓤 (𝓣 .C #yard-telling·code) (K3 𝓤 H A mem run) → Walks 𝓤 H A f.ended stayed (WpFn 𝓤 H (𝓣 .C) (𝓣
+      .Λ) code.function) (f.clauses 𝓤 H A mem run)
+  f-walks 𝓣 known-c0 known-c1 known-c2 known-c3 = walked 𝓤 H A f.ended stayed (f.clauses 𝓤 H A mem run) (WpFn 𝓤 H (𝓣 .C) (𝓣 .Λ) code.function) (λ κs.
       (ptr-vals, (slice-vals, (slice-vals, (slice-vals, (uint-vals w64, tt)))))) (λ κs.
       (mut-tells (named 0) (κs .0) R-Head, (mut-slice-tells (named 1) (κs .1 .0) R-Seat, (mut-slice-tells (named 2) (κs .1 .1 .0) u8, (mut-slice-tells (named 3) (κs .1 .1 .1 .0) u16, (uint-tells w64, tt))))))
       (λ κs qs bounds a _ are. via 𝓤 _ (fst∗ 𝓤 _ (emp 𝓤)) (walk 𝓤 H A W mem run (κs .0) (κs .1 .0) (κs .1 .1 .0) (κs .1 .1 .1 .0) (qs .0) (qs .1 .0) (qs .1 .1
       .0) (qs .1 .1 .1 .0) (a .0 .ptr .0) (a .0 .ptr .1) (a .0 .name) (a .0 .now) (a .1 .0 .ptr .0) (a .1 .0 .ptr .1) (a .1 .0 .name) (a .1 .0 .now) (a .1
       .1 .0 .ptr .0) (a .1 .1 .0 .ptr .1) (a .1 .1 .0 .name) (a .1 .1 .0 .now) (a .1 .1 .1 .0 .ptr .0) (a .1 .1 .1 .0 .ptr .1) (a .1 .1 .1 .0 .name) (a .1
-      .1 .1 .0 .now) (a .1 .1 .1 .1 .0) (are .1 .0 .0 .1) (are .1 .1 .0 .0 .1) (are .1 .1 .1 .0 .0 .1) (are .1 .1 .1 .1 .0) C Λ fm k0 k1 k2 k3))
+      .1 .1 .0 .now) (a .1 .1 .1 .1 .0) 𝓣 known-c0 known-c1 known-c2 known-c3 (are .1 .0 .0 .1) (are .1 .1 .0 .0 .1) (are .1 .1 .1 .0 .0 .1) (are .1 .1 .1
+      .1 .0)))
 
 f-meets : {M : Type 1} (𝓤 : URA M) (H : Heap 𝓤) (A : Atoms 𝓤) → Given 𝓤 H A → (mem : Memory → SProp 𝓤) (run : Routine → Fun 𝓤) (𝓣 : Tables 𝓤 H) → Triple 𝓤 (𝓣 .C
     #yard-scans·seat-get) (K0 𝓤 H A mem run) → Triple 𝓤 (𝓣 .C #yard-seating·leave-step) (K1 𝓤 H A mem run) → Triple 𝓤 (𝓣 .C #yard-scans·seat-set) (K2 𝓤 H A mem
     run) → Triple 𝓤 (𝓣 .C #yard-telling·code) (K3 𝓤 H A mem run)
     → Meets 𝓤 H A f.signature (WpFn 𝓤 H (𝓣 .C) (𝓣 .Λ) code.function) (f.spec 𝓤 H A mem run)
-f-meets 𝓤 H A W mem run 𝓣 k0 k1 k2 k3 = walk-meets 𝓤 H A f.ended stayed W
+f-meets 𝓤 H A W mem run 𝓣 known-c0 known-c1 known-c2 known-c3 = walk-meets 𝓤 H A f.ended stayed W
     (goes-ref 𝓤 H A W 4 0 tt (plain (λ _. R-Head)), (goes-slice 𝓤 H A W 4 1 tt (plain (λ _. R-Seat)), (goes-slice 𝓤 H A W 4 2 tt (plain (λ _. u8)), (goes-slice 𝓤 H A W 4 3 tt (plain (λ _. u16)), (goes-none 𝓤 H A W 4 (λ _. usize) yes (λ κs x f. refl), tt)))))
     (f.clauses 𝓤 H A mem run)
-    (WpFn 𝓤 H (𝓣 .C) (𝓣 .Λ) code.function) (WpFn-mono 𝓤 H (W .laws) 𝓣 code.function) (f-walks 𝓤 H A W mem run (𝓣 .C) (𝓣 .Λ) (fmOf 𝓤 H (W .laws) 𝓣) k0 k1 k2 k3)
+    (WpFn 𝓤 H (𝓣 .C) (𝓣 .Λ) code.function) (WpFn-mono 𝓤 H (W .laws) 𝓣 code.function) (f-walks 𝓤 H A W mem run 𝓣 known-c0 known-c1 known-c2 known-c3)
 
 pub wardrail-yard-leave-spec : {M : Type 1} → stated.statement M
 unfolding code.routine tablesOf

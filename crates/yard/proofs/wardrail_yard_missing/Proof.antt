@@ -1,5 +1,5 @@
--- `yard::wardrail_yard_missing` meets its contract: a walk of its MIR, by hand, written by tools/walks.py. Of its callees the proof knows the contracts alone.
--- No field that the code does not name is named. Assumes nothing.
+-- `yard::wardrail_yard_missing` meets its contract: a walk of its MIR, by hand, written by tools/walks.py. Of its callees the proof knows the
+-- contracts alone, and no field that the code does not name is named. Assumes nothing.
 use mathlib.Core.Path.{_≡_, refl, ap, subst}
 use Prim.Native.Nat.{ℕ}
 use mathlib.Core.List.{List, [], _∷_}
@@ -22,7 +22,7 @@ use types.Run.{look-raw, store-raw, stop, hop, fld, from, load, addr, of-opd, an
 use types.Part.{agg, sub, look-in}
 use types.SemTy.{Body}
 use types.Tokens.{lft-new, lft-end}
-use sound.WpLaws.{FmC, fmOf, WpFn-mono}
+use sound.WpLaws.{fmOf, WpFn-mono}
 use denote.RattleType.{RattleType, owns}
 use denote.Laws.{Is, shows}
 use denote.Memory.{mem as memOf}
@@ -44,6 +44,7 @@ use denote.Triple.Walked.{says, Stays, stay-ref, stay-none, stay-none-slice, sta
 use denote.Triple.Walked.{ends-at, walked, walk-meets}
 use Rattle.yard_scans.proofs.Again.{LentAgain, lends-again, comes-back}
 use Rattle.yard_scans.proofs.Locals.{at-local, puts, respells, allots, takes, frees-all}
+use Rattle.yard.proofs.Calls.{missing-is}
 use Rattle.yard.specs.Pages.{pageFault, answerOf}
 use mathlib.Core.Bool.{cond}
 use lib.Dec.{eqb}
@@ -52,7 +53,6 @@ use lib.Seq.{sets}
 use Rattle.yard_scans.specs.Pages.{asLines}
 use Rattle.yard_telling.specs.Telling.{toldOf, codeOf}
 use Rattle.yard_tables.specs.Tables.{paper}
-use Rattle.yard.proofs.Calls.{missing-is}
 use Rattle.yard_tables.specs.declared.Answer.{Answer}
 use Rattle.yard_scans.specs.declared.Asked.{Asked}
 use Rattle.yard_tables.specs.declared.Head.{Head}
@@ -101,9 +101,6 @@ use Rattle.yard.proofs.wardrail_yard_missing as f
 use Rattle.yard.proofs.wardrail_yard_missing.Statement as stated
 use Rattle.yard.proofs.wardrail_yard_missing.Code as code
 
-abbrev ref : {A : Type 0} → ℕ → ℕ → GName → A → RefT A
-ref b o γ x = record { ptr = (b, o); name = γ; now = x }
-
 abbrev R-Answer : RattleType
 R-Answer = T-Answer.the-row
 
@@ -125,6 +122,9 @@ R-Told = T-Told.the-row
 abbrev stayed : Stays (f.ended .signature .params) (f.ended .kept)
 stayed =
     (stay-ref (0 ∷ []) tt (plain (λ _. R-Head)), (stay-none-slice (1 ∷ []) tt (plain (λ _. R-Seat)) yes, (stay-none-slice (2 ∷ []) tt (plain (λ _. u8)) yes, (stay-none-slice (3 ∷ []) tt (plain (λ _. u16)) yes, (stay-none (λ _. usize) yes, (stay-slice (4 ∷ []) tt (plain (λ _. u32)), (stay-ref (5 ∷ []) tt (plain (λ _. R-Told)), tt)))))))
+
+abbrev ref : {A : Type 0} → ℕ → ℕ → GName → A → RefT A
+ref b o γ x = record { ptr = (b, o); name = γ; now = x }
 
 -- the contracts that the proof cites
 module _ {M : Type 1} (𝓤 : URA M) (H : Heap 𝓤) (A : Atoms 𝓤) (mem : Memory → SProp 𝓤) (run : Routine → Fun 𝓤) where
@@ -149,9 +149,7 @@ module _ {M : Type 1} (𝓤 : URA M) (H : Heap 𝓤) (A : Atoms 𝓤) (mem : Mem
 module _ {M : Type 1} (𝓤 : URA M) (H : Heap 𝓤) (A : Atoms 𝓤) (W : Given 𝓤 H A) (mem : Memory → SProp 𝓤) (run : Routine → Fun 𝓤) (κ0 κ1 κ2 κ3 κ4 κ5 : Lft) (q0 q1
     q2 q3 q4 q5 : Share)
     (b0 o0 : ℕ) (γ0 : GName) (head : Head) (b1 o1 : ℕ) (γ1 : GName) (seats : List Seat) (b2 o2 : ℕ) (γ2 : GName) (rows : List ℕ) (b3 o3 : ℕ) (γ3 : GName)
-    (holders : List ℕ) (first : ℕ) (b4 o4 : ℕ) (γ4 : GName) (page : List ℕ) (b5 o5 : ℕ) (γ5 : GName) (told : Told) (g-seats : Room R-Seat (length seats))
-    (g-rows : Room u8 (length rows)) (g-holders : Room u16 (length holders)) (g-first : Is usize first (vint w64 first ∷ [])) (g-page : Room u32 (length
-    page)) where
+    (holders : List ℕ) (first : ℕ) (b4 o4 : ℕ) (γ4 : GName) (page : List ℕ) (b5 o5 : ℕ) (γ5 : GName) (told : Told) where
   abbrev xs : Args f.signature (κ0, (κ1, (κ2, (κ3, (κ4, (κ5, tt))))))
   xs = (ref b0 o0 γ0 head, (ref b1 o1 γ1 seats, (ref b2 o2 γ2 rows, (ref b3 o3 γ3 holders, (first, (ref b4 o4 γ4 page, (ref b5 o5 γ5 told, tt)))))))
 
@@ -164,18 +162,25 @@ module _ {M : Type 1} (𝓤 : URA M) (H : Heap 𝓤) (A : Atoms 𝓤) (W : Given
   abbrev Post : Val → SProp 𝓤
   Post = walkOf 𝓤 H A f.ended stayed (f.clauses 𝓤 H A mem run) .post bound
 
-  module _ (C : Calls 𝓤 H) (Λ : Loops 𝓤 H) (fm : FmC 𝓤 H (W .laws) C) (k0 : Triple 𝓤 (C #yard·pages·fault) (K0 𝓤 H A mem run)) (k1 : Triple 𝓤 (C
-      #yard·pages·asked) (K1 𝓤 H A mem run)) (k2 : Triple 𝓤 (C #yard-scans·list-missing) (K2 𝓤 H A mem run)) (k3 : Triple 𝓤 (C #yard·pages·answer) (K3 𝓤 H A mem
-      run)) (k4 : Triple 𝓤 (C #yard-telling·tell) (K4 𝓤 H A mem run)) (k5 : Triple 𝓤 (C #yard-telling·code) (K5 𝓤 H A mem run)) where
+  module _ (𝓣 : Tables 𝓤 H) (known-c0 : Triple 𝓤 (𝓣 .C #yard·pages·fault) (K0 𝓤 H A mem run)) (known-c1 : Triple 𝓤 (𝓣 .C #yard·pages·asked) (K1 𝓤 H A mem run))
+      (known-c2 : Triple 𝓤 (𝓣 .C #yard-scans·list-missing) (K2 𝓤 H A mem run)) (known-c3 : Triple 𝓤 (𝓣 .C #yard·pages·answer) (K3 𝓤 H A mem run)) (known-c4 :
+      Triple 𝓤 (𝓣 .C #yard-telling·tell) (K4 𝓤 H A mem run)) (known-c5 : Triple 𝓤 (𝓣 .C #yard-telling·code) (K5 𝓤 H A mem run)) (g-seats : Room R-Seat (length
+      seats)) (g-rows : Room u8 (length rows)) (g-holders : Room u16 (length holders)) (g-first : Is usize first (vint w64 first ∷ [])) (g-page : Room u32
+      (length page)) where
+    abbrev C : Calls 𝓤 H
+    C = 𝓣 .C
+
+    abbrev Λ : Loops 𝓤 H
+    Λ = 𝓣 .Λ
+
     walk : ent 𝓤 (onEntry 𝓤 H A f.signature (κ0, (κ1, (κ2, (κ3, (κ4, (κ5, tt)))))) (q0, (q1, (q2, (q3, (q4, (q5, tt)))))) xs at) (WpFn 𝓤 H C Λ code.function
         (vptr b0 o0 ∷ sliceVal (b1, o1) (length seats) ∷ sliceVal (b2, o2) (length rows) ∷ sliceVal (b3, o3) (length holders) ∷ vint w64 first ∷ sliceVal
         (b4, o4) (length page) ∷ vptr b5 o5 ∷ []) Post)
     walk =
         qed W ((‵ (flft κ0 q0) ⊛ ‵ (flft κ1 q1) ⊛ ‵ (flft κ2 q2) ⊛ ‵ (flft κ3 q3) ⊛ ‵ (flft κ4 q4) ⊛ ‵ (flft κ5 q5) ⊛ ‵ ftrue) ∷ ‵ (owns (MutRef (named 0) κ0
         R-Head ∷ ShrSlice (named 1) κ1 R-Seat ∷ ShrSlice (named 2) κ2 u8 ∷ ShrSlice (named 3) κ3 u16 ∷ usize ∷ MutSlice (named 4) κ4 u32 ∷ MutRef (named 5)
-        κ5 R-Told ∷ []) xs at) ∷ []) ∵
-        enter ! C Λ code.function (vptr b0 o0 ∷ sliceVal (b1, o1) (length seats) ∷ sliceVal (b2, o2) (length rows) ∷ sliceVal (b3, o3) (length holders) ∷ vint
-        w64 first ∷ sliceVal (b4, o4) (length page) ∷ vptr b5 o5 ∷ []) _ $
+        κ5 R-Told ∷ []) xs at) ∷ []) ∵ enter ! C Λ code.function (vptr b0 o0 ∷ sliceVal (b1, o1) (length seats) ∷ sliceVal (b2, o2) (length rows) ∷ sliceVal
+        (b3, o3) (length holders) ∷ vint w64 first ∷ sliceVal (b4, o4) (length page) ∷ vptr b5 o5 ∷ []) _ $
         allots ! (λ bs. takes !
         ((tt, tt), ((tt, (tt, (record { fits = g-seats .0 }, tt))), ((tt, (tt, (record { fits = g-rows .0 }, tt))), ((tt, (tt, (record { fits = g-holders .0 }, tt))), ((tt, record { fits = g-first .1 }), ((tt, (tt, (record { fits = g-page .0 }, tt))), ((tt, tt), tt)))))))
         $ move ! (1 ∷ []) $ split ! $ move ! (1 ∷ []) $ split ! $ move ! (1 ∷ []) $ split ! $ move ! (1 ∷ []) $ split ! $ move ! (1 ∷ []) $ split ! $
@@ -197,22 +202,22 @@ module _ {M : Type 1} (𝓤 : URA M) (H : Heap 𝓤) (A : Atoms 𝓤) (W : Given
         (length holders) ∷ [])) ⊛ ‵ (ShrSlice (named 3) κ3 u16 .own (ref b3 o3 γ3 holders) (sliceVal (b3, o3) (length holders) ∷ []))) (shr-slice-copy 𝓤 H A
         W (named 3) κ3 u16 .twice (ref b3 o3 γ3 holders) (sliceVal (b3, o3) (length holders) ∷ [])) $ split ! $ move ! (3 ∷ 1 ∷ []) $ join ! $
         move ! (14 ∷ 0 ∷ []) $ join ! $ move ! (14 ∷ 0 ∷ []) $ join ! $ use1 W (raw (K0 𝓤 H A mem run .pre
-        ((((κ2, (κ3, tt))), ((q2, (q3, tt))), tt, ((head, ((length seats), (ref b2 o2 γ2 rows, (ref b3 o3 γ3 holders, (first, tt)))))), ((L-Head.lowered head ∷ [], (vint w64 (length seats) ∷ [], (sliceVal (b2, o2) (length rows) ∷ [], (sliceVal (b3, o3) (length holders) ∷ [], (vint w64 first ∷ [], tt))))))), tt)))
+        (((κ2, (κ3, tt)), (q2, (q3, tt)), tt, (head, ((length seats), (ref b2 o2 γ2 rows, (ref b3 o3 γ3 holders, (first, tt))))), (L-Head.lowered head ∷ [], (vint w64 (length seats) ∷ [], (sliceVal (b2, o2) (length rows) ∷ [], (sliceVal (b3, o3) (length holders) ∷ [], (vint w64 first ∷ [], tt)))))), tt)))
         (qed W (‵ (flft κ2 q2) ∷ ‵ (flft κ3 q3) ∷ ‵ (ShrSlice (named 2) κ2 u8 .own (ref b2 o2 γ2 rows) (sliceVal (b2, o2) (length rows) ∷ [])) ∷ ‵ (ShrSlice
         (named 3) κ3 u16 .own (ref b3 o3 γ3 holders) (sliceVal (b3, o3) (length holders) ∷ [])) ∷ []) ∵ nothing ! $ move ! (2 ∷ 0 ∷ []) $ join ! $
         move ! (1 ∷ 0 ∷ []) $ join ! $ nothing ! $ owned ! usize (Is usize) (uint-makes 𝓤 H A W w64) first (vint w64 first ∷ []) g-first $ fjoin ! $
         move ! (3 ∷ 0 ∷ []) $ fjoin ! $ move ! (2 ∷ 0 ∷ []) $ fjoin ! $ owned ! usize (Is usize) (uint-makes 𝓤 H A W w64) (length seats) (vint w64 (length
         seats) ∷ []) (refl, g-seats .0) $ fjoin ! $ owned ! R-Head (Is R-Head) (LL.makes T-Head.the-type L-Head.the-plain 𝓤 H A) head (L-Head.lowered head ∷
-        []) was-head $ fjoin ! $ move ! (1 ∷ 0 ∷ []) $ join ! $ frame ! $ done !) $ calls-at ! fm (K0 𝓤 H A mem run) k0
-        ((((κ2, (κ3, tt))), ((q2, (q3, tt))), tt, ((head, ((length seats), (ref b2 o2 γ2 rows, (ref b3 o3 γ3 holders, (first, tt)))))), ((L-Head.lowered head ∷ [], (vint w64 (length seats) ∷ [], (sliceVal (b2, o2) (length rows) ∷ [], (sliceVal (b3, o3) (length holders) ∷ [], (vint w64 first ∷ [], tt))))))), tt)
+        []) was-head $ fjoin ! $ move ! (1 ∷ 0 ∷ []) $ join ! $ frame ! $ done !) $ calls-at ! (fmOf 𝓤 H (W .laws) 𝓣) (K0 𝓤 H A mem run) known-c0
+        (((κ2, (κ3, tt)), (q2, (q3, tt)), tt, (head, ((length seats), (ref b2 o2 γ2 rows, (ref b3 o3 γ3 holders, (first, tt))))), (L-Head.lowered head ∷ [], (vint w64 (length seats) ∷ [], (sliceVal (b2, o2) (length rows) ∷ [], (sliceVal (b3, o3) (length holders) ∷ [], (vint w64 first ∷ [], tt)))))), tt)
         (and-then ! (load ! (from ! (stop !)) (look-in ! 15 (at-local ! 15 refl tt))) (and-then ! (load ! (from ! (stop !)) (look-in ! 15 (at-local ! 8 refl
         tt))) (and-then ! (load ! (from ! (stop !)) (look-in ! 15 (at-local ! 3 refl tt))) (and-then ! (load ! (from ! (stop !)) (look-in ! 15 (at-local ! 4
         refl tt))) (and-then ! (load ! (from ! (stop !)) (look-in ! 15 (at-local ! 5 refl tt))) (no-more !)))))) (λ v1. use1 W (later (some (λ (r1 : ℕ). ((‵
-        (flft κ2 q2) ⊛ ‵ (flft κ3 q3) ⊛ ‵ ftrue) ⊛ ‵ (u8 .own r1 (v1 ∷ []))) ⊛ raw (ensured 𝓤 H A c0.ended (c0.clauses 𝓤 H A mem run) ((κ2, (κ3, tt)))
-        ((head, ((length seats), (ref b2 o2 γ2 rows, (ref b3 o3 γ3 holders, (first, tt)))))) tt r1)))) (id⊢ 𝓤 _) $ await ! tt $ pick ! (λ r1. split ! $
-        move ! (1 ∷ []) $ use1 W (some (λ (z1 : Lasts c0.ended ((κ2, (κ3, tt)))
-        ((head, ((length seats), (ref b2 o2 γ2 rows, (ref b3 o3 γ3 holders, (first, tt))))))). ‵ (lasts c0.ended ((κ2, (κ3, tt)))
-        ((head, ((length seats), (ref b2 o2 γ2 rows, (ref b3 o3 γ3 holders, (first, tt)))))) z1) ⊛ (raw (fact 𝓤 (r1 ≡ pageFault head (length seats) (length
+        (flft κ2 q2) ⊛ ‵ (flft κ3 q3) ⊛ ‵ ftrue) ⊛ ‵ (u8 .own r1 (v1 ∷ []))) ⊛ raw (ensured 𝓤 H A c0.ended (c0.clauses 𝓤 H A mem run) (κ2, (κ3, tt))
+        (head, ((length seats), (ref b2 o2 γ2 rows, (ref b3 o3 γ3 holders, (first, tt))))) tt r1)))) (id⊢ 𝓤 _) $ await ! tt $ pick ! (λ r1. split ! $
+        move ! (1 ∷ []) $ use1 W (some (λ (z1 : Lasts c0.ended (κ2, (κ3, tt))
+        (head, ((length seats), (ref b2 o2 γ2 rows, (ref b3 o3 γ3 holders, (first, tt)))))). ‵ (lasts c0.ended (κ2, (κ3, tt))
+        (head, ((length seats), (ref b2 o2 γ2 rows, (ref b3 o3 γ3 holders, (first, tt))))) z1) ⊛ (raw (fact 𝓤 (r1 ≡ pageFault head (length seats) (length
         rows) (length holders) first))))) (id⊢ 𝓤 _) $ pick ! (λ z1. split ! $ move ! (1 ∷ []) $ heard ! (r1 ≡ pageFault head (length seats) (length rows)
         (length holders) first) (λ e1. fsplit ! $ drop ! $ fsplit ! $ drop ! $ fsplit ! $ drop ! $ fsplit ! $ drop ! $ fsplit ! $ drop ! $ drop ! $
         split ! $ split ! $ move ! (1 ∷ []) $ split ! $ move ! (1 ∷ []) $ drop ! $ move ! (2 ∷ []) $ peeks ! u8 (Is u8) (shows 𝓤 H A u8) r1 (v1 ∷ []) (λ
@@ -223,19 +228,19 @@ module _ {M : Type 1} (𝓤 : URA M) (H : Heap 𝓤) (A : Atoms 𝓤) (W : Given
         𝓤 H A W .typed head _ was-head .0)) $
         -- the call of `asked`
         use0 W (raw (K1 𝓤 H A mem run .pre
-        (((tt), (tt), tt, ((head, (first, ((length page), (r1, tt))))), ((L-Head.lowered head ∷ [], (vint w64 first ∷ [], (vint w64 (length page) ∷ [], (vint w8 r1 ∷ [], tt)))))), tt)))
+        ((tt, tt, tt, (head, (first, ((length page), (r1, tt)))), (L-Head.lowered head ∷ [], (vint w64 first ∷ [], (vint w64 (length page) ∷ [], (vint w8 r1 ∷ [], tt))))), tt)))
         (qed W ([]) ∵ nothing ! $ nothing ! $ owned ! u8 (Is u8) (uint-makes 𝓤 H A W w8) r1 (vint w8 r1 ∷ []) ((refl, is1 .1)) $ fjoin ! $
         owned ! usize (Is usize) (uint-makes 𝓤 H A W w64) (length page) (vint w64 (length page) ∷ []) (refl, g-page .0) $ fjoin ! $
         owned ! usize (Is usize) (uint-makes 𝓤 H A W w64) first (vint w64 first ∷ []) g-first $ fjoin ! $ owned ! R-Head (Is R-Head) (LL.makes
         T-Head.the-type L-Head.the-plain 𝓤 H A) head (L-Head.lowered head ∷ []) was-head $ fjoin ! $ move ! (1 ∷ 0 ∷ []) $ join ! $ frame ! $ done !) $
-        calls-at ! fm (K1 𝓤 H A mem run) k1
-        (((tt), (tt), tt, ((head, (first, ((length page), (r1, tt))))), ((L-Head.lowered head ∷ [], (vint w64 first ∷ [], (vint w64 (length page) ∷ [], (vint w8 r1 ∷ [], tt)))))), tt)
+        calls-at ! (fmOf 𝓤 H (W .laws) 𝓣) (K1 𝓤 H A mem run) known-c1
+        ((tt, tt, tt, (head, (first, ((length page), (r1, tt)))), (L-Head.lowered head ∷ [], (vint w64 first ∷ [], (vint w64 (length page) ∷ [], (vint w8 r1 ∷ [], tt))))), tt)
         (and-then ! (load ! (from ! (stop !)) (look-in ! 17 (at-local ! 15 refl tt))) (and-then ! (load ! (from ! (stop !)) (look-in ! 17 (at-local ! 5 refl
         tt))) (and-then ! (load ! (from ! (stop !)) (look-in ! 17 (at-local ! 10 refl tt))) (and-then ! (load ! (from ! (stop !)) (look-in ! 17 (at-local !
         9 refl tt))) (no-more !))))) (λ v2. use1 W (later (some (λ (r2 : Asked). ((‵ ftrue) ⊛ ‵ (R-Asked .own r2 (v2 ∷ []))) ⊛ raw (ensured 𝓤 H A c1.ended
-        (c1.clauses 𝓤 H A mem run) (tt) ((head, (first, ((length page), (r1, tt))))) tt r2)))) (id⊢ 𝓤 _) $ await ! tt $ pick ! (λ r2. split ! $
-        move ! (1 ∷ []) $ use1 W (some (λ (z2 : Lasts c1.ended (tt) ((head, (first, ((length page), (r1, tt)))))). ‵ (lasts c1.ended (tt)
-        ((head, (first, ((length page), (r1, tt))))) z2) ⊛ (raw (fact 𝓤 (r2 ≡ record
+        (c1.clauses 𝓤 H A mem run) tt (head, (first, ((length page), (r1, tt)))) tt r2)))) (id⊢ 𝓤 _) $ await ! tt $ pick ! (λ r2. split ! $
+        move ! (1 ∷ []) $ use1 W (some (λ (z2 : Lasts c1.ended tt (head, (first, ((length page), (r1, tt))))). ‵ (lasts c1.ended tt
+        (head, (first, ((length page), (r1, tt)))) z2) ⊛ (raw (fact 𝓤 (r2 ≡ record
         { pieces = head .pieces; first = first; lines = cond (eqb r1 0) (length page) 0 }))))) (id⊢ 𝓤 _) $ pick ! (λ z2. split ! $ move ! (1 ∷ []) $
         heard ! (r2 ≡ record { pieces = head .pieces; first = first; lines = cond (eqb r1 0) (length page) 0 }) (λ e2. fsplit ! $ drop ! $ fsplit ! $
         drop ! $ fsplit ! $ drop ! $ fsplit ! $ drop ! $ drop ! $ split ! $ drop ! $ peeks ! R-Asked (Is R-Asked) (shows 𝓤 H A R-Asked) r2 (v2 ∷ []) (λ is2.
@@ -252,20 +257,20 @@ module _ {M : Type 1} (𝓤 : URA M) (H : Heap 𝓤) (A : Atoms 𝓤) (W : Given
         [])) ⊛ ‵ (LentAgain u32 κ4 (ν3-page ∷ []) q4 γ4 b4 o4 δ3-page page)))) (lends-again u32 κ4 (ν3-page ∷ []) q4 γ4 b4 o4 𝓤 H A W (named 4) (named 1)
         page) $ await ! tt $ pick ! (λ δ3-page. split ! $ move ! (4 ∷ 0 ∷ []) $ join ! $ move ! (2 ∷ 0 ∷ []) $ join ! $ move ! (15 ∷ 0 ∷ []) $ join ! $
         use1 W (raw (K2 𝓤 H A mem run .pre
-        ((((κ1, ((ν3-page ∷ []), tt))), ((q1, (fullShare, tt))), tt, ((ref b1 o1 γ1 seats, (ref b4 o4 δ3-page page, (r2, tt)))), ((sliceVal (b1, o1) (length seats) ∷ [], (sliceVal (b4, o4) (length page) ∷ [], (L-Asked.lowered r2 ∷ [], tt))))), tt)))
+        (((κ1, ((ν3-page ∷ []), tt)), (q1, (fullShare, tt)), tt, (ref b1 o1 γ1 seats, (ref b4 o4 δ3-page page, (r2, tt))), (sliceVal (b1, o1) (length seats) ∷ [], (sliceVal (b4, o4) (length page) ∷ [], (L-Asked.lowered r2 ∷ [], tt)))), tt)))
         (qed W (‵ (flft κ1 q1) ∷ ‵ (flft (ν3-page ∷ []) fullShare) ∷ ‵ (ShrSlice (named 1) κ1 R-Seat .own (ref b1 o1 γ1 seats) (sliceVal (b1, o1) (length
         seats) ∷ [])) ∷ ‵ (MutSlice (named 1) (ν3-page ∷ []) u32 .own (ref b4 o4 δ3-page page) (sliceVal (b4, o4) (length page) ∷ [])) ∷ []) ∵ nothing ! $
         move ! (2 ∷ 0 ∷ []) $ join ! $ move ! (1 ∷ 0 ∷ []) $ join ! $ nothing ! $ owned ! R-Asked (Is R-Asked) (LL.makes T-Asked.the-type L-Asked.the-plain
         𝓤 H A) r2 (L-Asked.lowered r2 ∷ []) (subst (Is R-Asked r2) (L-Asked.lowers .val-is r2 _ is2) is2) $ fjoin ! $ move ! (3 ∷ 0 ∷ []) $ fjoin ! $
-        move ! (2 ∷ 0 ∷ []) $ fjoin ! $ move ! (1 ∷ 0 ∷ []) $ join ! $ frame ! $ done !) $ calls-at ! fm (K2 𝓤 H A mem run) k2
-        ((((κ1, ((ν3-page ∷ []), tt))), ((q1, (fullShare, tt))), tt, ((ref b1 o1 γ1 seats, (ref b4 o4 δ3-page page, (r2, tt)))), ((sliceVal (b1, o1) (length seats) ∷ [], (sliceVal (b4, o4) (length page) ∷ [], (L-Asked.lowered r2 ∷ [], tt))))), tt)
+        move ! (2 ∷ 0 ∷ []) $ fjoin ! $ move ! (1 ∷ 0 ∷ []) $ join ! $ frame ! $ done !) $ calls-at ! (fmOf 𝓤 H (W .laws) 𝓣) (K2 𝓤 H A mem run) known-c2
+        (((κ1, ((ν3-page ∷ []), tt)), (q1, (fullShare, tt)), tt, (ref b1 o1 γ1 seats, (ref b4 o4 δ3-page page, (r2, tt))), (sliceVal (b1, o1) (length seats) ∷ [], (sliceVal (b4, o4) (length page) ∷ [], (L-Asked.lowered r2 ∷ [], tt)))), tt)
         (and-then ! (load ! (from ! (stop !)) (look-in ! 15 (at-local ! 2 refl tt))) (and-then ! (load ! (from ! (stop !)) (look-in ! 15 (at-local ! 17 refl
         tt))) (and-then ! (load ! (from ! (stop !)) (look-in ! 15 (at-local ! 11 refl tt))) (no-more !)))) (λ v3. use1 W (later (some (λ (r3 : Page). ((‵
         (flft κ1 q1) ⊛ ‵ (flft (ν3-page ∷ []) fullShare) ⊛ ‵ ftrue) ⊛ ‵ (R-Page .own r3 (v3 ∷ []))) ⊛ raw (ensured 𝓤 H A c2.ended (c2.clauses 𝓤 H A mem run)
-        ((κ1, ((ν3-page ∷ []), tt))) ((ref b1 o1 γ1 seats, (ref b4 o4 δ3-page page, (r2, tt)))) tt r3)))) (id⊢ 𝓤 _) $ await ! tt $ pick ! (λ r3. split ! $
-        move ! (1 ∷ []) $ use1 W (some (λ (z3 : Lasts c2.ended ((κ1, ((ν3-page ∷ []), tt))) ((ref b1 o1 γ1 seats, (ref b4 o4 δ3-page page, (r2, tt))))). ‵
-        (lasts c2.ended ((κ1, ((ν3-page ∷ []), tt))) ((ref b1 o1 γ1 seats, (ref b4 o4 δ3-page page, (r2, tt)))) z3) ⊛ (raw (fact 𝓤 ((r3 ≡ pageOf (r2
-        .pieces) (r2 .first) (r2 .lines) seats) × ((z3 .1 .0) ≡ sets page 0 (asLines (linesOf (r2 .pieces) (r2 .first) (r2 .lines) seats)))))))) (id⊢ 𝓤 _) $
+        (κ1, ((ν3-page ∷ []), tt)) (ref b1 o1 γ1 seats, (ref b4 o4 δ3-page page, (r2, tt))) tt r3)))) (id⊢ 𝓤 _) $ await ! tt $ pick ! (λ r3. split ! $
+        move ! (1 ∷ []) $ use1 W (some (λ (z3 : Lasts c2.ended (κ1, ((ν3-page ∷ []), tt)) (ref b1 o1 γ1 seats, (ref b4 o4 δ3-page page, (r2, tt)))). ‵
+        (lasts c2.ended (κ1, ((ν3-page ∷ []), tt)) (ref b1 o1 γ1 seats, (ref b4 o4 δ3-page page, (r2, tt))) z3) ⊛ (raw (fact 𝓤 ((r3 ≡ pageOf (r2 .pieces)
+        (r2 .first) (r2 .lines) seats) × ((z3 .1 .0) ≡ sets page 0 (asLines (linesOf (r2 .pieces) (r2 .first) (r2 .lines) seats)))))))) (id⊢ 𝓤 _) $
         pick ! (λ z3. split ! $ move ! (1 ∷ []) $ heard ! ((r3 ≡ pageOf (r2 .pieces) (r2 .first) (r2 .lines) seats) × ((z3 .1 .0) ≡ sets page 0 (asLines
         (linesOf (r2 .pieces) (r2 .first) (r2 .lines) seats)))) (λ e3. fsplit ! $ drop ! $ fsplit ! $ fsplit ! $ move ! (1 ∷ []) $
         feqL ! (λ n3-page. move ! (1 ∷ []) $ fsplit ! $ drop ! $ drop ! $ move ! (1 ∷ []) $ split ! $ split ! $ move ! (1 ∷ []) $ split ! $
@@ -275,44 +280,45 @@ module _ {M : Type 1} (𝓤 : URA M) (H : Heap 𝓤) (A : Atoms 𝓤) (W : Given
         use3 W (later (‵ (MutSlice (named 4) κ4 u32 .own (ref b4 o4 γ4 (z3 .1 .0)) (sliceVal (b4, o4) (length page) ∷ [])) ⊛ ‵ (flft κ4 q4))) (comes-back
         u32 κ4 (ν3-page ∷ []) q4 γ4 b4 o4 𝓤 H A W (named 4) (named 1) page δ3-page (z3 .1 .0) g-page n3-page) $ await ! tt $ split ! $
         -- the call of `answer`
-        use0 W (raw (K3 𝓤 H A mem run .pre (((tt), (tt), tt, ((r1, (r3, tt))), ((vint w8 r1 ∷ [], (L-Page.lowered r3 ∷ [], tt)))), tt))) (qed W ([]) ∵ nothing !
-        $ nothing ! $ owned ! R-Page (Is R-Page) (LL.makes T-Page.the-type L-Page.the-plain 𝓤 H A) r3 (L-Page.lowered r3 ∷ []) (subst (Is R-Page r3)
+        use0 W (raw (K3 𝓤 H A mem run .pre ((tt, tt, tt, (r1, (r3, tt)), (vint w8 r1 ∷ [], (L-Page.lowered r3 ∷ [], tt))), tt))) (qed W ([]) ∵ nothing ! $
+        nothing ! $ owned ! R-Page (Is R-Page) (LL.makes T-Page.the-type L-Page.the-plain 𝓤 H A) r3 (L-Page.lowered r3 ∷ []) (subst (Is R-Page r3)
         (L-Page.lowers .val-is r3 _ is3) is3) $ fjoin ! $ owned ! u8 (Is u8) (uint-makes 𝓤 H A W w8) r1 (vint w8 r1 ∷ []) ((refl, is1 .1)) $ fjoin ! $
-        move ! (1 ∷ 0 ∷ []) $ join ! $ frame ! $ done !) $ calls-at ! fm (K3 𝓤 H A mem run) k3
-        (((tt), (tt), tt, ((r1, (r3, tt))), ((vint w8 r1 ∷ [], (L-Page.lowered r3 ∷ [], tt)))), tt) (and-then ! (load ! (from ! (stop !)) (look-in ! 17
-        (at-local ! 9 refl tt))) (and-then ! (load ! (from ! (stop !)) (look-in ! 17 (at-local ! 12 refl tt))) (no-more !))) (λ v4. use1 W (later (some (λ
-        (r4 : Answer). ((‵ ftrue) ⊛ ‵ (R-Answer .own r4 (v4 ∷ []))) ⊛ raw (ensured 𝓤 H A c3.ended (c3.clauses 𝓤 H A mem run) (tt) ((r1, (r3, tt))) tt r4))))
-        (id⊢ 𝓤 _) $ await ! tt $ pick ! (λ r4. split ! $ move ! (1 ∷ []) $ use1 W (some (λ (z4 : Lasts c3.ended (tt) ((r1, (r3, tt)))). ‵ (lasts c3.ended
-        (tt) ((r1, (r3, tt))) z4) ⊛ (raw (fact 𝓤 (r4 ≡ answerOf r1 r3))))) (id⊢ 𝓤 _) $ pick ! (λ z4. split ! $ move ! (1 ∷ []) $
+        move ! (1 ∷ 0 ∷ []) $ join ! $ frame ! $ done !) $ calls-at ! (fmOf 𝓤 H (W .laws) 𝓣) (K3 𝓤 H A mem run) known-c3
+        ((tt, tt, tt, (r1, (r3, tt)), (vint w8 r1 ∷ [], (L-Page.lowered r3 ∷ [], tt))), tt) (and-then ! (load ! (from ! (stop !)) (look-in ! 17 (at-local !
+        9 refl tt))) (and-then ! (load ! (from ! (stop !)) (look-in ! 17 (at-local ! 12 refl tt))) (no-more !))) (λ v4. use1 W (later (some (λ (r4 :
+        Answer). ((‵ ftrue) ⊛ ‵ (R-Answer .own r4 (v4 ∷ []))) ⊛ raw (ensured 𝓤 H A c3.ended (c3.clauses 𝓤 H A mem run) tt (r1, (r3, tt)) tt r4)))) (id⊢ 𝓤 _)
+        $ await ! tt $ pick ! (λ r4. split ! $ move ! (1 ∷ []) $ use1 W (some (λ (z4 : Lasts c3.ended tt (r1, (r3, tt))). ‵ (lasts c3.ended tt
+        (r1, (r3, tt)) z4) ⊛ (raw (fact 𝓤 (r4 ≡ answerOf r1 r3))))) (id⊢ 𝓤 _) $ pick ! (λ z4. split ! $ move ! (1 ∷ []) $
         heard ! (r4 ≡ answerOf r1 r3) (λ e4. fsplit ! $ drop ! $ fsplit ! $ drop ! $ drop ! $ split ! $ drop ! $
         peeks ! R-Answer (Is R-Answer) (shows 𝓤 H A R-Answer) r4 (v4 ∷ []) (λ is4. drop ! $ land ! (from ! (stop !)) (puts ! 16 13 refl refl tt (EL.lawful
         T-Answer.the-type L-Answer.the-laws 𝓤 H A W tt .typed r4 _ is4 .0)) $ respells ! 16 13 refl refl (ap only (L-Answer.lowers .val-is r4 _ is4)) $
         assigns ! (of-opd ! (load ! (from ! (hop ! (look-in ! 16 (at-local ! 7 refl tt)) (stop !))) (look-raw ! 8 refl))) (from ! (stop !)) (puts ! 16 18
         refl refl tt (LL.lawful T-Told.the-type L-Told.the-laws 𝓤 H A W .typed told _ was-told .0)) $
         -- the call of `tell`
-        use0 W (raw (K4 𝓤 H A mem run .pre (((tt), (tt), tt, ((r4, (told, tt))), ((L-Answer.lowered r4 ∷ [], (L-Told.lowered told ∷ [], tt)))), tt))) (qed W
-        ([]) ∵ nothing ! $ nothing ! $ owned ! R-Told (Is R-Told) (LL.makes T-Told.the-type L-Told.the-plain 𝓤 H A) told (L-Told.lowered told ∷ []) was-told
-        $ fjoin ! $ owned ! R-Answer (Is R-Answer) (EL.makes T-Answer.the-type L-Answer.the-plain 𝓤 H A) r4 (L-Answer.lowered r4 ∷ []) (subst (Is R-Answer
-        r4) (L-Answer.lowers .val-is r4 _ is4) is4) $ fjoin ! $ move ! (1 ∷ 0 ∷ []) $ join ! $ frame ! $ done !) $
-        calls-at ! fm (K4 𝓤 H A mem run) k4 (((tt), (tt), tt, ((r4, (told, tt))), ((L-Answer.lowered r4 ∷ [], (L-Told.lowered told ∷ [], tt)))), tt)
-        (and-then ! (load ! (from ! (stop !)) (look-in ! 17 (at-local ! 13 refl tt))) (and-then ! (load ! (from ! (stop !)) (look-in ! 17 (at-local ! 18
-        refl tt))) (no-more !))) (λ v5. use1 W (later (some (λ (r5 : Told). ((‵ ftrue) ⊛ ‵ (R-Told .own r5 (v5 ∷ []))) ⊛ raw (ensured 𝓤 H A c4.ended
-        (c4.clauses 𝓤 H A mem run) (tt) ((r4, (told, tt))) tt r5)))) (id⊢ 𝓤 _) $ await ! tt $ pick ! (λ r5. split ! $ move ! (1 ∷ []) $
-        use1 W (some (λ (z5 : Lasts c4.ended (tt) ((r4, (told, tt)))). ‵ (lasts c4.ended (tt) ((r4, (told, tt))) z5) ⊛ (raw (fact 𝓤 (r5 ≡ toldOf (paper r4)
-        told))))) (id⊢ 𝓤 _) $ pick ! (λ z5. split ! $ move ! (1 ∷ []) $ heard ! (r5 ≡ toldOf (paper r4) told) (λ e5. fsplit ! $ drop ! $ fsplit ! $ drop ! $
-        drop ! $ split ! $ drop ! $ peeks ! R-Told (Is R-Told) (shows 𝓤 H A R-Told) r5 (v5 ∷ []) (λ is5. drop ! $
-        land ! (from ! (stop !)) (puts ! 16 14 refl refl tt (LL.lawful T-Told.the-type L-Told.the-laws 𝓤 H A W .typed r5 _ is5 .0)) $
-        respells ! 16 14 refl refl (ap only (L-Told.lowers .val-is r5 _ is5)) $ assigns ! (of-opd ! (load ! (from ! (stop !)) (look-in ! 16 (at-local ! 14
-        refl tt)))) (from ! (hop ! (look-in ! 16 (at-local ! 7 refl tt)) (stop !))) (store-raw ! 8 refl (LL.lawful T-Told.the-type L-Told.the-laws 𝓤 H A W
-        .typed r5 _ (subst (Is R-Told r5) (L-Told.lowers .val-is r5 _ is5) is5) .0)) $
+        use0 W (raw (K4 𝓤 H A mem run .pre ((tt, tt, tt, (r4, (told, tt)), (L-Answer.lowered r4 ∷ [], (L-Told.lowered told ∷ [], tt))), tt))) (qed W ([]) ∵
+        nothing ! $ nothing ! $ owned ! R-Told (Is R-Told) (LL.makes T-Told.the-type L-Told.the-plain 𝓤 H A) told (L-Told.lowered told ∷ []) was-told $
+        fjoin ! $ owned ! R-Answer (Is R-Answer) (EL.makes T-Answer.the-type L-Answer.the-plain 𝓤 H A) r4 (L-Answer.lowered r4 ∷ []) (subst (Is R-Answer r4)
+        (L-Answer.lowers .val-is r4 _ is4) is4) $ fjoin ! $ move ! (1 ∷ 0 ∷ []) $ join ! $ frame ! $ done !) $
+        calls-at ! (fmOf 𝓤 H (W .laws) 𝓣) (K4 𝓤 H A mem run) known-c4
+        ((tt, tt, tt, (r4, (told, tt)), (L-Answer.lowered r4 ∷ [], (L-Told.lowered told ∷ [], tt))), tt) (and-then ! (load ! (from ! (stop !)) (look-in ! 17
+        (at-local ! 13 refl tt))) (and-then ! (load ! (from ! (stop !)) (look-in ! 17 (at-local ! 18 refl tt))) (no-more !))) (λ v5. use1 W (later (some (λ
+        (r5 : Told). ((‵ ftrue) ⊛ ‵ (R-Told .own r5 (v5 ∷ []))) ⊛ raw (ensured 𝓤 H A c4.ended (c4.clauses 𝓤 H A mem run) tt (r4, (told, tt)) tt r5)))) (id⊢
+        𝓤 _) $ await ! tt $ pick ! (λ r5. split ! $ move ! (1 ∷ []) $ use1 W (some (λ (z5 : Lasts c4.ended tt (r4, (told, tt))). ‵ (lasts c4.ended tt
+        (r4, (told, tt)) z5) ⊛ (raw (fact 𝓤 (r5 ≡ toldOf (paper r4) told))))) (id⊢ 𝓤 _) $ pick ! (λ z5. split ! $ move ! (1 ∷ []) $
+        heard ! (r5 ≡ toldOf (paper r4) told) (λ e5. fsplit ! $ drop ! $ fsplit ! $ drop ! $ drop ! $ split ! $ drop ! $
+        peeks ! R-Told (Is R-Told) (shows 𝓤 H A R-Told) r5 (v5 ∷ []) (λ is5. drop ! $ land ! (from ! (stop !)) (puts ! 16 14 refl refl tt (LL.lawful
+        T-Told.the-type L-Told.the-laws 𝓤 H A W .typed r5 _ is5 .0)) $ respells ! 16 14 refl refl (ap only (L-Told.lowers .val-is r5 _ is5)) $
+        assigns ! (of-opd ! (load ! (from ! (stop !)) (look-in ! 16 (at-local ! 14 refl tt)))) (from ! (hop ! (look-in ! 16 (at-local ! 7 refl tt)) (stop
+        !))) (store-raw ! 8 refl (LL.lawful T-Told.the-type L-Told.the-laws 𝓤 H A W .typed r5 _ (subst (Is R-Told r5) (L-Told.lowers .val-is r5 _ is5) is5)
+        .0)) $
         -- the call of `code`
-        use0 W (raw (K5 𝓤 H A mem run .pre (((tt), (tt), tt, ((r4, tt)), ((L-Answer.lowered r4 ∷ [], tt))), tt))) (qed W ([]) ∵ nothing ! $ nothing ! $
+        use0 W (raw (K5 𝓤 H A mem run .pre ((tt, tt, tt, (r4, tt), (L-Answer.lowered r4 ∷ [], tt)), tt))) (qed W ([]) ∵ nothing ! $ nothing ! $
         owned ! R-Answer (Is R-Answer) (EL.makes T-Answer.the-type L-Answer.the-plain 𝓤 H A) r4 (L-Answer.lowered r4 ∷ []) (subst (Is R-Answer r4)
         (L-Answer.lowers .val-is r4 _ is4) is4) $ fjoin ! $ move ! (1 ∷ 0 ∷ []) $ join ! $ frame ! $ done !) $
-        calls-at ! fm (K5 𝓤 H A mem run) k5 (((tt), (tt), tt, ((r4, tt)), ((L-Answer.lowered r4 ∷ [], tt))), tt) (and-then ! (load ! (from ! (stop !))
-        (look-in ! 17 (at-local ! 13 refl tt))) (no-more !)) (λ v6. use1 W (later (some (λ (r6 : ℕ). ((‵ ftrue) ⊛ ‵ (u64 .own r6 (v6 ∷ []))) ⊛ raw (ensured
-        𝓤 H A c5.ended (c5.clauses 𝓤 H A mem run) (tt) ((r4, tt)) tt r6)))) (id⊢ 𝓤 _) $ await ! tt $ pick ! (λ r6. split ! $ move ! (1 ∷ []) $
-        use1 W (some (λ (z6 : Lasts c5.ended (tt) ((r4, tt))). ‵ (lasts c5.ended (tt) ((r4, tt)) z6) ⊛ (raw (fact 𝓤 (r6 ≡ codeOf (paper r4)))))) (id⊢ 𝓤 _) $
+        calls-at ! (fmOf 𝓤 H (W .laws) 𝓣) (K5 𝓤 H A mem run) known-c5 ((tt, tt, tt, (r4, tt), (L-Answer.lowered r4 ∷ [], tt)), tt) (and-then ! (load ! (from
+        ! (stop !)) (look-in ! 17 (at-local ! 13 refl tt))) (no-more !)) (λ v6. use1 W (later (some (λ (r6 : ℕ). ((‵ ftrue) ⊛ ‵ (u64 .own r6 (v6 ∷ []))) ⊛
+        raw (ensured 𝓤 H A c5.ended (c5.clauses 𝓤 H A mem run) tt (r4, tt) tt r6)))) (id⊢ 𝓤 _) $ await ! tt $ pick ! (λ r6. split ! $ move ! (1 ∷ []) $
+        use1 W (some (λ (z6 : Lasts c5.ended tt (r4, tt)). ‵ (lasts c5.ended tt (r4, tt) z6) ⊛ (raw (fact 𝓤 (r6 ≡ codeOf (paper r4)))))) (id⊢ 𝓤 _) $
         pick ! (λ z6. split ! $ move ! (1 ∷ []) $ heard ! (r6 ≡ codeOf (paper r4)) (λ e6. fsplit ! $ drop ! $ drop ! $ split ! $ drop ! $
         peeks ! u64 (Is u64) (shows 𝓤 H A u64) r6 (v6 ∷ []) (λ is6. drop ! $ land ! (from ! (stop !)) (puts ! 16 0 refl refl tt (uint-lawful 𝓤 H A W w64
         .typed r6 _ is6 .0)) $ respells ! 16 0 refl refl (ap only (is6 .0)) $ owned ! R-Head (Is R-Head) (LL.makes T-Head.the-type L-Head.the-plain 𝓤 H A)
@@ -326,7 +332,7 @@ module _ {M : Type 1} (𝓤 : URA M) (H : Heap 𝓤) (A : Atoms 𝓤) (W : Given
         (ref b3 o3 γ3 holders) (sliceVal (b3, o3) (length holders) ∷ [])) ∷ ‵ (MutSlice (named 4) κ4 u32 .own (ref b4 o4 γ4 (z3 .1 .0)) (sliceVal (b4, o4)
         (length page) ∷ [])) ∷ ‵ (fobs γ5 (R-Told .coded .code r5)) ∷ ‵ (fbor κ5 (Body (memOf R-Told) b5 o5 γ5)) ∷ []) ∵ suffices ! _ (ends-at 𝓤 H A f.ended
         stayed (f.clauses 𝓤 H A mem run) W bound (vint w64 r6) r6 (head, (tt, (tt, (tt, (tt, ((z3 .1 .0), (r5, tt)))))))
-        (tt, (tt, (tt, (tt, (tt, ((n3-page), (tt, tt)))))))) $ says ! (missing-is head seats rows holders first page told (z3 .1 .0) r1 r2 r3 r4 r5 r6 e1 e2
+        (tt, (tt, (tt, (tt, (tt, (n3-page, (tt, tt)))))))) $ says ! (missing-is head seats rows holders first page told (z3 .1 .0) r1 r2 r3 r4 r5 r6 e1 e2
         e3 e4 e5 e6) $ move ! (6 ∷ 7 ∷ []) $ feqI ! (List Val) (vptr b0 o0 ∷ []) (vptr b0 o0 ∷ []) refl $ fjoin3 ! $ move ! (11 ∷ 12 ∷ []) $
         feqI ! (List Val) (vptr b5 o5 ∷ []) (vptr b5 o5 ∷ []) refl $ fjoin3 ! $ nothing ! $ move ! (8 ∷ 0 ∷ []) $ join ! $ move ! (7 ∷ 0 ∷ []) $ join ! $
         move ! (6 ∷ 0 ∷ []) $ join ! $ move ! (5 ∷ 0 ∷ []) $ join ! $ move ! (4 ∷ 0 ∷ []) $ join ! $ move ! (3 ∷ 0 ∷ []) $ join ! $ nothing ! $
@@ -336,31 +342,30 @@ module _ {M : Type 1} (𝓤 : URA M) (H : Heap 𝓤) (A : Atoms 𝓤) (W : Given
         done !)))))))))))))))))))))))))))))))))))))))
 
 module _ {M : Type 1} (𝓤 : URA M) (H : Heap 𝓤) (A : Atoms 𝓤) (W : Given 𝓤 H A) (mem : Memory → SProp 𝓤) (run : Routine → Fun 𝓤) where
-  f-walks : (C : Calls 𝓤 H) (Λ : Loops 𝓤 H) → FmC 𝓤 H (W .laws) C → Triple 𝓤 (C #yard·pages·fault) (K0 𝓤 H A mem run) → Triple 𝓤 (C #yard·pages·asked) (K1 𝓤 H A
-      mem run) → Triple 𝓤 (C #yard-scans·list-missing) (K2 𝓤 H A mem run) → Triple 𝓤 (C #yard·pages·answer) (K3 𝓤 H A mem run) → Triple 𝓤 (C #yard-telling·tell)
-      (K4 𝓤 H A mem run) → Triple 𝓤 (C #yard-telling·code) (K5 𝓤 H A mem run) → Walks 𝓤 H A f.ended stayed (WpFn 𝓤 H C Λ code.function) (f.clauses 𝓤 H A mem
-      run)
-  f-walks C Λ fm k0 k1 k2 k3 k4 k5 = walked 𝓤 H A f.ended stayed (f.clauses 𝓤 H A mem run) (WpFn 𝓤 H C Λ code.function) (λ κs.
-      (ptr-vals, (slice-vals, (slice-vals, (slice-vals, (uint-vals w64, (slice-vals, (ptr-vals, tt)))))))) (λ κs.
+  f-walks : (𝓣 : Tables 𝓤 H) → Triple 𝓤 (𝓣 .C #yard·pages·fault) (K0 𝓤 H A mem run) → Triple 𝓤 (𝓣 .C #yard·pages·asked) (K1 𝓤 H A mem run) → Triple 𝓤 (𝓣 .C
+      #yard-scans·list-missing) (K2 𝓤 H A mem run) → Triple 𝓤 (𝓣 .C #yard·pages·answer) (K3 𝓤 H A mem run) → Triple 𝓤 (𝓣 .C #yard-telling·tell) (K4 𝓤 H A mem
+      run) → Triple 𝓤 (𝓣 .C #yard-telling·code) (K5 𝓤 H A mem run) → Walks 𝓤 H A f.ended stayed (WpFn 𝓤 H (𝓣 .C) (𝓣 .Λ) code.function) (f.clauses 𝓤 H A mem run)
+  f-walks 𝓣 known-c0 known-c1 known-c2 known-c3 known-c4 known-c5 = walked 𝓤 H A f.ended stayed (f.clauses 𝓤 H A mem run) (WpFn 𝓤 H (𝓣 .C) (𝓣 .Λ) code.function)
+      (λ κs. (ptr-vals, (slice-vals, (slice-vals, (slice-vals, (uint-vals w64, (slice-vals, (ptr-vals, tt)))))))) (λ κs.
       (mut-tells (named 0) (κs .0) R-Head, (shr-slice-tells (named 1) (κs .1 .0) R-Seat, (shr-slice-tells (named 2) (κs .1 .1 .0) u8, (shr-slice-tells (named 3) (κs .1 .1 .1 .0) u16, (uint-tells w64, (mut-slice-tells (named 4) (κs .1 .1 .1 .1 .0) u32, (mut-tells (named 5) (κs .1 .1 .1 .1 .1 .0) R-Told, tt))))))))
       (λ κs qs bounds a _ are. via 𝓤 _ (fst∗ 𝓤 _ (emp 𝓤)) (walk 𝓤 H A W mem run (κs .0) (κs .1 .0) (κs .1 .1 .0) (κs .1 .1 .1 .0) (κs .1 .1 .1 .1 .0) (κs .1 .1
       .1 .1 .1 .0) (qs .0) (qs .1 .0) (qs .1 .1 .0) (qs .1 .1 .1 .0) (qs .1 .1 .1 .1 .0) (qs .1 .1 .1 .1 .1 .0) (a .0 .ptr .0) (a .0 .ptr .1) (a .0 .name)
       (a .0 .now) (a .1 .0 .ptr .0) (a .1 .0 .ptr .1) (a .1 .0 .name) (a .1 .0 .now) (a .1 .1 .0 .ptr .0) (a .1 .1 .0 .ptr .1) (a .1 .1 .0 .name) (a .1 .1
       .0 .now) (a .1 .1 .1 .0 .ptr .0) (a .1 .1 .1 .0 .ptr .1) (a .1 .1 .1 .0 .name) (a .1 .1 .1 .0 .now) (a .1 .1 .1 .1 .0) (a .1 .1 .1 .1 .1 .0 .ptr .0)
       (a .1 .1 .1 .1 .1 .0 .ptr .1) (a .1 .1 .1 .1 .1 .0 .name) (a .1 .1 .1 .1 .1 .0 .now) (a .1 .1 .1 .1 .1 .1 .0 .ptr .0) (a .1 .1 .1 .1 .1 .1 .0 .ptr .1)
-      (a .1 .1 .1 .1 .1 .1 .0 .name) (a .1 .1 .1 .1 .1 .1 .0 .now) (are .1 .0 .0 .1) (are .1 .1 .0 .0 .1) (are .1 .1 .1 .0 .0 .1) (are .1 .1 .1 .1 .0) (are
-      .1 .1 .1 .1 .1 .0 .0 .1) C Λ fm k0 k1 k2 k3 k4 k5))
+      (a .1 .1 .1 .1 .1 .1 .0 .name) (a .1 .1 .1 .1 .1 .1 .0 .now) 𝓣 known-c0 known-c1 known-c2 known-c3 known-c4 known-c5 (are .1 .0 .0 .1) (are .1 .1 .0
+      .0 .1) (are .1 .1 .1 .0 .0 .1) (are .1 .1 .1 .1 .0) (are .1 .1 .1 .1 .1 .0 .0 .1)))
 
 f-meets : {M : Type 1} (𝓤 : URA M) (H : Heap 𝓤) (A : Atoms 𝓤) → Given 𝓤 H A → (mem : Memory → SProp 𝓤) (run : Routine → Fun 𝓤) (𝓣 : Tables 𝓤 H) → Triple 𝓤 (𝓣 .C
     #yard·pages·fault) (K0 𝓤 H A mem run) → Triple 𝓤 (𝓣 .C #yard·pages·asked) (K1 𝓤 H A mem run) → Triple 𝓤 (𝓣 .C #yard-scans·list-missing) (K2 𝓤 H A mem run) →
     Triple 𝓤 (𝓣 .C #yard·pages·answer) (K3 𝓤 H A mem run) → Triple 𝓤 (𝓣 .C #yard-telling·tell) (K4 𝓤 H A mem run) → Triple 𝓤 (𝓣 .C #yard-telling·code) (K5 𝓤 H A
     mem run)
     → Meets 𝓤 H A f.signature (WpFn 𝓤 H (𝓣 .C) (𝓣 .Λ) code.function) (f.spec 𝓤 H A mem run)
-f-meets 𝓤 H A W mem run 𝓣 k0 k1 k2 k3 k4 k5 = walk-meets 𝓤 H A f.ended stayed W
+f-meets 𝓤 H A W mem run 𝓣 known-c0 known-c1 known-c2 known-c3 known-c4 known-c5 = walk-meets 𝓤 H A f.ended stayed W
     (goes-ref 𝓤 H A W 6 0 tt (plain (λ _. R-Head)), (goes-none-slice 𝓤 H A W 6 (1 ∷ []) tt (plain (λ _. R-Seat)) yes, (goes-none-slice 𝓤 H A W 6 (2 ∷ []) tt (plain (λ _. u8)) yes, (goes-none-slice 𝓤 H A W 6 (3 ∷ []) tt (plain (λ _. u16)) yes, (goes-none 𝓤 H A W 6 (λ _. usize) yes (λ κs x f. refl), (goes-slice 𝓤 H A W 6 4 tt (plain (λ _. u32)), (goes-ref 𝓤 H A W 6 5 tt (plain (λ _. R-Told)), tt)))))))
     (f.clauses 𝓤 H A mem run)
-    (WpFn 𝓤 H (𝓣 .C) (𝓣 .Λ) code.function) (WpFn-mono 𝓤 H (W .laws) 𝓣 code.function) (f-walks 𝓤 H A W mem run (𝓣 .C) (𝓣 .Λ) (fmOf 𝓤 H (W .laws) 𝓣) k0 k1 k2 k3
-    k4 k5)
+    (WpFn 𝓤 H (𝓣 .C) (𝓣 .Λ) code.function) (WpFn-mono 𝓤 H (W .laws) 𝓣 code.function) (f-walks 𝓤 H A W mem run 𝓣 known-c0 known-c1 known-c2 known-c3 known-c4
+    known-c5)
 
 pub wardrail-yard-missing-spec : {M : Type 1} → stated.statement M
 unfolding code.routine tablesOf

@@ -1,5 +1,5 @@
--- `yard::wardrail_yard_sit` meets its contract: a walk of its MIR, by hand, written by tools/walks.py. Of its callees the proof knows the contracts alone.
--- No field that the code does not name is named. Assumes nothing.
+-- `yard::wardrail_yard_sit` meets its contract: a walk of its MIR, by hand, written by tools/walks.py. Of its callees the proof knows the
+-- contracts alone, and no field that the code does not name is named. Assumes nothing.
 use mathlib.Core.Path.{_≡_, refl, ap, subst}
 use Prim.Native.Nat.{ℕ}
 use mathlib.Core.List.{List, [], _∷_}
@@ -22,7 +22,7 @@ use types.Run.{look-raw, store-raw, stop, hop, fld, from, load, addr, of-opd, an
 use types.Part.{agg, sub, look-in}
 use types.SemTy.{Body}
 use types.Tokens.{lft-new, lft-end}
-use sound.WpLaws.{FmC, fmOf, WpFn-mono}
+use sound.WpLaws.{fmOf, WpFn-mono}
 use denote.RattleType.{RattleType, owns}
 use denote.Laws.{Is, shows}
 use denote.Memory.{mem as memOf}
@@ -44,11 +44,11 @@ use denote.Triple.Walked.{says, Stays, stay-ref, stay-none-slice, stay-slice, wa
 use Rattle.yard_scans.proofs.Shared.{LentShared, lends-shared, shared-back}
 use Rattle.yard_scans.proofs.Again.{LentAgain, lends-again, comes-back}
 use Rattle.yard_scans.proofs.Locals.{at-local, puts, respells, allots, takes, frees-all}
+use Rattle.yard.proofs.Calls.{sit-is}
 use Rattle.yard_tables.specs.Seating.{lowestFree, sitOf}
 use Rattle.yard_tables.specs.Seats.{cleared}
 use Rattle.yard_tables.specs.Tables.{turn, around, paper}
 use Rattle.yard_telling.specs.Telling.{toldOf, codeOf}
-use Rattle.yard.proofs.Calls.{sit-is}
 use Rattle.yard_tables.specs.declared.Head.{Head}
 use Rattle.yard_tables.specs.declared.Seat.{Seat}
 use Rattle.yard_tables.specs.declared.Stepped.{Stepped}
@@ -94,9 +94,6 @@ use Rattle.yard.proofs.wardrail_yard_sit as f
 use Rattle.yard.proofs.wardrail_yard_sit.Statement as stated
 use Rattle.yard.proofs.wardrail_yard_sit.Code as code
 
-abbrev ref : {A : Type 0} → ℕ → ℕ → GName → A → RefT A
-ref b o γ x = record { ptr = (b, o); name = γ; now = x }
-
 abbrev R-Answer : RattleType
 R-Answer = T-Answer.the-row
 
@@ -115,6 +112,9 @@ R-Told = T-Told.the-row
 abbrev stayed : Stays (f.ended .signature .params) (f.ended .kept)
 stayed =
     (stay-ref (0 ∷ []) tt (plain (λ _. R-Head)), (stay-slice (1 ∷ []) tt (plain (λ _. R-Seat)), (stay-slice (2 ∷ []) tt (plain (λ _. u8)), (stay-none-slice (3 ∷ []) tt (plain (λ _. u16)) yes, (stay-ref (4 ∷ []) tt (plain (λ _. R-Told)), tt)))))
+
+abbrev ref : {A : Type 0} → ℕ → ℕ → GName → A → RefT A
+ref b o γ x = record { ptr = (b, o); name = γ; now = x }
 
 -- what whoever holds a Stepped knows of its fields
 parts-Stepped : (r : Stepped) (vs : List Val) → Is R-Stepped r vs → (Is R-Head (r .head) (L-Head.lowered (r .head) ∷ []) × (Is R-Seat (r .seat) (L-Seat.lowered
@@ -145,8 +145,7 @@ module _ {M : Type 1} (𝓤 : URA M) (H : Heap 𝓤) (A : Atoms 𝓤) (mem : Mem
 module _ {M : Type 1} (𝓤 : URA M) (H : Heap 𝓤) (A : Atoms 𝓤) (W : Given 𝓤 H A) (mem : Memory → SProp 𝓤) (run : Routine → Fun 𝓤) (κ0 κ1 κ2 κ3 κ4 : Lft) (q0 q1 q2
     q3 q4 : Share)
     (b0 o0 : ℕ) (γ0 : GName) (head : Head) (b1 o1 : ℕ) (γ1 : GName) (seats : List Seat) (b2 o2 : ℕ) (γ2 : GName) (rows : List ℕ) (b3 o3 : ℕ) (γ3 : GName)
-    (holders : List ℕ) (b4 o4 : ℕ) (γ4 : GName) (told : Told) (g-seats : Room R-Seat (length seats)) (g-rows : Room u8 (length rows)) (g-holders : Room u16
-    (length holders)) where
+    (holders : List ℕ) (b4 o4 : ℕ) (γ4 : GName) (told : Told) where
   abbrev xs : Args f.signature (κ0, (κ1, (κ2, (κ3, (κ4, tt)))))
   xs = (ref b0 o0 γ0 head, (ref b1 o1 γ1 seats, (ref b2 o2 γ2 rows, (ref b3 o3 γ3 holders, (ref b4 o4 γ4 told, tt)))))
 
@@ -159,16 +158,23 @@ module _ {M : Type 1} (𝓤 : URA M) (H : Heap 𝓤) (A : Atoms 𝓤) (W : Given
   abbrev Post : Val → SProp 𝓤
   Post = walkOf 𝓤 H A f.ended stayed (f.clauses 𝓤 H A mem run) .post bound
 
-  module _ (C : Calls 𝓤 H) (Λ : Loops 𝓤 H) (fm : FmC 𝓤 H (W .laws) C) (k0 : Triple 𝓤 (C #yard-scans·lowest-free) (K0 𝓤 H A mem run)) (k1 : Triple 𝓤 (C
-      #yard-scans·seat-get) (K1 𝓤 H A mem run)) (k2 : Triple 𝓤 (C #yard-seating·sit-step) (K2 𝓤 H A mem run)) (k3 : Triple 𝓤 (C #yard-scans·seat-set) (K3 𝓤 H A
-      mem run)) (k4 : Triple 𝓤 (C #yard-telling·tell) (K4 𝓤 H A mem run)) (k5 : Triple 𝓤 (C #yard-telling·code) (K5 𝓤 H A mem run)) where
+  module _ (𝓣 : Tables 𝓤 H) (known-c0 : Triple 𝓤 (𝓣 .C #yard-scans·lowest-free) (K0 𝓤 H A mem run)) (known-c1 : Triple 𝓤 (𝓣 .C #yard-scans·seat-get) (K1 𝓤 H A
+      mem run)) (known-c2 : Triple 𝓤 (𝓣 .C #yard-seating·sit-step) (K2 𝓤 H A mem run)) (known-c3 : Triple 𝓤 (𝓣 .C #yard-scans·seat-set) (K3 𝓤 H A mem run))
+      (known-c4 : Triple 𝓤 (𝓣 .C #yard-telling·tell) (K4 𝓤 H A mem run)) (known-c5 : Triple 𝓤 (𝓣 .C #yard-telling·code) (K5 𝓤 H A mem run)) (g-seats : Room
+      R-Seat (length seats)) (g-rows : Room u8 (length rows)) (g-holders : Room u16 (length holders)) where
+    abbrev C : Calls 𝓤 H
+    C = 𝓣 .C
+
+    abbrev Λ : Loops 𝓤 H
+    Λ = 𝓣 .Λ
+
     walk : ent 𝓤 (onEntry 𝓤 H A f.signature (κ0, (κ1, (κ2, (κ3, (κ4, tt))))) (q0, (q1, (q2, (q3, (q4, tt))))) xs at) (WpFn 𝓤 H C Λ code.function (vptr b0 o0 ∷
         sliceVal (b1, o1) (length seats) ∷ sliceVal (b2, o2) (length rows) ∷ sliceVal (b3, o3) (length holders) ∷ vptr b4 o4 ∷ []) Post)
     walk =
         qed W ((‵ (flft κ0 q0) ⊛ ‵ (flft κ1 q1) ⊛ ‵ (flft κ2 q2) ⊛ ‵ (flft κ3 q3) ⊛ ‵ (flft κ4 q4) ⊛ ‵ ftrue) ∷ ‵ (owns (MutRef (named 0) κ0 R-Head ∷ MutSlice
-        (named 1) κ1 R-Seat ∷ MutSlice (named 2) κ2 u8 ∷ ShrSlice (named 3) κ3 u16 ∷ MutRef (named 4) κ4 R-Told ∷ []) xs at) ∷ []) ∵
-        enter ! C Λ code.function (vptr b0 o0 ∷ sliceVal (b1, o1) (length seats) ∷ sliceVal (b2, o2) (length rows) ∷ sliceVal (b3, o3) (length holders) ∷ vptr
-        b4 o4 ∷ []) _ $
+        (named 1) κ1 R-Seat ∷ MutSlice (named 2) κ2 u8 ∷ ShrSlice (named 3) κ3 u16 ∷ MutRef (named 4) κ4 R-Told ∷ []) xs at) ∷ []) ∵ enter ! C Λ
+        code.function (vptr b0 o0 ∷ sliceVal (b1, o1) (length seats) ∷ sliceVal (b2, o2) (length rows) ∷ sliceVal (b3, o3) (length holders) ∷ vptr b4 o4 ∷
+        []) _ $
         allots ! (λ bs. takes !
         ((tt, tt), ((tt, (tt, (record { fits = g-seats .0 }, tt))), ((tt, (tt, (record { fits = g-rows .0 }, tt))), ((tt, (tt, (record { fits = g-holders .0 }, tt))), ((tt, tt), tt)))))
         $ move ! (1 ∷ []) $ split ! $ move ! (1 ∷ []) $ split ! $ move ! (1 ∷ []) $ split ! $ move ! (1 ∷ []) $ split ! $ move ! (1 ∷ []) $ split ! $
@@ -189,16 +195,16 @@ module _ {M : Type 1} (𝓤 : URA M) (H : Heap 𝓤) (A : Atoms 𝓤) (W : Given
         o1 δ1-seats seats) (sliceVal (b1, o1) (length seats) ∷ [])) ⊛ ‵ (LentShared R-Seat κ1 (ν1-seats ∷ []) q1 γ1 b1 o1 seats)))) (lends-shared R-Seat κ1
         (ν1-seats ∷ []) q1 γ1 b1 o1 𝓤 H A W (named 1) (named 0) seats) $ await ! tt $ pick ! (λ δ1-seats. split ! $ move ! (2 ∷ 0 ∷ []) $
         use2 W (raw (K0 𝓤 H A mem run .pre
-        (((((ν1-seats ∷ []), tt)), ((fullShare, tt)), tt, ((ref b1 o1 δ1-seats seats, tt)), ((sliceVal (b1, o1) (length seats) ∷ [], tt))), tt))) (qed W (‵
-        (flft (ν1-seats ∷ []) fullShare) ∷ ‵ (ShrSlice (named 0) (ν1-seats ∷ []) R-Seat .own (ref b1 o1 δ1-seats seats) (sliceVal (b1, o1) (length seats) ∷
-        [])) ∷ []) ∵ nothing ! $ move ! (1 ∷ 0 ∷ []) $ join ! $ nothing ! $ move ! (2 ∷ 0 ∷ []) $ fjoin ! $ move ! (1 ∷ 0 ∷ []) $ join ! $ frame ! $
-        done !) $ calls-at ! fm (K0 𝓤 H A mem run) k0
-        (((((ν1-seats ∷ []), tt)), ((fullShare, tt)), tt, ((ref b1 o1 δ1-seats seats, tt)), ((sliceVal (b1, o1) (length seats) ∷ [], tt))), tt) (and-then !
-        (load ! (from ! (stop !)) (look-in ! 14 (at-local ! 12 refl tt))) (no-more !)) (λ v1. use1 W (later (some (λ (r1 : ℕ). ((‵ (flft (ν1-seats ∷ [])
-        fullShare) ⊛ ‵ ftrue) ⊛ ‵ (usize .own r1 (v1 ∷ []))) ⊛ raw (ensured 𝓤 H A c0.ended (c0.clauses 𝓤 H A mem run) (((ν1-seats ∷ []), tt))
-        ((ref b1 o1 δ1-seats seats, tt)) tt r1)))) (id⊢ 𝓤 _) $ await ! tt $ pick ! (λ r1. split ! $ move ! (1 ∷ []) $
-        use1 W (some (λ (z1 : Lasts c0.ended (((ν1-seats ∷ []), tt)) ((ref b1 o1 δ1-seats seats, tt))). ‵ (lasts c0.ended (((ν1-seats ∷ []), tt))
-        ((ref b1 o1 δ1-seats seats, tt)) z1) ⊛ (raw (fact 𝓤 (r1 ≡ lowestFree seats))))) (id⊢ 𝓤 _) $ pick ! (λ z1. split ! $ move ! (1 ∷ []) $
+        ((((ν1-seats ∷ []), tt), (fullShare, tt), tt, (ref b1 o1 δ1-seats seats, tt), (sliceVal (b1, o1) (length seats) ∷ [], tt)), tt))) (qed W (‵ (flft
+        (ν1-seats ∷ []) fullShare) ∷ ‵ (ShrSlice (named 0) (ν1-seats ∷ []) R-Seat .own (ref b1 o1 δ1-seats seats) (sliceVal (b1, o1) (length seats) ∷ [])) ∷
+        []) ∵ nothing ! $ move ! (1 ∷ 0 ∷ []) $ join ! $ nothing ! $ move ! (2 ∷ 0 ∷ []) $ fjoin ! $ move ! (1 ∷ 0 ∷ []) $ join ! $ frame ! $ done !) $
+        calls-at ! (fmOf 𝓤 H (W .laws) 𝓣) (K0 𝓤 H A mem run) known-c0
+        ((((ν1-seats ∷ []), tt), (fullShare, tt), tt, (ref b1 o1 δ1-seats seats, tt), (sliceVal (b1, o1) (length seats) ∷ [], tt)), tt) (and-then ! (load !
+        (from ! (stop !)) (look-in ! 14 (at-local ! 12 refl tt))) (no-more !)) (λ v1. use1 W (later (some (λ (r1 : ℕ). ((‵ (flft (ν1-seats ∷ []) fullShare)
+        ⊛ ‵ ftrue) ⊛ ‵ (usize .own r1 (v1 ∷ []))) ⊛ raw (ensured 𝓤 H A c0.ended (c0.clauses 𝓤 H A mem run) ((ν1-seats ∷ []), tt)
+        (ref b1 o1 δ1-seats seats, tt) tt r1)))) (id⊢ 𝓤 _) $ await ! tt $ pick ! (λ r1. split ! $ move ! (1 ∷ []) $
+        use1 W (some (λ (z1 : Lasts c0.ended ((ν1-seats ∷ []), tt) (ref b1 o1 δ1-seats seats, tt)). ‵ (lasts c0.ended ((ν1-seats ∷ []), tt)
+        (ref b1 o1 δ1-seats seats, tt) z1) ⊛ (raw (fact 𝓤 (r1 ≡ lowestFree seats))))) (id⊢ 𝓤 _) $ pick ! (λ z1. split ! $ move ! (1 ∷ []) $
         heard ! (r1 ≡ lowestFree seats) (λ e1. fsplit ! $ drop ! $ drop ! $ split ! $ split ! $ move ! (1 ∷ []) $ drop ! $ move ! (1 ∷ []) $
         peeks ! usize (Is usize) (shows 𝓤 H A usize) r1 (v1 ∷ []) (λ is1. drop ! $ land ! (from ! (stop !)) (puts ! 14 7 refl refl tt (uint-lawful 𝓤 H A W
         w64 .typed r1 _ is1 .0)) $ respells ! 14 7 refl refl (ap only (is1 .0)) $ lft-end ! tt $ use2 W (later (‵ (MutSlice (named 1) κ1 R-Seat .own (ref b1
@@ -212,17 +218,17 @@ module _ {M : Type 1} (𝓤 : URA M) (H : Heap 𝓤) (A : Atoms 𝓤) (W : Given
         δ2-seats seats) (sliceVal (b1, o1) (length seats) ∷ [])) ⊛ ‵ (LentShared R-Seat κ1 (ν2-seats ∷ []) q1 γ1 b1 o1 seats)))) (lends-shared R-Seat κ1
         (ν2-seats ∷ []) q1 γ1 b1 o1 𝓤 H A W (named 1) (named 0) seats) $ await ! tt $ pick ! (λ δ2-seats. split ! $ move ! (2 ∷ 0 ∷ []) $
         use2 W (raw (K1 𝓤 H A mem run .pre
-        (((((ν2-seats ∷ []), tt)), ((fullShare, tt)), tt, ((ref b1 o1 δ2-seats seats, (r1, tt))), ((sliceVal (b1, o1) (length seats) ∷ [], (vint w64 r1 ∷ [], tt)))), tt)))
+        ((((ν2-seats ∷ []), tt), (fullShare, tt), tt, (ref b1 o1 δ2-seats seats, (r1, tt)), (sliceVal (b1, o1) (length seats) ∷ [], (vint w64 r1 ∷ [], tt))), tt)))
         (qed W (‵ (flft (ν2-seats ∷ []) fullShare) ∷ ‵ (ShrSlice (named 0) (ν2-seats ∷ []) R-Seat .own (ref b1 o1 δ2-seats seats) (sliceVal (b1, o1) (length
         seats) ∷ [])) ∷ []) ∵ nothing ! $ move ! (1 ∷ 0 ∷ []) $ join ! $ nothing ! $ owned ! usize (Is usize) (uint-makes 𝓤 H A W w64) r1 (vint w64 r1 ∷ [])
         ((refl, is1 .1)) $ fjoin ! $ move ! (2 ∷ 0 ∷ []) $ fjoin ! $ move ! (1 ∷ 0 ∷ []) $ join ! $ frame ! $ done !) $
-        calls-at ! fm (K1 𝓤 H A mem run) k1
-        (((((ν2-seats ∷ []), tt)), ((fullShare, tt)), tt, ((ref b1 o1 δ2-seats seats, (r1, tt))), ((sliceVal (b1, o1) (length seats) ∷ [], (vint w64 r1 ∷ [], tt)))), tt)
+        calls-at ! (fmOf 𝓤 H (W .laws) 𝓣) (K1 𝓤 H A mem run) known-c1
+        ((((ν2-seats ∷ []), tt), (fullShare, tt), tt, (ref b1 o1 δ2-seats seats, (r1, tt)), (sliceVal (b1, o1) (length seats) ∷ [], (vint w64 r1 ∷ [], tt))), tt)
         (and-then ! (load ! (from ! (stop !)) (look-in ! 14 (at-local ! 14 refl tt))) (and-then ! (load ! (from ! (stop !)) (look-in ! 14 (at-local ! 7 refl
         tt))) (no-more !))) (λ v2. use1 W (later (some (λ (r2 : Seat). ((‵ (flft (ν2-seats ∷ []) fullShare) ⊛ ‵ ftrue) ⊛ ‵ (R-Seat .own r2 (v2 ∷ []))) ⊛ raw
-        (ensured 𝓤 H A c1.ended (c1.clauses 𝓤 H A mem run) (((ν2-seats ∷ []), tt)) ((ref b1 o1 δ2-seats seats, (r1, tt))) tt r2)))) (id⊢ 𝓤 _) $ await ! tt $
-        pick ! (λ r2. split ! $ move ! (1 ∷ []) $ use1 W (some (λ (z2 : Lasts c1.ended (((ν2-seats ∷ []), tt)) ((ref b1 o1 δ2-seats seats, (r1, tt)))). ‵
-        (lasts c1.ended (((ν2-seats ∷ []), tt)) ((ref b1 o1 δ2-seats seats, (r1, tt))) z2) ⊛ (raw (fact 𝓤 (r2 ≡ getD seats r1 cleared))))) (id⊢ 𝓤 _) $
+        (ensured 𝓤 H A c1.ended (c1.clauses 𝓤 H A mem run) ((ν2-seats ∷ []), tt) (ref b1 o1 δ2-seats seats, (r1, tt)) tt r2)))) (id⊢ 𝓤 _) $ await ! tt $
+        pick ! (λ r2. split ! $ move ! (1 ∷ []) $ use1 W (some (λ (z2 : Lasts c1.ended ((ν2-seats ∷ []), tt) (ref b1 o1 δ2-seats seats, (r1, tt))). ‵ (lasts
+        c1.ended ((ν2-seats ∷ []), tt) (ref b1 o1 δ2-seats seats, (r1, tt)) z2) ⊛ (raw (fact 𝓤 (r2 ≡ getD seats r1 cleared))))) (id⊢ 𝓤 _) $
         pick ! (λ z2. split ! $ move ! (1 ∷ []) $ heard ! (r2 ≡ getD seats r1 cleared) (λ e2. fsplit ! $ drop ! $ fsplit ! $ drop ! $ drop ! $ split ! $
         split ! $ move ! (1 ∷ []) $ drop ! $ move ! (1 ∷ []) $ peeks ! R-Seat (Is R-Seat) (shows 𝓤 H A R-Seat) r2 (v2 ∷ []) (λ is2. drop ! $
         land ! (from ! (stop !)) (puts ! 14 8 refl refl tt (LL.lawful T-Seat.the-type L-Seat.the-laws 𝓤 H A W .typed r2 _ is2 .0)) $
@@ -242,7 +248,7 @@ module _ {M : Type 1} (𝓤 : URA M) (H : Heap 𝓤) (A : Atoms 𝓤) (W : Given
         b3 o3 γ3 holders) (sliceVal (b3, o3) (length holders) ∷ []))) (shr-slice-copy 𝓤 H A W (named 3) κ3 u16 .twice (ref b3 o3 γ3 holders) (sliceVal
         (b3, o3) (length holders) ∷ [])) $ split ! $ move ! (2 ∷ 1 ∷ []) $ join ! $ move ! (14 ∷ 0 ∷ []) $ join ! $ move ! (3 ∷ 0 ∷ []) $ join ! $
         use1 W (raw (K2 𝓤 H A mem run .pre
-        (((((ν3-rows ∷ []), (κ3, tt))), ((fullShare, (q3, tt))), tt, ((head, (r2, (ref b2 o2 δ3-rows rows, (ref b3 o3 γ3 holders, (r1, ((length seats), tt))))))), ((L-Head.lowered head ∷ [], (L-Seat.lowered r2 ∷ [], (sliceVal (b2, o2) (length rows) ∷ [], (sliceVal (b3, o3) (length holders) ∷ [], (vint w64 r1 ∷ [], (vint w64 (length seats) ∷ [], tt)))))))), tt)))
+        ((((ν3-rows ∷ []), (κ3, tt)), (fullShare, (q3, tt)), tt, (head, (r2, (ref b2 o2 δ3-rows rows, (ref b3 o3 γ3 holders, (r1, ((length seats), tt)))))), (L-Head.lowered head ∷ [], (L-Seat.lowered r2 ∷ [], (sliceVal (b2, o2) (length rows) ∷ [], (sliceVal (b3, o3) (length holders) ∷ [], (vint w64 r1 ∷ [], (vint w64 (length seats) ∷ [], tt))))))), tt)))
         (qed W (‵ (flft (ν3-rows ∷ []) fullShare) ∷ ‵ (flft κ3 q3) ∷ ‵ (MutSlice (named 0) (ν3-rows ∷ []) u8 .own (ref b2 o2 δ3-rows rows) (sliceVal
         (b2, o2) (length rows) ∷ [])) ∷ ‵ (ShrSlice (named 3) κ3 u16 .own (ref b3 o3 γ3 holders) (sliceVal (b3, o3) (length holders) ∷ [])) ∷ []) ∵ nothing
         ! $ move ! (2 ∷ 0 ∷ []) $ join ! $ move ! (1 ∷ 0 ∷ []) $ join ! $ nothing ! $ owned ! usize (Is usize) (uint-makes 𝓤 H A W w64) (length seats) (vint
@@ -250,18 +256,18 @@ module _ {M : Type 1} (𝓤 : URA M) (H : Heap 𝓤) (A : Atoms 𝓤) (W : Given
         fjoin ! $ move ! (3 ∷ 0 ∷ []) $ fjoin ! $ move ! (2 ∷ 0 ∷ []) $ fjoin ! $ owned ! R-Seat (Is R-Seat) (LL.makes T-Seat.the-type L-Seat.the-plain 𝓤 H
         A) r2 (L-Seat.lowered r2 ∷ []) (subst (Is R-Seat r2) (L-Seat.lowers .val-is r2 _ is2) is2) $ fjoin ! $
         owned ! R-Head (Is R-Head) (LL.makes T-Head.the-type L-Head.the-plain 𝓤 H A) head (L-Head.lowered head ∷ []) was-head $ fjoin ! $
-        move ! (1 ∷ 0 ∷ []) $ join ! $ frame ! $ done !) $ calls-at ! fm (K2 𝓤 H A mem run) k2
-        (((((ν3-rows ∷ []), (κ3, tt))), ((fullShare, (q3, tt))), tt, ((head, (r2, (ref b2 o2 δ3-rows rows, (ref b3 o3 γ3 holders, (r1, ((length seats), tt))))))), ((L-Head.lowered head ∷ [], (L-Seat.lowered r2 ∷ [], (sliceVal (b2, o2) (length rows) ∷ [], (sliceVal (b3, o3) (length holders) ∷ [], (vint w64 r1 ∷ [], (vint w64 (length seats) ∷ [], tt)))))))), tt)
+        move ! (1 ∷ 0 ∷ []) $ join ! $ frame ! $ done !) $ calls-at ! (fmOf 𝓤 H (W .laws) 𝓣) (K2 𝓤 H A mem run) known-c2
+        ((((ν3-rows ∷ []), (κ3, tt)), (fullShare, (q3, tt)), tt, (head, (r2, (ref b2 o2 δ3-rows rows, (ref b3 o3 γ3 holders, (r1, ((length seats), tt)))))), (L-Head.lowered head ∷ [], (L-Seat.lowered r2 ∷ [], (sliceVal (b2, o2) (length rows) ∷ [], (sliceVal (b3, o3) (length holders) ∷ [], (vint w64 r1 ∷ [], (vint w64 (length seats) ∷ [], tt))))))), tt)
         (and-then ! (load ! (from ! (stop !)) (look-in ! 13 (at-local ! 15 refl tt))) (and-then ! (load ! (from ! (stop !)) (look-in ! 13 (at-local ! 8 refl
         tt))) (and-then ! (load ! (from ! (stop !)) (look-in ! 13 (at-local ! 17 refl tt))) (and-then ! (load ! (from ! (stop !)) (look-in ! 13 (at-local !
         4 refl tt))) (and-then ! (load ! (from ! (stop !)) (look-in ! 13 (at-local ! 7 refl tt))) (and-then ! (load ! (from ! (stop !)) (look-in ! 13
         (at-local ! 6 refl tt))) (no-more !))))))) (λ v3. use1 W (later (some (λ (r3 : Stepped). ((‵ (flft (ν3-rows ∷ []) fullShare) ⊛ ‵ (flft κ3 q3) ⊛ ‵
-        ftrue) ⊛ ‵ (R-Stepped .own r3 (v3 ∷ []))) ⊛ raw (ensured 𝓤 H A c2.ended (c2.clauses 𝓤 H A mem run) (((ν3-rows ∷ []), (κ3, tt)))
-        ((head, (r2, (ref b2 o2 δ3-rows rows, (ref b3 o3 γ3 holders, (r1, ((length seats), tt))))))) tt r3)))) (id⊢ 𝓤 _) $ await ! tt $
-        pick ! (λ r3. split ! $ move ! (1 ∷ []) $ use1 W (some (λ (z3 : Lasts c2.ended (((ν3-rows ∷ []), (κ3, tt)))
-        ((head, (r2, (ref b2 o2 δ3-rows rows, (ref b3 o3 γ3 holders, (r1, ((length seats), tt)))))))). ‵ (lasts c2.ended (((ν3-rows ∷ []), (κ3, tt)))
-        ((head, (r2, (ref b2 o2 δ3-rows rows, (ref b3 o3 γ3 holders, (r1, ((length seats), tt))))))) z3) ⊛ (raw (fact 𝓤 (turn r3 (z3 .1 .1 .0) holders ≡
-        sitOf r1 (length seats) (around head r2 rows holders)))))) (id⊢ 𝓤 _) $ pick ! (λ z3. split ! $ move ! (1 ∷ []) $
+        ftrue) ⊛ ‵ (R-Stepped .own r3 (v3 ∷ []))) ⊛ raw (ensured 𝓤 H A c2.ended (c2.clauses 𝓤 H A mem run) ((ν3-rows ∷ []), (κ3, tt))
+        (head, (r2, (ref b2 o2 δ3-rows rows, (ref b3 o3 γ3 holders, (r1, ((length seats), tt)))))) tt r3)))) (id⊢ 𝓤 _) $ await ! tt $
+        pick ! (λ r3. split ! $ move ! (1 ∷ []) $ use1 W (some (λ (z3 : Lasts c2.ended ((ν3-rows ∷ []), (κ3, tt))
+        (head, (r2, (ref b2 o2 δ3-rows rows, (ref b3 o3 γ3 holders, (r1, ((length seats), tt))))))). ‵ (lasts c2.ended ((ν3-rows ∷ []), (κ3, tt))
+        (head, (r2, (ref b2 o2 δ3-rows rows, (ref b3 o3 γ3 holders, (r1, ((length seats), tt)))))) z3) ⊛ (raw (fact 𝓤 (turn r3 (z3 .1 .1 .0) holders ≡ sitOf
+        r1 (length seats) (around head r2 rows holders)))))) (id⊢ 𝓤 _) $ pick ! (λ z3. split ! $ move ! (1 ∷ []) $
         heard ! (turn r3 (z3 .1 .1 .0) holders ≡ sitOf r1 (length seats) (around head r2 rows holders)) (λ e3. fsplit ! $ drop ! $ fsplit ! $ drop ! $
         fsplit ! $ fsplit ! $ move ! (1 ∷ []) $ feqL ! (λ n3-rows. move ! (1 ∷ []) $ fsplit ! $ drop ! $ fsplit ! $ drop ! $ fsplit ! $ drop ! $ drop ! $
         move ! (1 ∷ []) $ split ! $ split ! $ move ! (1 ∷ []) $ split ! $ move ! (1 ∷ []) $ drop ! $ move ! (2 ∷ []) $
@@ -278,20 +284,20 @@ module _ {M : Type 1} (𝓤 : URA M) (H : Heap 𝓤) (A : Atoms 𝓤) (W : Given
         δ4-seats seats) (sliceVal (b1, o1) (length seats) ∷ [])) ⊛ ‵ (LentAgain R-Seat κ1 (ν4-seats ∷ []) q1 γ1 b1 o1 δ4-seats seats)))) (lends-again R-Seat
         κ1 (ν4-seats ∷ []) q1 γ1 b1 o1 𝓤 H A W (named 1) (named 0) seats) $ await ! tt $ pick ! (λ δ4-seats. split ! $ move ! (2 ∷ 0 ∷ []) $
         use2 W (raw (K3 𝓤 H A mem run .pre
-        (((((ν4-seats ∷ []), tt)), ((fullShare, tt)), tt, ((ref b1 o1 δ4-seats seats, (r1, (r3 .seat, tt)))), ((sliceVal (b1, o1) (length seats) ∷ [], (vint w64 r1 ∷ [], (L-Seat.lowered (r3 .seat) ∷ [], tt))))), tt)))
+        ((((ν4-seats ∷ []), tt), (fullShare, tt), tt, (ref b1 o1 δ4-seats seats, (r1, (r3 .seat, tt))), (sliceVal (b1, o1) (length seats) ∷ [], (vint w64 r1 ∷ [], (L-Seat.lowered (r3 .seat) ∷ [], tt)))), tt)))
         (qed W (‵ (flft (ν4-seats ∷ []) fullShare) ∷ ‵ (MutSlice (named 0) (ν4-seats ∷ []) R-Seat .own (ref b1 o1 δ4-seats seats) (sliceVal (b1, o1) (length
         seats) ∷ [])) ∷ []) ∵ nothing ! $ move ! (1 ∷ 0 ∷ []) $ join ! $ nothing ! $ owned ! R-Seat (Is R-Seat) (LL.makes T-Seat.the-type L-Seat.the-plain 𝓤
         H A) (r3 .seat) (L-Seat.lowered (r3 .seat) ∷ []) (parts-Stepped r3 _ (subst (Is R-Stepped r3) (L-Stepped.lowers .val-is r3 _ is3) is3) .1 .0) $
         fjoin ! $ owned ! usize (Is usize) (uint-makes 𝓤 H A W w64) r1 (vint w64 r1 ∷ []) ((refl, is1 .1)) $ fjoin ! $ move ! (2 ∷ 0 ∷ []) $ fjoin ! $
-        move ! (1 ∷ 0 ∷ []) $ join ! $ frame ! $ done !) $ calls-at ! fm (K3 𝓤 H A mem run) k3
-        (((((ν4-seats ∷ []), tt)), ((fullShare, tt)), tt, ((ref b1 o1 δ4-seats seats, (r1, (r3 .seat, tt)))), ((sliceVal (b1, o1) (length seats) ∷ [], (vint w64 r1 ∷ [], (L-Seat.lowered (r3 .seat) ∷ [], tt))))), tt)
+        move ! (1 ∷ 0 ∷ []) $ join ! $ frame ! $ done !) $ calls-at ! (fmOf 𝓤 H (W .laws) 𝓣) (K3 𝓤 H A mem run) known-c3
+        ((((ν4-seats ∷ []), tt), (fullShare, tt), tt, (ref b1 o1 δ4-seats seats, (r1, (r3 .seat, tt))), (sliceVal (b1, o1) (length seats) ∷ [], (vint w64 r1 ∷ [], (L-Seat.lowered (r3 .seat) ∷ [], tt)))), tt)
         (and-then ! (load ! (from ! (stop !)) (look-in ! 14 (at-local ! 20 refl tt))) (and-then ! (load ! (from ! (stop !)) (look-in ! 14 (at-local ! 7 refl
         tt))) (and-then ! (load ! (from ! (fld ! refl (stop !))) (look-in ! 14 (sub ! 1 refl (at-local ! 9 refl tt)))) (no-more !)))) (λ v4. use1 W (later
         (some (λ (r4 : Unit {0}). ((‵ (flft (ν4-seats ∷ []) fullShare) ⊛ ‵ ftrue) ⊛ ‵ (Nothing .own r4 (v4 ∷ []))) ⊛ raw (ensured 𝓤 H A c3.ended (c3.clauses
-        𝓤 H A mem run) (((ν4-seats ∷ []), tt)) ((ref b1 o1 δ4-seats seats, (r1, (r3 .seat, tt)))) tt r4)))) (id⊢ 𝓤 _) $ await ! tt $ pick ! (λ r4. split ! $
-        move ! (1 ∷ []) $ use1 W (some (λ (z4 : Lasts c3.ended (((ν4-seats ∷ []), tt)) ((ref b1 o1 δ4-seats seats, (r1, (r3 .seat, tt))))). ‵ (lasts
-        c3.ended (((ν4-seats ∷ []), tt)) ((ref b1 o1 δ4-seats seats, (r1, (r3 .seat, tt)))) z4) ⊛ (raw (fact 𝓤 ((z4 .0) ≡ set seats r1 (r3 .seat)))))) (id⊢
-        𝓤 _) $ pick ! (λ z4. split ! $ move ! (1 ∷ []) $ heard ! ((z4 .0) ≡ set seats r1 (r3 .seat)) (λ e4. fsplit ! $ fsplit ! $ move ! (1 ∷ []) $
+        𝓤 H A mem run) ((ν4-seats ∷ []), tt) (ref b1 o1 δ4-seats seats, (r1, (r3 .seat, tt))) tt r4)))) (id⊢ 𝓤 _) $ await ! tt $ pick ! (λ r4. split ! $
+        move ! (1 ∷ []) $ use1 W (some (λ (z4 : Lasts c3.ended ((ν4-seats ∷ []), tt) (ref b1 o1 δ4-seats seats, (r1, (r3 .seat, tt)))). ‵ (lasts c3.ended
+        ((ν4-seats ∷ []), tt) (ref b1 o1 δ4-seats seats, (r1, (r3 .seat, tt))) z4) ⊛ (raw (fact 𝓤 ((z4 .0) ≡ set seats r1 (r3 .seat)))))) (id⊢ 𝓤 _) $
+        pick ! (λ z4. split ! $ move ! (1 ∷ []) $ heard ! ((z4 .0) ≡ set seats r1 (r3 .seat)) (λ e4. fsplit ! $ fsplit ! $ move ! (1 ∷ []) $
         feqL ! (λ n4-seats. move ! (1 ∷ []) $ fsplit ! $ drop ! $ fsplit ! $ drop ! $ drop ! $ move ! (1 ∷ []) $ split ! $ split ! $ move ! (1 ∷ []) $
         drop ! $ move ! (1 ∷ []) $ peeks ! Nothing (Is Nothing) (shows 𝓤 H A Nothing) r4 (v4 ∷ []) (λ is4. drop ! $
         land ! (from ! (stop !)) (puts ! 15 18 refl refl tt (nothing-lawful 𝓤 H A W .typed r4 _ is4 .0)) $ respells ! 15 18 refl refl (ap only is4) $
@@ -303,37 +309,36 @@ module _ {M : Type 1} (𝓤 : URA M) (H : Heap 𝓤) (A : Atoms 𝓤) (W : Given
         assigns ! (of-opd ! (load ! (from ! (hop ! (look-in ! 14 (at-local ! 5 refl tt)) (stop !))) (look-raw ! 6 refl))) (from ! (stop !)) (puts ! 14 21
         refl refl tt (LL.lawful T-Told.the-type L-Told.the-laws 𝓤 H A W .typed told _ was-told .0)) $
         -- the call of `tell`
-        use0 W (raw (K4 𝓤 H A mem run .pre
-        (((tt), (tt), tt, ((r3 .answer, (told, tt))), ((L-Answer.lowered (r3 .answer) ∷ [], (L-Told.lowered told ∷ [], tt)))), tt))) (qed W ([]) ∵ nothing !
-        $ nothing ! $ owned ! R-Told (Is R-Told) (LL.makes T-Told.the-type L-Told.the-plain 𝓤 H A) told (L-Told.lowered told ∷ []) was-told $ fjoin ! $
-        owned ! R-Answer (Is R-Answer) (EL.makes T-Answer.the-type L-Answer.the-plain 𝓤 H A) (r3 .answer) (L-Answer.lowered (r3 .answer) ∷ [])
-        (parts-Stepped r3 _ (subst (Is R-Stepped r3) (L-Stepped.lowers .val-is r3 _ is3) is3) .1 .1 .0) $ fjoin ! $ move ! (1 ∷ 0 ∷ []) $ join ! $ frame ! $
-        done !) $ calls-at ! fm (K4 𝓤 H A mem run) k4
-        (((tt), (tt), tt, ((r3 .answer, (told, tt))), ((L-Answer.lowered (r3 .answer) ∷ [], (L-Told.lowered told ∷ [], tt)))), tt) (and-then ! (load ! (from
-        ! (fld ! refl (stop !))) (look-in ! 15 (sub ! 2 refl (at-local ! 9 refl tt)))) (and-then ! (load ! (from ! (stop !)) (look-in ! 15 (at-local ! 21
-        refl tt))) (no-more !))) (λ v5. use1 W (later (some (λ (r5 : Told). ((‵ ftrue) ⊛ ‵ (R-Told .own r5 (v5 ∷ []))) ⊛ raw (ensured 𝓤 H A c4.ended
-        (c4.clauses 𝓤 H A mem run) (tt) ((r3 .answer, (told, tt))) tt r5)))) (id⊢ 𝓤 _) $ await ! tt $ pick ! (λ r5. split ! $ move ! (1 ∷ []) $
-        use1 W (some (λ (z5 : Lasts c4.ended (tt) ((r3 .answer, (told, tt)))). ‵ (lasts c4.ended (tt) ((r3 .answer, (told, tt))) z5) ⊛ (raw (fact 𝓤 (r5 ≡
-        toldOf (paper (r3 .answer)) told))))) (id⊢ 𝓤 _) $ pick ! (λ z5. split ! $ move ! (1 ∷ []) $ heard ! (r5 ≡ toldOf (paper (r3 .answer)) told) (λ e5.
-        fsplit ! $ drop ! $ fsplit ! $ drop ! $ drop ! $ split ! $ drop ! $ peeks ! R-Told (Is R-Told) (shows 𝓤 H A R-Told) r5 (v5 ∷ []) (λ is5. drop ! $
+        use0 W (raw (K4 𝓤 H A mem run .pre ((tt, tt, tt, (r3 .answer, (told, tt)), (L-Answer.lowered (r3 .answer) ∷ [], (L-Told.lowered told ∷ [], tt))), tt)))
+        (qed W ([]) ∵ nothing ! $ nothing ! $ owned ! R-Told (Is R-Told) (LL.makes T-Told.the-type L-Told.the-plain 𝓤 H A) told (L-Told.lowered told ∷ [])
+        was-told $ fjoin ! $ owned ! R-Answer (Is R-Answer) (EL.makes T-Answer.the-type L-Answer.the-plain 𝓤 H A) (r3 .answer) (L-Answer.lowered (r3
+        .answer) ∷ []) (parts-Stepped r3 _ (subst (Is R-Stepped r3) (L-Stepped.lowers .val-is r3 _ is3) is3) .1 .1 .0) $ fjoin ! $ move ! (1 ∷ 0 ∷ []) $
+        join ! $ frame ! $ done !) $ calls-at ! (fmOf 𝓤 H (W .laws) 𝓣) (K4 𝓤 H A mem run) known-c4
+        ((tt, tt, tt, (r3 .answer, (told, tt)), (L-Answer.lowered (r3 .answer) ∷ [], (L-Told.lowered told ∷ [], tt))), tt) (and-then ! (load ! (from ! (fld
+        ! refl (stop !))) (look-in ! 15 (sub ! 2 refl (at-local ! 9 refl tt)))) (and-then ! (load ! (from ! (stop !)) (look-in ! 15 (at-local ! 21 refl
+        tt))) (no-more !))) (λ v5. use1 W (later (some (λ (r5 : Told). ((‵ ftrue) ⊛ ‵ (R-Told .own r5 (v5 ∷ []))) ⊛ raw (ensured 𝓤 H A c4.ended (c4.clauses
+        𝓤 H A mem run) tt (r3 .answer, (told, tt)) tt r5)))) (id⊢ 𝓤 _) $ await ! tt $ pick ! (λ r5. split ! $ move ! (1 ∷ []) $
+        use1 W (some (λ (z5 : Lasts c4.ended tt (r3 .answer, (told, tt))). ‵ (lasts c4.ended tt (r3 .answer, (told, tt)) z5) ⊛ (raw (fact 𝓤 (r5 ≡ toldOf
+        (paper (r3 .answer)) told))))) (id⊢ 𝓤 _) $ pick ! (λ z5. split ! $ move ! (1 ∷ []) $ heard ! (r5 ≡ toldOf (paper (r3 .answer)) told) (λ e5. fsplit !
+        $ drop ! $ fsplit ! $ drop ! $ drop ! $ split ! $ drop ! $ peeks ! R-Told (Is R-Told) (shows 𝓤 H A R-Told) r5 (v5 ∷ []) (λ is5. drop ! $
         land ! (from ! (stop !)) (puts ! 14 10 refl refl tt (LL.lawful T-Told.the-type L-Told.the-laws 𝓤 H A W .typed r5 _ is5 .0)) $
         respells ! 14 10 refl refl (ap only (L-Told.lowers .val-is r5 _ is5)) $ assigns ! (of-opd ! (load ! (from ! (stop !)) (look-in ! 14 (at-local ! 10
         refl tt)))) (from ! (hop ! (look-in ! 14 (at-local ! 5 refl tt)) (stop !))) (store-raw ! 6 refl (LL.lawful T-Told.the-type L-Told.the-laws 𝓤 H A W
         .typed r5 _ (subst (Is R-Told r5) (L-Told.lowers .val-is r5 _ is5) is5) .0)) $
         -- the call of `code`
-        use0 W (raw (K5 𝓤 H A mem run .pre (((tt), (tt), tt, ((r3 .answer, tt)), ((L-Answer.lowered (r3 .answer) ∷ [], tt))), tt))) (qed W ([]) ∵ nothing ! $
+        use0 W (raw (K5 𝓤 H A mem run .pre ((tt, tt, tt, (r3 .answer, tt), (L-Answer.lowered (r3 .answer) ∷ [], tt)), tt))) (qed W ([]) ∵ nothing ! $
         nothing ! $ owned ! R-Answer (Is R-Answer) (EL.makes T-Answer.the-type L-Answer.the-plain 𝓤 H A) (r3 .answer) (L-Answer.lowered (r3 .answer) ∷ [])
         (parts-Stepped r3 _ (subst (Is R-Stepped r3) (L-Stepped.lowers .val-is r3 _ is3) is3) .1 .1 .0) $ fjoin ! $ move ! (1 ∷ 0 ∷ []) $ join ! $ frame ! $
-        done !) $ calls-at ! fm (K5 𝓤 H A mem run) k5 (((tt), (tt), tt, ((r3 .answer, tt)), ((L-Answer.lowered (r3 .answer) ∷ [], tt))), tt) (and-then !
-        (load ! (from ! (fld ! refl (stop !))) (look-in ! 15 (sub ! 2 refl (at-local ! 9 refl tt)))) (no-more !)) (λ v6. use1 W (later (some (λ (r6 : ℕ).
-        ((‵ ftrue) ⊛ ‵ (u64 .own r6 (v6 ∷ []))) ⊛ raw (ensured 𝓤 H A c5.ended (c5.clauses 𝓤 H A mem run) (tt) ((r3 .answer, tt)) tt r6)))) (id⊢ 𝓤 _) $
-        await ! tt $ pick ! (λ r6. split ! $ move ! (1 ∷ []) $ use1 W (some (λ (z6 : Lasts c5.ended (tt) ((r3 .answer, tt))). ‵ (lasts c5.ended (tt)
-        ((r3 .answer, tt)) z6) ⊛ (raw (fact 𝓤 (r6 ≡ codeOf (paper (r3 .answer))))))) (id⊢ 𝓤 _) $ pick ! (λ z6. split ! $ move ! (1 ∷ []) $
-        heard ! (r6 ≡ codeOf (paper (r3 .answer))) (λ e6. fsplit ! $ drop ! $ drop ! $ split ! $ drop ! $ peeks ! u64 (Is u64) (shows 𝓤 H A u64) r6 (v6 ∷
-        []) (λ is6. drop ! $ land ! (from ! (stop !)) (puts ! 14 0 refl refl tt (uint-lawful 𝓤 H A W w64 .typed r6 _ is6 .0)) $
-        respells ! 14 0 refl refl (ap only (is6 .0)) $ owned ! R-Head (Is R-Head) (LL.makes T-Head.the-type L-Head.the-plain 𝓤 H A) (r3 .head)
-        (L-Head.lowered (r3 .head) ∷ []) (parts-Stepped r3 _ (subst (Is R-Stepped r3) (L-Stepped.lowers .val-is r3 _ is3) is3) .0) $
-        move ! (11 ∷ 0 ∷ 12 ∷ 13 ∷ 14 ∷ []) $ closes ! tt R-Head (r3 .head) (L-Head.lowered (r3 .head) ∷ []) b0 o0 $
+        done !) $ calls-at ! (fmOf 𝓤 H (W .laws) 𝓣) (K5 𝓤 H A mem run) known-c5
+        ((tt, tt, tt, (r3 .answer, tt), (L-Answer.lowered (r3 .answer) ∷ [], tt)), tt) (and-then ! (load ! (from ! (fld ! refl (stop !))) (look-in ! 15 (sub
+        ! 2 refl (at-local ! 9 refl tt)))) (no-more !)) (λ v6. use1 W (later (some (λ (r6 : ℕ). ((‵ ftrue) ⊛ ‵ (u64 .own r6 (v6 ∷ []))) ⊛ raw (ensured 𝓤 H A
+        c5.ended (c5.clauses 𝓤 H A mem run) tt (r3 .answer, tt) tt r6)))) (id⊢ 𝓤 _) $ await ! tt $ pick ! (λ r6. split ! $ move ! (1 ∷ []) $
+        use1 W (some (λ (z6 : Lasts c5.ended tt (r3 .answer, tt)). ‵ (lasts c5.ended tt (r3 .answer, tt) z6) ⊛ (raw (fact 𝓤 (r6 ≡ codeOf (paper (r3
+        .answer))))))) (id⊢ 𝓤 _) $ pick ! (λ z6. split ! $ move ! (1 ∷ []) $ heard ! (r6 ≡ codeOf (paper (r3 .answer))) (λ e6. fsplit ! $ drop ! $ drop ! $
+        split ! $ drop ! $ peeks ! u64 (Is u64) (shows 𝓤 H A u64) r6 (v6 ∷ []) (λ is6. drop ! $ land ! (from ! (stop !)) (puts ! 14 0 refl refl tt
+        (uint-lawful 𝓤 H A W w64 .typed r6 _ is6 .0)) $ respells ! 14 0 refl refl (ap only (is6 .0)) $ owned ! R-Head (Is R-Head) (LL.makes T-Head.the-type
+        L-Head.the-plain 𝓤 H A) (r3 .head) (L-Head.lowered (r3 .head) ∷ []) (parts-Stepped r3 _ (subst (Is R-Stepped r3) (L-Stepped.lowers .val-is r3 _ is3)
+        is3) .0) $ move ! (11 ∷ 0 ∷ 12 ∷ 13 ∷ 14 ∷ []) $ closes ! tt R-Head (r3 .head) (L-Head.lowered (r3 .head) ∷ []) b0 o0 $
         owned ! R-Told (Is R-Told) (LL.makes T-Told.the-type L-Told.the-plain 𝓤 H A) r5 (L-Told.lowered r5 ∷ []) (subst (Is R-Told r5) (L-Told.lowers
         .val-is r5 _ is5) is5) $ move ! (10 ∷ 0 ∷ 11 ∷ 12 ∷ 13 ∷ []) $ closes ! tt R-Told r5 (L-Told.lowered r5 ∷ []) b4 o4 $
         returns ! (look-in ! 12 (at-local ! 0 refl tt)) $ move ! (12 ∷ []) $ frees-all ! $ keep ! (5 ∷ 7 ∷ 9 ∷ 10 ∷ 2 ∷ 3 ∷ 4 ∷ 6 ∷ 8 ∷ 11 ∷ 0 ∷ 1 ∷ []) $
@@ -342,7 +347,7 @@ module _ {M : Type 1} (𝓤 : URA M) (H : Heap 𝓤) (A : Atoms 𝓤) (W : Given
         (MutSlice (named 2) κ2 u8 .own (ref b2 o2 γ2 (z3 .1 .1 .0)) (sliceVal (b2, o2) (length rows) ∷ [])) ∷ ‵ (ShrSlice (named 3) κ3 u16 .own (ref b3 o3
         γ3 holders) (sliceVal (b3, o3) (length holders) ∷ [])) ∷ ‵ (fobs γ4 (R-Told .coded .code r5)) ∷ ‵ (fbor κ4 (Body (memOf R-Told) b4 o4 γ4)) ∷ []) ∵
         suffices ! _ (ends-at 𝓤 H A f.ended stayed (f.clauses 𝓤 H A mem run) W bound (vint w64 r6) r6
-        ((r3 .head), ((z4 .0), ((z3 .1 .1 .0), (tt, (r5, tt))))) (tt, ((n4-seats), ((n3-rows), (tt, (tt, tt)))))) $
+        ((r3 .head), ((z4 .0), ((z3 .1 .1 .0), (tt, (r5, tt))))) (tt, (n4-seats, (n3-rows, (tt, (tt, tt)))))) $
         says ! (sit-is head seats rows holders told (z4 .0) (z3 .1 .1 .0) r1 r2 r3 r5 r6 e1 e2 e3 e4 e5 e6) $ move ! (5 ∷ 6 ∷ []) $
         feqI ! (List Val) (vptr b0 o0 ∷ []) (vptr b0 o0 ∷ []) refl $ fjoin3 ! $ move ! (9 ∷ 10 ∷ []) $ feqI ! (List Val) (vptr b4 o4 ∷ []) (vptr b4 o4 ∷ [])
         refl $ fjoin3 ! $ nothing ! $ move ! (7 ∷ 0 ∷ []) $ join ! $ move ! (6 ∷ 0 ∷ []) $ join ! $ move ! (5 ∷ 0 ∷ []) $ join ! $ move ! (4 ∷ 0 ∷ []) $
@@ -351,29 +356,29 @@ module _ {M : Type 1} (𝓤 : URA M) (H : Heap 𝓤) (A : Atoms 𝓤) (W : Given
         owned ! u64 (Is u64) (uint-makes 𝓤 H A W w64) r6 (vint w64 r6 ∷ []) ((refl, is6 .1)) $ done !))))))))))))))))))))))))))))))))))))))))))))))
 
 module _ {M : Type 1} (𝓤 : URA M) (H : Heap 𝓤) (A : Atoms 𝓤) (W : Given 𝓤 H A) (mem : Memory → SProp 𝓤) (run : Routine → Fun 𝓤) where
-  f-walks : (C : Calls 𝓤 H) (Λ : Loops 𝓤 H) → FmC 𝓤 H (W .laws) C → Triple 𝓤 (C #yard-scans·lowest-free) (K0 𝓤 H A mem run) → Triple 𝓤 (C #yard-scans·seat-get)
-      (K1 𝓤 H A mem run) → Triple 𝓤 (C #yard-seating·sit-step) (K2 𝓤 H A mem run) → Triple 𝓤 (C #yard-scans·seat-set) (K3 𝓤 H A mem run) → Triple 𝓤 (C
-      #yard-telling·tell) (K4 𝓤 H A mem run) → Triple 𝓤 (C #yard-telling·code) (K5 𝓤 H A mem run) → Walks 𝓤 H A f.ended stayed (WpFn 𝓤 H C Λ code.function)
-      (f.clauses 𝓤 H A mem run)
-  f-walks C Λ fm k0 k1 k2 k3 k4 k5 = walked 𝓤 H A f.ended stayed (f.clauses 𝓤 H A mem run) (WpFn 𝓤 H C Λ code.function) (λ κs.
-      (ptr-vals, (slice-vals, (slice-vals, (slice-vals, (ptr-vals, tt)))))) (λ κs.
+  f-walks : (𝓣 : Tables 𝓤 H) → Triple 𝓤 (𝓣 .C #yard-scans·lowest-free) (K0 𝓤 H A mem run) → Triple 𝓤 (𝓣 .C #yard-scans·seat-get) (K1 𝓤 H A mem run) → Triple 𝓤
+      (𝓣 .C #yard-seating·sit-step) (K2 𝓤 H A mem run) → Triple 𝓤 (𝓣 .C #yard-scans·seat-set) (K3 𝓤 H A mem run) → Triple 𝓤 (𝓣 .C #yard-telling·tell) (K4 𝓤 H A
+      mem run) → Triple 𝓤 (𝓣 .C #yard-telling·code) (K5 𝓤 H A mem run) → Walks 𝓤 H A f.ended stayed (WpFn 𝓤 H (𝓣 .C) (𝓣 .Λ) code.function) (f.clauses 𝓤 H A mem
+      run)
+  f-walks 𝓣 known-c0 known-c1 known-c2 known-c3 known-c4 known-c5 = walked 𝓤 H A f.ended stayed (f.clauses 𝓤 H A mem run) (WpFn 𝓤 H (𝓣 .C) (𝓣 .Λ) code.function)
+      (λ κs. (ptr-vals, (slice-vals, (slice-vals, (slice-vals, (ptr-vals, tt)))))) (λ κs.
       (mut-tells (named 0) (κs .0) R-Head, (mut-slice-tells (named 1) (κs .1 .0) R-Seat, (mut-slice-tells (named 2) (κs .1 .1 .0) u8, (shr-slice-tells (named 3) (κs .1 .1 .1 .0) u16, (mut-tells (named 4) (κs .1 .1 .1 .1 .0) R-Told, tt))))))
       (λ κs qs bounds a _ are. via 𝓤 _ (fst∗ 𝓤 _ (emp 𝓤)) (walk 𝓤 H A W mem run (κs .0) (κs .1 .0) (κs .1 .1 .0) (κs .1 .1 .1 .0) (κs .1 .1 .1 .1 .0) (qs .0)
       (qs .1 .0) (qs .1 .1 .0) (qs .1 .1 .1 .0) (qs .1 .1 .1 .1 .0) (a .0 .ptr .0) (a .0 .ptr .1) (a .0 .name) (a .0 .now) (a .1 .0 .ptr .0) (a .1 .0 .ptr
       .1) (a .1 .0 .name) (a .1 .0 .now) (a .1 .1 .0 .ptr .0) (a .1 .1 .0 .ptr .1) (a .1 .1 .0 .name) (a .1 .1 .0 .now) (a .1 .1 .1 .0 .ptr .0) (a .1 .1 .1
       .0 .ptr .1) (a .1 .1 .1 .0 .name) (a .1 .1 .1 .0 .now) (a .1 .1 .1 .1 .0 .ptr .0) (a .1 .1 .1 .1 .0 .ptr .1) (a .1 .1 .1 .1 .0 .name) (a .1 .1 .1 .1
-      .0 .now) (are .1 .0 .0 .1) (are .1 .1 .0 .0 .1) (are .1 .1 .1 .0 .0 .1) C Λ fm k0 k1 k2 k3 k4 k5))
+      .0 .now) 𝓣 known-c0 known-c1 known-c2 known-c3 known-c4 known-c5 (are .1 .0 .0 .1) (are .1 .1 .0 .0 .1) (are .1 .1 .1 .0 .0 .1)))
 
 f-meets : {M : Type 1} (𝓤 : URA M) (H : Heap 𝓤) (A : Atoms 𝓤) → Given 𝓤 H A → (mem : Memory → SProp 𝓤) (run : Routine → Fun 𝓤) (𝓣 : Tables 𝓤 H) → Triple 𝓤 (𝓣 .C
     #yard-scans·lowest-free) (K0 𝓤 H A mem run) → Triple 𝓤 (𝓣 .C #yard-scans·seat-get) (K1 𝓤 H A mem run) → Triple 𝓤 (𝓣 .C #yard-seating·sit-step) (K2 𝓤 H A mem
     run) → Triple 𝓤 (𝓣 .C #yard-scans·seat-set) (K3 𝓤 H A mem run) → Triple 𝓤 (𝓣 .C #yard-telling·tell) (K4 𝓤 H A mem run) → Triple 𝓤 (𝓣 .C #yard-telling·code)
     (K5 𝓤 H A mem run)
     → Meets 𝓤 H A f.signature (WpFn 𝓤 H (𝓣 .C) (𝓣 .Λ) code.function) (f.spec 𝓤 H A mem run)
-f-meets 𝓤 H A W mem run 𝓣 k0 k1 k2 k3 k4 k5 = walk-meets 𝓤 H A f.ended stayed W
+f-meets 𝓤 H A W mem run 𝓣 known-c0 known-c1 known-c2 known-c3 known-c4 known-c5 = walk-meets 𝓤 H A f.ended stayed W
     (goes-ref 𝓤 H A W 5 0 tt (plain (λ _. R-Head)), (goes-slice 𝓤 H A W 5 1 tt (plain (λ _. R-Seat)), (goes-slice 𝓤 H A W 5 2 tt (plain (λ _. u8)), (goes-none-slice 𝓤 H A W 5 (3 ∷ []) tt (plain (λ _. u16)) yes, (goes-ref 𝓤 H A W 5 4 tt (plain (λ _. R-Told)), tt)))))
     (f.clauses 𝓤 H A mem run)
-    (WpFn 𝓤 H (𝓣 .C) (𝓣 .Λ) code.function) (WpFn-mono 𝓤 H (W .laws) 𝓣 code.function) (f-walks 𝓤 H A W mem run (𝓣 .C) (𝓣 .Λ) (fmOf 𝓤 H (W .laws) 𝓣) k0 k1 k2 k3
-    k4 k5)
+    (WpFn 𝓤 H (𝓣 .C) (𝓣 .Λ) code.function) (WpFn-mono 𝓤 H (W .laws) 𝓣 code.function) (f-walks 𝓤 H A W mem run 𝓣 known-c0 known-c1 known-c2 known-c3 known-c4
+    known-c5)
 
 pub wardrail-yard-sit-spec : {M : Type 1} → stated.statement M
 unfolding code.routine tablesOf
