@@ -3,8 +3,8 @@
 Of the step a walk knows the contract alone, and no field of a seat is named. A pass reads the seats or writes them, may carry a value
 along, and may lend a slice of numbers to each step.
 """
-from walkgen import Walk, module_text
-from walker import Thin, tup, par, dash, W_
+from walkgen import Walk
+from walker import Author, GIVEN, RUNS, TABLES, W_, X, key, par, tup
 
 CRATE = 'yard_scans'
 LOOP_USES = '''use mathlib.Core.WellFounded.{WellFounded, InvImage·wf}
@@ -41,46 +41,38 @@ le-fits : (i n : ℕ) → i ≤ n → n < 2 ^ 64 → i < 2 ^ 64
 le-fits i n l m = omega (arith, l, m)
 '''
 
-class Pass(Thin):
+class Pass(Author):
     """fn: the pass; step: its covered step; roles: what each parameter of the step is given; acc: the local that carries a value along,
     and its type. locals: MIR types as text. at: local numbers of i, len, test, place and seat, and of lent, sent, new, len2 and place2
     where there are such. tails: the names of the loop and of what follows it. turn: fields of a turn beside i and le; start, next: their
     values; end: that the contract holds at exit; before: what the walk does before the loop; laws: what these cite."""
-    def __init__(s, P): super().__init__(f"{CRATE}::{P['fn']}", CRATE); s.P_ = P
+    def __init__(s, table): super().__init__(f"{CRATE}::{table['fn']}", CRATE); s.table = table
     def gen(s):
-        P = s.P_; fn, step = P['fn'], P['step']; F, G = s.fn(s.path), s.fn(f'{CRATE}::{step}')
-        ps, res, sp = F.params, F.result, G.params
-        page = next((p for p in ps if p[1] == 'mslice' and p is not ps[0]), None); P['page'] = page
-        writes = ps[0][1] == 'mslice'; acc = P.get('acc'); L = P['at']; N = len(P['locals'])
-        refs = [p for p in ps if p[1] != 'val']; n = len(refs); J = {p[0]: j for j, p in enumerate(refs)}
-        ks, qs = tup([f'κ{j}' for j in range(n)]), tup([f'q{j}' for j in range(n)])
-        X = '𝓤 H A mem run'; K = f'Stp {X}'
-        calls = [step] + ([P['first']] if 'first' in P else [])
-        used = sorted({t for f in (s.fn(f'{CRATE}::{c}') for c in [fn] + calls) for t in [p[2] for p in f.params] + [f.result] if s.data(t)})
+        P = s.table; G = s.fn(f"{CRATE}::{P['step']}"); ps, res, sp = s.ps, s.fn(s.path).result, G.params
+        page = next((p for p in ps if p[1] == 'mslice' and p is not ps[0]), None)
+        writes = ps[0][1] == 'mslice'; acc = P.get('acc'); L = P['at']; N = len(P['locals']); K = f'Stp {X}'
+        callees = {'g': G.path} | ({'k': f"{CRATE}::{P['first']}"} if 'first' in P else {}); contract = {'g': 'Stp', 'k': 'Fst'}
+        used = s.used([s.path, *callees.values()])
         vals = [p for p in ps if p[1] == 'val']; tel = ' '.join(f'({p[0]} : {s.den(p[2])})' for p in vals)
         TURN = f"Turn {' '.join(['ys'] + (['cs'] if page else []) + [p[0] for p in vals])}".strip()
         zs = 'x .zs' if writes else 'ys'
         o = []; A = o.append
-        for t in used: A(f'abbrev R-{t} : RattleType\nR-{t} = T-{t}.the-row\n')
         A(f"abbrev SeatsTy : Ty\nSeatsTy = sliceTy (tyRef (named 0) {'mut' if writes else 'imm'} (pointee (R-Seat .written)))\n")
         if page: A(f"abbrev PageTy : Ty\nPageTy = sliceTy (tyRef (named 1) mut (tyInt {W_[page[2]]}))\n\nabbrev LentTy : Ty\nLentTy = tyRef erased mut (tyInt {W_[page[2]]})\n")
-        A('abbrev stayed : Stays (f.ended .signature .params) (f.ended .kept)\nstayed = ' + tup([s.stay(p, J) for p in ps]) + '\n')
         A(ARITH)
         A(f"-- where a turn begins\nrecord Turn (ys : List Seat){' (cs : List ℕ)' if page else ''} {tel} : Type 0 where\n  i : ℕ\n  le : i ≤ length ys\n" + ''.join(f'  {x}\n' for x in P['turn']))
-        A(f"module _ {{M : Type 1}} (𝓤 : URA M) (H : Heap 𝓤) (A : Atoms 𝓤) (mem : Memory → SProp 𝓤) (run : Routine → Fun 𝓤) where\n  -- the contracts that the proof cites\n  abbrev Stp : Contract 𝓤\n  Stp = tripleOf 𝓤 H A g.signature (g.spec {X})\n")
+        A(f"module _ {GIVEN} {RUNS} where\n  -- the contracts that the proof cites\n  abbrev Stp : Contract 𝓤\n  Stp = tripleOf 𝓤 H A g.signature (g.spec {X})\n")
         if 'first' in P: A(f"  abbrev Fst : Contract 𝓤\n  Fst = tripleOf 𝓤 H A k.signature (k.spec {X})\n")
-        A(f"module _ {{M : Type 1}} (𝓤 : URA M) (H : Heap 𝓤) (A : Atoms 𝓤) (W : Given 𝓤 H A) (mem : Memory → SProp 𝓤) (run : Routine → Fun 𝓤) ({' '.join(f'κ{j}' for j in range(n))} : Lft) ({' '.join(f'q{j}' for j in range(n))} : Share)\n    (b o : ℕ) (γ : GName) (ys : List Seat){' (b₁ o₁ : ℕ) (γ₁ : GName) (cs : List ℕ)' if page else ''} {tel} where")
+        A(f"module _ {GIVEN} (W : Given 𝓤 H A) {RUNS} ({' '.join(f'κ{j}' for j in range(s.n))} : Lft) ({' '.join(f'q{j}' for j in range(s.n))} : Share)\n    (b o : ℕ) (γ : GName) (ys : List Seat){' (b₁ o₁ : ℕ) (γ₁ : GName) (cs : List ℕ)' if page else ''} {tel} where")
         A("  abbrev at-seats : List Seat → RefT (List Seat)\n  at-seats l = record { ptr = (b, o); name = γ; now = l }\n\n  abbrev sv : Val\n  sv = sliceVal (b, o) (length ys)\n")
         if page: A("  abbrev at-page : GName → List ℕ → RefT (List ℕ)\n  at-page δ l = record { ptr = (b₁, o₁); name = δ; now = l }\n\n  abbrev pv : ℕ → Val\n  pv m = sliceVal (b₁, o₁) m\n")
         mach = lambda p: 'sv' if p is ps[0] else 'pv (length cs)' if p is page else s.low(p[2], p[0])
-        A(f"  abbrev xs : Args f.signature {ks}\n  xs = {tup(['at-seats ys' if p is ps[0] else 'at-page γ₁ cs' if p is page else p[0] for p in ps])}\n")
-        A(f"  abbrev at : Vals f.signature {ks}\n  at = {tup([mach(p) + ' ∷ []' for p in ps])}\n")
-        A(f"  abbrev bound : walkOf 𝓤 H A f.ended stayed (f.clauses {X}) .Ghost\n  bound = (({ks}, {qs}, tt, xs, at), tt)\n\n  abbrev Post : Val → SProp 𝓤\n  Post = walkOf 𝓤 H A f.ended stayed (f.clauses {X}) .post bound\n")
+        A(s.bound(['at-seats ys' if p is ps[0] else 'at-page γ₁ cs' if p is page else p[0] for p in ps], map(mach, ps)))
         # ---- what is had of the tables
         MS = f"MutSlice (named 1) κ1 {page[2]}" if page else ''
         TAB = ['tok0'] + (['tok1'] if page else []) + (['obs', 'bor'] if writes else ['fact', 'res', 'frac']) + (['page'] if page else [])
         seats = '‵ (fobs γ (codedHoleys R-Seat .code (heres R-Seat zs))) ∷ ‵ (fbor κ0 (Held R-Seat (length zs) b o γ))' if writes else '‵ (at-slice R-Seat (at-seats zs) (sv ∷ [])) ∷ ‵ (fres γ (codedHoleys R-Seat .code (heres R-Seat zs))) ∷ ‵ (fshr-bor κ0 (λ s. arr-parts (shares R-Seat) (length zs) .part s zs b o))'
-        A("  -- what is had of the tables at a turn, and at exit\n  abbrev Had : List Seat → List ℕ → List (Item 𝓤)\n  Had zs ci = " + ' ∷ '.join([f'‵ (flft κ{j} q{j})' for j in range(n)] + [seats] + ([f'‵ ({MS} .own (at-page γ₁ ci) (pv (length cs) ∷ []))'] if page else [])) + ' ∷ []\n')
+        A("  -- what is had of the tables at a turn, and at exit\n  abbrev Had : List Seat → List ℕ → List (Item 𝓤)\n  Had zs ci = " + ' ∷ '.join([f'‵ (flft κ{j} q{j})' for j in range(s.n)] + [seats] + ([f'‵ ({MS} .own (at-page γ₁ ci) (pv (length cs) ∷ []))'] if page else [])) + ' ∷ []\n')
         facts = [(f'g-{p[0]}', f'Is {s.row(p[2])} {p[0]} ({mach(p)} ∷ [])') for p in vals]; FT = ' '.join(f'({a} : {t})' for a, t in facts); FV = ' '.join(a for a, _ in facts)
         had = f"Had ({zs}) ({'x .pg' if page else '[]'})"
         r0 = (f"{s.low(acc[1], 'x .acc')}", 'x .acc') if acc else ('vunit', 'tt')
@@ -91,7 +83,7 @@ class Pass(Thin):
         if writes: e.fjoin('obs', 'bor', 'ob'); e.line("pureI ! (at-slice R-Seat (at-seats (x .zs)) (sv ∷ [])) (tt, (tt, tt)) (ap (λ (m : ℕ). sliceVal (b, o) m ∷ []) (sym (x .ns)), subst (Room R-Seat) (sym (x .ns)) gs) $"); e.c = ['fact'] + e.c; e.fjoin('fact', 'ob', 'seats')
         else: e.fjoin('res', 'frac', 'rf'); e.fjoin('fact', 'rf', 'seats')
         e.line("nothing ! $"); e.c = ['t'] + e.c
-        for j in reversed(range(n)): e.join(f'tok{j}', 't', 't')
+        for j in reversed(range(s.n)): e.join(f'tok{j}', 't', 't')
         e.line("nothing ! $"); e.c = ['o'] + e.c
         for p in reversed(ps):
             if p is ps[0]: e.fjoin('seats', 'o', 'o')
@@ -126,8 +118,8 @@ class Pass(Thin):
         A(f"    goes-stp : {''.join(t + ' → ' for _, t in facts)}{isc}Is R-Seat s (L-Seat.lowered s ∷ []) → i < 2 ^ 64 → {req + ' → ' if req else ''}ent 𝓤 (⋆ 𝓤 H A ({items})) ({K} .pre to-stp)\n    goes-stp {FV} {'isc ' if acc else ''}iss gi{' ok' if req else ''} =\n        qed W ({items}) ∵ {'says ! ok $' if req else ''}\n" + e.text(('frame ! $ ' if True else '') + 'done !', '        ') + '\n')
         # ---- the loop
         A(f"  -- ---- the loop\n  abbrev Nearer : {TURN} → {TURN} → Type 0\n  Nearer y x = length ys - y .i < length ys - x .i\n\n  Nearer-wf : WellFounded Nearer\n  Nearer-wf = InvImage·wf (λ (x : {TURN}). length ys - x .i) (Nat·lt-wfRel .wf)\n")
-        kn = f"(known : Triple 𝓤 (𝓣 .C #{dash(CRATE)}·{dash(step)}) ({K}))" + (f" (known₁ : Triple 𝓤 (𝓣 .C #{dash(CRATE)}·{dash(P['first'])}) (Fst {X}))" if 'first' in P else '')
-        A(f"  module _ (𝓣 : Tables 𝓤 H) {kn} (gs : Room R-Seat (length ys)){f' (gp : Room {page[2]} (length cs))' if page else ''} {FT} where\n    abbrev C : Calls 𝓤 H\n    C = 𝓣 .C\n\n    abbrev Λ : Loops 𝓤 H\n    Λ = 𝓣 .Λ\n")
+        kn = ' '.join(f'(known-{g} : Triple 𝓤 (𝓣 .C #{key(c)}) ({contract[g]} {X}))' for g, c in callees.items())
+        A(f"  module _ (𝓣 : Tables 𝓤 H) {kn} (gs : Room R-Seat (length ys)){f' (gp : Room {page[2]} (length cs))' if page else ''} {FT} where"); A(TABLES)
         TY = P['locals']; ls = ' '.join(f'l{k}' for k in range(N))
         hold = {L['i']: 'vint w64 (x .i)', **{k + 1: mach(p) for k, p in enumerate(ps)}}
         if acc: hold[acc[0]] = s.low(acc[1], 'x .acc')
@@ -175,7 +167,7 @@ class Pass(Thin):
             w.line(f"use0 W (raw ({K} .pre (to-stp {ARGS}))) (goes-stp {ARGS} {FV} {'(x .is) ' if acc else ''}iss gi{' ok' if req else ''}) $"); w.c = ['pre'] + w.c
         opl = {'acc': f'_{acc[0]}' if acc else '', 'seat': _('seat'), 'i': _('i'), 'page': _('sent') if page else ''}
         byname = {p[0]: f'_{k + 1}' for k, p in enumerate(ps)}
-        w.bind(f"calls-at ! (fmOf 𝓤 H (W .laws) 𝓣) ({K}) known (to-stp {ARGS}) {w.opds(*[w.var(opl.get(role[p[0]]) or byname[role[p[0]]]) for p in sp])} (λ v."); w.head('post')
+        w.bind(f"calls-at ! (fmOf 𝓤 H (W .laws) 𝓣) ({K}) known-g (to-stp {ARGS}) {w.opds(*[w.var(opl.get(role[p[0]]) or byname[role[p[0]]]) for p in sp])} (λ v."); w.head('post')
         rt = G.result; AR = f'(stp-args {ARGS})'; tk = '‵ (flft (ν ∷ []) fullShare) ⊛ ‵ ftrue' if page else '‵ ftrue'
         w.use(f"later (some (λ (r : {s.den(rt)}). (({tk}) ⊛ ‵ ({s.row(rt)} .own r (v ∷ []))) ⊛ raw (ensured 𝓤 H A g.ended (g.clauses {X}) {cκ} {AR} tt r)))", "id⊢ 𝓤 _", ['post'], ['post'])
         w.bind("await ! tt $ pick ! (λ r."); w.split('post', 'back', 'ens')
@@ -226,7 +218,7 @@ class Pass(Thin):
         w.passes(*['(tt, (tt, (record { fits = gs .0 }, tt)))' if p is ps[0] else '(tt, (tt, (record { fits = gp .0 }, tt)))' if p is page else s.typed(p[2], p[0], 'g-' + p[0]) for p in ps])
         P['before'](s, w)
         w.assign("(of-opd ! (lit ! tt))", _('i'), "(tt, record { fits = lit< tt })")
-        for j in range(n): w.split('toks', f'tok{j}', 'toks')
+        for j in range(s.n): w.split('toks', f'tok{j}', 'toks')
         w.drop('toks'); w.fsplit('owns', 'seats', 'owns')
         if page: w.fsplit('owns', 'page', 'owns')
         w.drop('owns'); w.fsplit('seats', 'fact', 'ob')
@@ -235,36 +227,10 @@ class Pass(Thin):
         w.keep(*INV)
         WALK = w.text(f"loop-on {ls} (record {{ i = 0; le = zero-le; {P['start']} }})")
         mvs = ' ∷ '.join(mach(p) for p in ps) + ' ∷ []'
-        A(f"    walk : ent 𝓤 (onEntry 𝓤 H A f.signature {ks} {qs} xs at) (WpFn 𝓤 H C Λ code.function ({mvs}) Post)\n    walk =\n        qed W (({' ⊛ '.join([f'‵ (flft κ{j} q{j})' for j in range(n)] + ['‵ ftrue'])}) ∷ ‵ (owns ({' ∷ '.join(s.rowp(p[1], p[2], J.get(p[0]), 'κ%s' % J.get(p[0])) for p in ps)} ∷ []) xs at) ∷ []) ∵ enter ! C Λ code.function ({mvs}) _ $\n{WALK}\n")
-        # ---- the contract
-        hyps = [f'Triple 𝓤 (𝓣 .C #{dash(CRATE)}·{dash(c)}) ({"Stp" if k == 0 else "Fst"} {X})' for k, c in enumerate(calls)]; kv = ' '.join(['known', 'known₁'][:len(calls)])
-        a_ = lambda k: 'a' + ' .1' * k + ' .0'; kk = lambda v, k: f"({v}{' .1' * k} .0)"
-        av = sum([[f'({a_(k)})'] if p[1] == 'val' else [f'({a_(k)} .ptr .0)', f'({a_(k)} .ptr .1)', f'({a_(k)} .name)', f'({a_(k)} .now)'] for k, p in enumerate(ps)], [])
-        ar = [f"(are{' .1' * k} .0)" if p[1] == 'val' else f"(are{' .1' * k} .0 .0 .1)" for k, p in enumerate(ps)]
-        spl = tup([s.spell(p[2]) if p[1] == 'val' else 'slice-vals' for p in ps])
-        tls = tup([s.tells(p[2]) if p[1] == 'val' else {'mslice': 'mut-slice-tells', 'slice': 'shr-slice-tells'}[p[1]] + f' (named {J[p[0]]}) {kk("κs", J[p[0]])} {s.row(p[2])}' for p in ps])
-        A(f'''module _ {{M : Type 1}} (𝓤 : URA M) (H : Heap 𝓤) (A : Atoms 𝓤) (W : Given 𝓤 H A) (mem : Memory → SProp 𝓤) (run : Routine → Fun 𝓤) where
-  f-walks : (𝓣 : Tables 𝓤 H) → {' → '.join(hyps)} → Walks 𝓤 H A f.ended stayed (WpFn 𝓤 H (𝓣 .C) (𝓣 .Λ) code.function) (f.clauses {X})
-  f-walks 𝓣 {kv} = walked 𝓤 H A f.ended stayed (f.clauses {X}) (WpFn 𝓤 H (𝓣 .C) (𝓣 .Λ) code.function) (λ κs. {spl}) (λ κs. {tls})
-      (λ κs qs bounds a _ are. via 𝓤 _ (fst∗ 𝓤 _ (emp 𝓤)) (walk 𝓤 H A W mem run {' '.join(kk('κs', j) for j in range(n))} {' '.join(kk('qs', j) for j in range(n))} {' '.join(av)} 𝓣 {kv} {' '.join(ar)}))
+        A(f"    walk : ent 𝓤 (onEntry 𝓤 H A f.signature {s.ks} {s.qs} xs at) (WpFn 𝓤 H C Λ code.function ({mvs}) Post)\n    walk =\n        {s.entry(mvs)}\n{WALK}\n")
+        A(s.closing(callees, contract, ps))
+        return s.file(f"with a loop, written by tools/walks.py. Of `{P['step']}` it knows the\n-- contract alone, and no field of a seat is named.", [LOOP_USES, P['laws']], used, callees, o)
 
-f-meets : {{M : Type 1}} (𝓤 : URA M) (H : Heap 𝓤) (A : Atoms 𝓤) → Given 𝓤 H A → (mem : Memory → SProp 𝓤) (run : Routine → Fun 𝓤) (𝓣 : Tables 𝓤 H) → {' → '.join(hyps)}
-    → Meets 𝓤 H A f.signature (WpFn 𝓤 H (𝓣 .C) (𝓣 .Λ) code.function) (f.spec {X})
-f-meets 𝓤 H A W mem run 𝓣 {kv} = walk-meets 𝓤 H A f.ended stayed W {tup([s.goes(p, J, n) for p in ps])} (f.clauses {X})
-    (WpFn 𝓤 H (𝓣 .C) (𝓣 .Λ) code.function) (WpFn-mono 𝓤 H (W .laws) 𝓣 code.function) (f-walks 𝓤 H A W mem run 𝓣 {kv})
-
-pub {dash(fn)}-spec : {{M : Type 1}} → stated.statement M
-unfolding code.routine tablesOf
-{dash(fn)}-spec 𝓤 H 𝓜 𝓖 𝓡 =
-    entered 𝓤 H (tripleOf 𝓤 H (𝓖 .A) f.signature (f.spec 𝓤 H (𝓖 .A) (𝓜 .mem) (𝓡 .run)))
-    (tables 𝓤 H 𝓜 𝓡 code.env .C) (tables 𝓤 H 𝓜 𝓡 code.env .Λ) #{dash(CRATE)}·{dash(fn)} code.function (code.unfolded 𝓤 H 𝓜 𝓡)
-    (f-meets 𝓤 H (𝓖 .A) (givenOf 𝓤 H 𝓜 𝓖) (𝓜 .mem) (𝓡 .run) (tablesOf 𝓤 H 𝓜 (tables 𝓤 H 𝓜 𝓡 code.env))''')
-        for k, c in enumerate(calls): g = 'gk'[k]; A(f"    (cited 𝓤 H ({'Stp' if k == 0 else 'Fst'} 𝓤 H (𝓖 .A) (𝓜 .mem) (𝓡 .run)) 𝓜 𝓡 code.env #{dash(CRATE)}·{dash(c)} {g}-def.routine code.calls-{dash(CRATE)}·{dash(c)} ({g}-thm.met 𝓤 H 𝓜 𝓖 𝓡))" + (')' if k == len(calls) - 1 else ''))
-        uses = [s.header(), LOOP_USES, *dict.fromkeys(s.imports), P['laws'], *map(s.type_uses, used)]
-        for k, c in enumerate(calls): g = 'gk'[k]; uses.append(f"use {s.P(CRATE, c)} as {g}\nuse {s.P(CRATE, c)}.Symbol as {g}-def\nuse {s.P(CRATE, c)}.Symbol.{{name as #{dash(CRATE)}·{dash(c)}}}\nuse {s.P(CRATE, c)}.Met as {g}-thm")
-        uses.append(f'use {s.P(CRATE, fn)}.Key.{{name as #{dash(CRATE)}·{dash(fn)}}}\nuse {s.P(CRATE, fn)} as f\nuse {s.P(CRATE, fn)}.Statement as stated\nuse {s.P(CRATE, fn)}.Code as code\nuse {s.P(CRATE, fn)}.Code.Mir as Mir\n')
-        head = f"-- `{CRATE}::{fn}` meets its contract: a walk of its MIR, by hand, with a loop, written by tools/walks.py. Of `{step}` it knows the contract alone, and no\n-- field of a seat is named. Assumes nothing."
-        return module_text(head, '\n'.join(uses), '\n'.join(o) + '\n')
 
 PROOFS = 'use Rattle.yard_scans.proofs.'
 LOWEST_FREE = dict(
@@ -288,12 +254,12 @@ CLEAR_SEATS = dict(
 def from_empty(s, w):
     """The length, and `empty_page` of it."""
     w.assign(f"(of-opd ! {w.fld('_1', 1)})", '_6', '(tt, record { fits = gs .0 })')
-    X, n = '𝓤 H A mem run', '(length ys)'
+    n = '(length ys)'
     to = f'((tt, tt, tt, ({n}, tt), (vint w64 {n} ∷ [], tt)), tt)'
     e = Walk([]); e.line("nothing ! $"); e.c = ['t']; e.line("nothing ! $"); e.c = ['o'] + e.c
     e.line(f"owned ! {s.owned('usize', n, '(refl, gs .0)')} $"); e.c = ['new'] + e.c; e.fjoin('new', 'o', 'o'); e.join('t', 'o', 'z')
     w.line(f"use0 W (raw (Fst {X} .pre {to})) (qed W [] ∵ {e.inline('frame ! $ done !')}) $"); w.c = ['pre'] + w.c
-    w.bind(f"calls-at ! (fmOf 𝓤 H (W .laws) 𝓣) (Fst {X}) known₁ {to} {w.opds(w.var('_6'))} (λ v₀."); w.head('post')
+    w.bind(f"calls-at ! (fmOf 𝓤 H (W .laws) 𝓣) (Fst {X}) known-k {to} {w.opds(w.var('_6'))} (λ v₀."); w.head('post')
     w.use(f"later (some (λ (r₀ : Page). (‵ ftrue ⊛ ‵ (R-Page .own r₀ (v₀ ∷ []))) ⊛ raw (ensured 𝓤 H A k.ended (k.clauses {X}) tt ({n}, tt) tt r₀)))", "id⊢ 𝓤 _", ['post'], ['post'])
     w.bind("await ! tt $ pick ! (λ r₀."); w.split('post', 'back', 'ens')
     F = f"({s.facts(f'{CRATE}::empty_page', 'r₀', {'n': n}, {})[0]})"

@@ -1,5 +1,5 @@
--- `yard_scans::clear_seats` meets its contract: a walk of its MIR, by hand, with a loop, written by tools/walks.py. Of `clear_step` it knows the contract alone, and no
--- field of a seat is named. Assumes nothing.
+-- `yard_scans::clear_seats` meets its contract: a walk of its MIR, by hand, with a loop, written by tools/walks.py. Of `clear_step` it knows the
+-- contract alone, and no field of a seat is named. Assumes nothing.
 use mathlib.Core.Path.{_≡_, refl, sym, ap, subst, _∙_}
 use mathlib.Core.Bool.{Bool, cond}
 use Prim.Native.Nat.{ℕ, _+_, _<_, _^_, zero-le, _≤_, _-_}
@@ -69,11 +69,11 @@ use Rattle.yard_scans.proofs.clear_seats.Code.Mir as Mir
 abbrev R-Seat : RattleType
 R-Seat = T-Seat.the-row
 
-abbrev SeatsTy : Ty
-SeatsTy = sliceTy (tyRef (named 0) mut (pointee (R-Seat .written)))
-
 abbrev stayed : Stays (f.ended .signature .params) (f.ended .kept)
 stayed = (stay-slice (0 ∷ []) tt (plain (λ _. R-Seat)), (stay-none (λ _. Boolean) yes, tt))
+
+abbrev SeatsTy : Ty
+SeatsTy = sliceTy (tyRef (named 0) mut (pointee (R-Seat .written)))
 
 nearer-less : (i n : ℕ) → i < n → n - (i + 1) < n - i
 nearer-less i n l = omega (arith, l)
@@ -152,8 +152,8 @@ module _ {M : Type 1} (𝓤 : URA M) (H : Heap 𝓤) (A : Atoms 𝓤) (W : Given
   Nearer-wf : WellFounded Nearer
   Nearer-wf = InvImage·wf (λ (x : Turn ys on). length ys - x .i) (Nat·lt-wfRel .wf)
 
-  module _ (𝓣 : Tables 𝓤 H) (known : Triple 𝓤 (𝓣 .C #yard-scans·clear-step) (Stp 𝓤 H A mem run)) (gs : Room R-Seat (length ys)) (g-on : Is Boolean on (vbool on
-      ∷ [])) where
+  module _ (𝓣 : Tables 𝓤 H) (known-g : Triple 𝓤 (𝓣 .C #yard-scans·clear-step) (Stp 𝓤 H A mem run)) (gs : Room R-Seat (length ys)) (g-on : Is Boolean on (vbool
+      on ∷ [])) where
     abbrev C : Calls 𝓤 H
     C = 𝓣 .C
 
@@ -194,9 +194,9 @@ module _ {M : Type 1} (𝓤 : URA M) (H : Heap 𝓤) (A : Atoms 𝓤) (W : Given
           (L-Seat.lowers .val-is) fullShare (x .zs) (x .i) cleared b o lz (λ iss. assigns ! (of-opd ! (load ! (from ! (hop ! (look ! 12 refl) (stop !)))
           (look-raw ! 0 refl))) (from ! (stop !)) (init ! 10 refl (LL.lawful T-Seat.the-type L-Seat.the-laws 𝓤 H A W .typed elem _ iss .0)) $
           move ! (1 ∷ []) $ drop ! $ use0 W (raw (Stp 𝓤 H A mem run .pre (to-stp elem (x .i)))) (goes-stp elem (x .i) g-on iss gi) $
-          calls-at ! (fmOf 𝓤 H (W .laws) 𝓣) (Stp 𝓤 H A mem run) known (to-stp elem (x .i)) (and-then ! (load ! (from ! (stop !)) (look ! 22 refl)) (and-then
-          ! (load ! (from ! (stop !)) (look ! 10 refl)) (no-more !))) (λ v. use1 W (later (some (λ (r : Seat). ((‵ ftrue) ⊛ ‵ (R-Seat .own r (v ∷ []))) ⊛
-          raw (ensured 𝓤 H A g.ended (g.clauses 𝓤 H A mem run) tt (stp-args elem (x .i)) tt r)))) (id⊢ 𝓤 _) $ await ! tt $ pick ! (λ r. split ! $
+          calls-at ! (fmOf 𝓤 H (W .laws) 𝓣) (Stp 𝓤 H A mem run) known-g (to-stp elem (x .i)) (and-then ! (load ! (from ! (stop !)) (look ! 22 refl))
+          (and-then ! (load ! (from ! (stop !)) (look ! 10 refl)) (no-more !))) (λ v. use1 W (later (some (λ (r : Seat). ((‵ ftrue) ⊛ ‵ (R-Seat .own r (v ∷
+          []))) ⊛ raw (ensured 𝓤 H A g.ended (g.clauses 𝓤 H A mem run) tt (stp-args elem (x .i)) tt r)))) (id⊢ 𝓤 _) $ await ! tt $ pick ! (λ r. split ! $
           move ! (1 ∷ []) $ use1 W (some (λ (ws : Lasts g.ended tt (stp-args elem (x .i))). ‵ (lasts g.ended tt (stp-args elem (x .i)) ws) ⊛ raw (fact 𝓤 (r
           ≡ cond on cleared elem)))) (id⊢ 𝓤 _) $ pick ! (λ ws. split ! $ move ! (1 ∷ []) $ heard ! (r ≡ cond on cleared elem) (λ e. fsplit ! $ drop ! $
           fsplit ! $ drop ! $ drop ! $ split ! $ drop ! $ peeks ! R-Seat (Is R-Seat) (shows 𝓤 H A R-Seat) r (v ∷ []) (λ isr. drop ! $
@@ -263,17 +263,17 @@ module _ {M : Type 1} (𝓤 : URA M) (H : Heap 𝓤) (A : Atoms 𝓤) (W : Given
 module _ {M : Type 1} (𝓤 : URA M) (H : Heap 𝓤) (A : Atoms 𝓤) (W : Given 𝓤 H A) (mem : Memory → SProp 𝓤) (run : Routine → Fun 𝓤) where
   f-walks : (𝓣 : Tables 𝓤 H) → Triple 𝓤 (𝓣 .C #yard-scans·clear-step) (Stp 𝓤 H A mem run) → Walks 𝓤 H A f.ended stayed (WpFn 𝓤 H (𝓣 .C) (𝓣 .Λ) code.function)
       (f.clauses 𝓤 H A mem run)
-  f-walks 𝓣 known = walked 𝓤 H A f.ended stayed (f.clauses 𝓤 H A mem run) (WpFn 𝓤 H (𝓣 .C) (𝓣 .Λ) code.function) (λ κs. (slice-vals, (bool-vals, tt))) (λ κs.
+  f-walks 𝓣 known-g = walked 𝓤 H A f.ended stayed (f.clauses 𝓤 H A mem run) (WpFn 𝓤 H (𝓣 .C) (𝓣 .Λ) code.function) (λ κs. (slice-vals, (bool-vals, tt))) (λ κs.
       (mut-slice-tells (named 0) (κs .0) R-Seat, (bool-tells, tt)))
       (λ κs qs bounds a _ are. via 𝓤 _ (fst∗ 𝓤 _ (emp 𝓤)) (walk 𝓤 H A W mem run (κs .0) (qs .0) (a .0 .ptr .0) (a .0 .ptr .1) (a .0 .name) (a .0 .now) (a .1 .0)
-      𝓣 known (are .0 .0 .1) (are .1 .0)))
+      𝓣 known-g (are .0 .0 .1) (are .1 .0)))
 
 f-meets : {M : Type 1} (𝓤 : URA M) (H : Heap 𝓤) (A : Atoms 𝓤) → Given 𝓤 H A → (mem : Memory → SProp 𝓤) (run : Routine → Fun 𝓤) (𝓣 : Tables 𝓤 H) → Triple 𝓤 (𝓣 .C
     #yard-scans·clear-step) (Stp 𝓤 H A mem run)
     → Meets 𝓤 H A f.signature (WpFn 𝓤 H (𝓣 .C) (𝓣 .Λ) code.function) (f.spec 𝓤 H A mem run)
-f-meets 𝓤 H A W mem run 𝓣 known = walk-meets 𝓤 H A f.ended stayed W
+f-meets 𝓤 H A W mem run 𝓣 known-g = walk-meets 𝓤 H A f.ended stayed W
     (goes-slice 𝓤 H A W 1 0 tt (plain (λ _. R-Seat)), (goes-none 𝓤 H A W 1 (λ _. Boolean) yes (λ κs x f. refl), tt)) (f.clauses 𝓤 H A mem run)
-    (WpFn 𝓤 H (𝓣 .C) (𝓣 .Λ) code.function) (WpFn-mono 𝓤 H (W .laws) 𝓣 code.function) (f-walks 𝓤 H A W mem run 𝓣 known)
+    (WpFn 𝓤 H (𝓣 .C) (𝓣 .Λ) code.function) (WpFn-mono 𝓤 H (W .laws) 𝓣 code.function) (f-walks 𝓤 H A W mem run 𝓣 known-g)
 
 pub clear-seats-spec : {M : Type 1} → stated.statement M
 unfolding code.routine tablesOf

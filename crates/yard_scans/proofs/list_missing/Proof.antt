@@ -1,5 +1,5 @@
--- `yard_scans::list_missing` meets its contract: a walk of its MIR, by hand, with a loop, written by tools/walks.py. Of `list_step` it knows the contract alone, and no
--- field of a seat is named. Assumes nothing.
+-- `yard_scans::list_missing` meets its contract: a walk of its MIR, by hand, with a loop, written by tools/walks.py. Of `list_step` it knows the
+-- contract alone, and no field of a seat is named. Assumes nothing.
 use mathlib.Core.Path.{_≡_, refl, sym, ap, subst, _∙_}
 use mathlib.Core.Bool.{Bool}
 use Prim.Native.Nat.{ℕ, _+_, _<_, _^_, zero-le, _≤_, _-_}
@@ -54,10 +54,10 @@ use denote.Index.{place-is, elem-out, elem-back, looks-slice, shuts-slice}
 use Rattle.yard_tables.specs.Seats.{cleared}
 use Rattle.yard_scans.proofs.Seats.{seat-size, within-fits}
 use Rattle.yard_scans.proofs.Steps.{by-test, step-bounds}
+use Rattle.yard_scans.proofs.Passes.{Listing, listing, listFrom, list-all, list-next, list-end}
 use Rattle.yard_tables.specs.Looks.{pageOf, linesOf}
 use lib.Seq.{sets}
 use Rattle.yard_scans.specs.Pages.{asLines, pageStep, lineStep, emptyPage}
-use Rattle.yard_scans.proofs.Passes.{Listing, listing, listFrom, list-all, list-next, list-end}
 use Rattle.yard_scans.specs.declared.Asked.{Asked}
 use Rattle.yard_tables.specs.declared.Page.{Page}
 use Rattle.yard_tables.specs.declared.Seat.{Seat}
@@ -91,6 +91,9 @@ R-Page = T-Page.the-row
 abbrev R-Seat : RattleType
 R-Seat = T-Seat.the-row
 
+abbrev stayed : Stays (f.ended .signature .params) (f.ended .kept)
+stayed = (stay-none-slice (0 ∷ []) tt (plain (λ _. R-Seat)) yes, (stay-slice (1 ∷ []) tt (plain (λ _. u32)), (stay-none (λ _. R-Asked) yes, tt)))
+
 abbrev SeatsTy : Ty
 SeatsTy = sliceTy (tyRef (named 0) imm (pointee (R-Seat .written)))
 
@@ -99,9 +102,6 @@ PageTy = sliceTy (tyRef (named 1) mut (tyInt w32))
 
 abbrev LentTy : Ty
 LentTy = tyRef erased mut (tyInt w32)
-
-abbrev stayed : Stays (f.ended .signature .params) (f.ended .kept)
-stayed = (stay-none-slice (0 ∷ []) tt (plain (λ _. R-Seat)) yes, (stay-slice (1 ∷ []) tt (plain (λ _. u32)), (stay-none (λ _. R-Asked) yes, tt)))
 
 nearer-less : (i n : ℕ) → i < n → n - (i + 1) < n - i
 nearer-less i n l = omega (arith, l)
@@ -203,8 +203,8 @@ module _ {M : Type 1} (𝓤 : URA M) (H : Heap 𝓤) (A : Atoms 𝓤) (W : Given
   Nearer-wf : WellFounded Nearer
   Nearer-wf = InvImage·wf (λ (x : Turn ys cs asked). length ys - x .i) (Nat·lt-wfRel .wf)
 
-  module _ (𝓣 : Tables 𝓤 H) (known : Triple 𝓤 (𝓣 .C #yard-scans·list-step) (Stp 𝓤 H A mem run)) (known₁ : Triple 𝓤 (𝓣 .C #yard-scans·empty-page) (Fst 𝓤 H A mem
-      run)) (gs : Room R-Seat (length ys)) (gp : Room u32 (length cs)) (g-asked : Is R-Asked asked (L-Asked.lowered asked ∷ [])) where
+  module _ (𝓣 : Tables 𝓤 H) (known-g : Triple 𝓤 (𝓣 .C #yard-scans·list-step) (Stp 𝓤 H A mem run)) (known-k : Triple 𝓤 (𝓣 .C #yard-scans·empty-page) (Fst 𝓤 H A
+      mem run)) (gs : Room R-Seat (length ys)) (gp : Room u32 (length cs)) (g-asked : Is R-Asked asked (L-Asked.lowered asked ∷ [])) where
     abbrev C : Calls 𝓤 H
     C = 𝓣 .C
 
@@ -256,7 +256,7 @@ module _ {M : Type 1} (𝓤 : URA M) (H : Heap 𝓤) (A : Atoms 𝓤) (W : Given
           [])) ⊛ ‵ (LentAgain u32 κ1 (ν ∷ []) q1 γ₁ b₁ o₁ δ (x .pg))))) (lends-again u32 κ1 (ν ∷ []) q1 γ₁ b₁ o₁ 𝓤 H A W (named 1) (named 0) (x .pg)) $
           await ! tt $ pick ! (λ δ. split ! $ rewrite ! 0 (λ (m : ℕ). ‵ (MutSlice (named 0) (ν ∷ []) u32 .own (at-page δ (x .pg)) (pv m ∷ []))) (x .np) refl
           $ move ! (2 ∷ 0 ∷ []) $ use2 W (raw (Stp 𝓤 H A mem run .pre (to-stp ν δ (x .acc) elem (x .pg) (x .i)))) (goes-stp ν δ (x .acc) elem (x .pg) (x .i)
-          g-asked (x .is) iss gi ok) $ calls-at ! (fmOf 𝓤 H (W .laws) 𝓣) (Stp 𝓤 H A mem run) known (to-stp ν δ (x .acc) elem (x .pg) (x .i)) (and-then !
+          g-asked (x .is) iss gi ok) $ calls-at ! (fmOf 𝓤 H (W .laws) 𝓣) (Stp 𝓤 H A mem run) known-g (to-stp ν δ (x .acc) elem (x .pg) (x .i)) (and-then !
           (load ! (from ! (stop !)) (look ! 22 refl)) (and-then ! (load ! (from ! (stop !)) (look ! 20 refl)) (and-then ! (load ! (from ! (stop !)) (look !
           8 refl)) (and-then ! (load ! (from ! (stop !)) (look ! 18 refl)) (and-then ! (load ! (from ! (stop !)) (look ! 4 refl)) (no-more !)))))) (λ v.
           use1 W (later (some (λ (r : Page). ((‵ (flft (ν ∷ []) fullShare) ⊛ ‵ ftrue) ⊛ ‵ (R-Page .own r (v ∷ []))) ⊛ raw (ensured 𝓤 H A g.ended (g.clauses
@@ -333,7 +333,7 @@ module _ {M : Type 1} (𝓤 : URA M) (H : Heap 𝓤) (A : Atoms 𝓤) (W : Given
         (stop !)) (init ! 12 refl (tt, record { fits = gs .0 })) $ use0 W (raw (Fst 𝓤 H A mem run .pre
         ((tt, tt, tt, ((length ys), tt), (vint w64 (length ys) ∷ [], tt)), tt))) (qed W [] ∵ nothing ! $ nothing ! $
         owned ! usize (Is usize) (uint-makes 𝓤 H A W w64) (length ys) (vint w64 (length ys) ∷ []) (refl, gs .0) $ fjoin ! $ move ! (1 ∷ 0 ∷ []) $ join ! $
-        frame ! $ done !) $ calls-at ! (fmOf 𝓤 H (W .laws) 𝓣) (Fst 𝓤 H A mem run) known₁
+        frame ! $ done !) $ calls-at ! (fmOf 𝓤 H (W .laws) 𝓣) (Fst 𝓤 H A mem run) known-k
         ((tt, tt, tt, ((length ys), tt), (vint w64 (length ys) ∷ [], tt)), tt) (and-then ! (load ! (from ! (stop !)) (look ! 13 refl)) (no-more !)) (λ v₀.
         use1 W (later (some (λ (r₀ : Page). (‵ ftrue ⊛ ‵ (R-Page .own r₀ (v₀ ∷ []))) ⊛ raw (ensured 𝓤 H A k.ended (k.clauses 𝓤 H A mem run) tt
         ((length ys), tt) tt r₀)))) (id⊢ 𝓤 _) $ await ! tt $ pick ! (λ r₀. split ! $ move ! (1 ∷ []) $ use1 W (some (λ (ws : Lasts k.ended tt
@@ -359,20 +359,20 @@ module _ {M : Type 1} (𝓤 : URA M) (H : Heap 𝓤) (A : Atoms 𝓤) (W : Given
 module _ {M : Type 1} (𝓤 : URA M) (H : Heap 𝓤) (A : Atoms 𝓤) (W : Given 𝓤 H A) (mem : Memory → SProp 𝓤) (run : Routine → Fun 𝓤) where
   f-walks : (𝓣 : Tables 𝓤 H) → Triple 𝓤 (𝓣 .C #yard-scans·list-step) (Stp 𝓤 H A mem run) → Triple 𝓤 (𝓣 .C #yard-scans·empty-page) (Fst 𝓤 H A mem run) → Walks 𝓤
       H A f.ended stayed (WpFn 𝓤 H (𝓣 .C) (𝓣 .Λ) code.function) (f.clauses 𝓤 H A mem run)
-  f-walks 𝓣 known known₁ = walked 𝓤 H A f.ended stayed (f.clauses 𝓤 H A mem run) (WpFn 𝓤 H (𝓣 .C) (𝓣 .Λ) code.function) (λ κs.
+  f-walks 𝓣 known-g known-k = walked 𝓤 H A f.ended stayed (f.clauses 𝓤 H A mem run) (WpFn 𝓤 H (𝓣 .C) (𝓣 .Λ) code.function) (λ κs.
       (slice-vals, (slice-vals, ((λ d. L-Asked.lowered d ∷ []), tt)))) (λ κs.
       (shr-slice-tells (named 0) (κs .0) R-Seat, (mut-slice-tells (named 1) (κs .1 .0) u32, (L-Asked.lowers .val-is, tt))))
       (λ κs qs bounds a _ are. via 𝓤 _ (fst∗ 𝓤 _ (emp 𝓤)) (walk 𝓤 H A W mem run (κs .0) (κs .1 .0) (qs .0) (qs .1 .0) (a .0 .ptr .0) (a .0 .ptr .1) (a .0 .name)
-      (a .0 .now) (a .1 .0 .ptr .0) (a .1 .0 .ptr .1) (a .1 .0 .name) (a .1 .0 .now) (a .1 .1 .0) 𝓣 known known₁ (are .0 .0 .1) (are .1 .0 .0 .1) (are .1 .1
-      .0)))
+      (a .0 .now) (a .1 .0 .ptr .0) (a .1 .0 .ptr .1) (a .1 .0 .name) (a .1 .0 .now) (a .1 .1 .0) 𝓣 known-g known-k (are .0 .0 .1) (are .1 .0 .0 .1) (are .1
+      .1 .0)))
 
 f-meets : {M : Type 1} (𝓤 : URA M) (H : Heap 𝓤) (A : Atoms 𝓤) → Given 𝓤 H A → (mem : Memory → SProp 𝓤) (run : Routine → Fun 𝓤) (𝓣 : Tables 𝓤 H) → Triple 𝓤 (𝓣 .C
     #yard-scans·list-step) (Stp 𝓤 H A mem run) → Triple 𝓤 (𝓣 .C #yard-scans·empty-page) (Fst 𝓤 H A mem run)
     → Meets 𝓤 H A f.signature (WpFn 𝓤 H (𝓣 .C) (𝓣 .Λ) code.function) (f.spec 𝓤 H A mem run)
-f-meets 𝓤 H A W mem run 𝓣 known known₁ = walk-meets 𝓤 H A f.ended stayed W
+f-meets 𝓤 H A W mem run 𝓣 known-g known-k = walk-meets 𝓤 H A f.ended stayed W
     (goes-none-slice 𝓤 H A W 2 (0 ∷ []) tt (plain (λ _. R-Seat)) yes, (goes-slice 𝓤 H A W 2 1 tt (plain (λ _. u32)), (goes-none 𝓤 H A W 2 (λ _. R-Asked) yes (λ κs x f. refl), tt)))
     (f.clauses 𝓤 H A mem run)
-    (WpFn 𝓤 H (𝓣 .C) (𝓣 .Λ) code.function) (WpFn-mono 𝓤 H (W .laws) 𝓣 code.function) (f-walks 𝓤 H A W mem run 𝓣 known known₁)
+    (WpFn 𝓤 H (𝓣 .C) (𝓣 .Λ) code.function) (WpFn-mono 𝓤 H (W .laws) 𝓣 code.function) (f-walks 𝓤 H A W mem run 𝓣 known-g known-k)
 
 pub list-missing-spec : {M : Type 1} → stated.statement M
 unfolding code.routine tablesOf

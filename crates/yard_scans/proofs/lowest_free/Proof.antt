@@ -1,5 +1,5 @@
--- `yard_scans::lowest_free` meets its contract: a walk of its MIR, by hand, with a loop, written by tools/walks.py. Of `free_step` it knows the contract alone, and no
--- field of a seat is named. Assumes nothing.
+-- `yard_scans::lowest_free` meets its contract: a walk of its MIR, by hand, with a loop, written by tools/walks.py. Of `free_step` it knows the
+-- contract alone, and no field of a seat is named. Assumes nothing.
 use mathlib.Core.Path.{_≡_, refl, sym, ap, _∙_}
 use mathlib.Core.Bool.{Bool, cond, _||_}
 use Prim.Native.Nat.{ℕ, _+_, _<_, _^_, zero-le, _≤_, _-_}
@@ -51,8 +51,8 @@ use denote.Index.{place-is, elem-out, elem-back, looks-slice, shuts-slice}
 use Rattle.yard_tables.specs.Seats.{cleared}
 use Rattle.yard_scans.proofs.Seats.{seat-size, within-fits}
 use Rattle.yard_scans.proofs.Steps.{by-test}
-use Rattle.yard_tables.specs.Seating.{lowestFree}
 use Rattle.yard_scans.proofs.Passes.{freeFrom, free-all, free-next, free-end}
+use Rattle.yard_tables.specs.Seating.{lowestFree}
 use Rattle.yard_tables.specs.declared.Seat.{Seat}
 use Rattle.yard_scans.proofs.free_step.Symbol.{name as #yard-scans·free-step}
 use Rattle.yard_scans.proofs.lowest_free.Key.{name as #yard-scans·lowest-free}
@@ -70,11 +70,11 @@ use Rattle.yard_scans.proofs.lowest_free.Code.Mir as Mir
 abbrev R-Seat : RattleType
 R-Seat = T-Seat.the-row
 
-abbrev SeatsTy : Ty
-SeatsTy = sliceTy (tyRef (named 0) imm (pointee (R-Seat .written)))
-
 abbrev stayed : Stays (f.ended .signature .params) (f.ended .kept)
 stayed = (stay-none-slice (0 ∷ []) tt (plain (λ _. R-Seat)) yes, tt)
+
+abbrev SeatsTy : Ty
+SeatsTy = sliceTy (tyRef (named 0) imm (pointee (R-Seat .written)))
 
 nearer-less : (i n : ℕ) → i < n → n - (i + 1) < n - i
 nearer-less i n l = omega (arith, l)
@@ -152,7 +152,7 @@ module _ {M : Type 1} (𝓤 : URA M) (H : Heap 𝓤) (A : Atoms 𝓤) (W : Given
   Nearer-wf : WellFounded Nearer
   Nearer-wf = InvImage·wf (λ (x : Turn ys). length ys - x .i) (Nat·lt-wfRel .wf)
 
-  module _ (𝓣 : Tables 𝓤 H) (known : Triple 𝓤 (𝓣 .C #yard-scans·free-step) (Stp 𝓤 H A mem run)) (gs : Room R-Seat (length ys)) where
+  module _ (𝓣 : Tables 𝓤 H) (known-g : Triple 𝓤 (𝓣 .C #yard-scans·free-step) (Stp 𝓤 H A mem run)) (gs : Room R-Seat (length ys)) where
     abbrev C : Calls 𝓤 H
     C = 𝓣 .C
 
@@ -191,7 +191,7 @@ module _ {M : Type 1} (𝓤 : URA M) (H : Heap 𝓤) (A : Atoms 𝓤) (W : Given
           ys (x .i) cleared b o l (λ iss. assigns ! (of-opd ! (load ! (from ! (hop ! (look ! 7 refl) (stop !))) (look-raw ! 0 refl))) (from ! (stop !))
           (init ! 5 refl (LL.lawful T-Seat.the-type L-Seat.the-laws 𝓤 H A W .typed elem _ iss .0)) $ elem-back ! R-Seat q′ ys (x .i) cleared (L-Seat.lowered
           elem ∷ []) b o l $ shuts-slice ! tt R-Seat q′ ys b o $ use0 W (raw (Stp 𝓤 H A mem run .pre (to-stp (x .acc) elem (x .i)))) (goes-stp (x .acc) elem
-          (x .i) (x .is) iss gi) $ calls-at ! (fmOf 𝓤 H (W .laws) 𝓣) (Stp 𝓤 H A mem run) known (to-stp (x .acc) elem (x .i)) (and-then ! (load ! (from !
+          (x .i) (x .is) iss gi) $ calls-at ! (fmOf 𝓤 H (W .laws) 𝓣) (Stp 𝓤 H A mem run) known-g (to-stp (x .acc) elem (x .i)) (and-then ! (load ! (from !
           (stop !)) (look ! 13 refl)) (and-then ! (load ! (from ! (stop !)) (look ! 3 refl)) (and-then ! (load ! (from ! (stop !)) (look ! 11 refl))
           (no-more !)))) (λ v. use1 W (later (some (λ (r : ℕ). ((‵ ftrue) ⊛ ‵ (usize .own r (v ∷ []))) ⊛ raw (ensured 𝓤 H A g.ended (g.clauses 𝓤 H A mem
           run) tt (stp-args (x .acc) elem (x .i)) tt r)))) (id⊢ 𝓤 _) $ await ! tt $ pick ! (λ r. split ! $ move ! (1 ∷ []) $
@@ -248,17 +248,17 @@ module _ {M : Type 1} (𝓤 : URA M) (H : Heap 𝓤) (A : Atoms 𝓤) (W : Given
 module _ {M : Type 1} (𝓤 : URA M) (H : Heap 𝓤) (A : Atoms 𝓤) (W : Given 𝓤 H A) (mem : Memory → SProp 𝓤) (run : Routine → Fun 𝓤) where
   f-walks : (𝓣 : Tables 𝓤 H) → Triple 𝓤 (𝓣 .C #yard-scans·free-step) (Stp 𝓤 H A mem run) → Walks 𝓤 H A f.ended stayed (WpFn 𝓤 H (𝓣 .C) (𝓣 .Λ) code.function)
       (f.clauses 𝓤 H A mem run)
-  f-walks 𝓣 known = walked 𝓤 H A f.ended stayed (f.clauses 𝓤 H A mem run) (WpFn 𝓤 H (𝓣 .C) (𝓣 .Λ) code.function) (λ κs. (slice-vals, tt)) (λ κs.
+  f-walks 𝓣 known-g = walked 𝓤 H A f.ended stayed (f.clauses 𝓤 H A mem run) (WpFn 𝓤 H (𝓣 .C) (𝓣 .Λ) code.function) (λ κs. (slice-vals, tt)) (λ κs.
       (shr-slice-tells (named 0) (κs .0) R-Seat, tt))
-      (λ κs qs bounds a _ are. via 𝓤 _ (fst∗ 𝓤 _ (emp 𝓤)) (walk 𝓤 H A W mem run (κs .0) (qs .0) (a .0 .ptr .0) (a .0 .ptr .1) (a .0 .name) (a .0 .now) 𝓣 known
+      (λ κs qs bounds a _ are. via 𝓤 _ (fst∗ 𝓤 _ (emp 𝓤)) (walk 𝓤 H A W mem run (κs .0) (qs .0) (a .0 .ptr .0) (a .0 .ptr .1) (a .0 .name) (a .0 .now) 𝓣 known-g
       (are .0 .0 .1)))
 
 f-meets : {M : Type 1} (𝓤 : URA M) (H : Heap 𝓤) (A : Atoms 𝓤) → Given 𝓤 H A → (mem : Memory → SProp 𝓤) (run : Routine → Fun 𝓤) (𝓣 : Tables 𝓤 H) → Triple 𝓤 (𝓣 .C
     #yard-scans·free-step) (Stp 𝓤 H A mem run)
     → Meets 𝓤 H A f.signature (WpFn 𝓤 H (𝓣 .C) (𝓣 .Λ) code.function) (f.spec 𝓤 H A mem run)
-f-meets 𝓤 H A W mem run 𝓣 known = walk-meets 𝓤 H A f.ended stayed W (goes-none-slice 𝓤 H A W 1 (0 ∷ []) tt (plain (λ _. R-Seat)) yes, tt) (f.clauses 𝓤 H A mem
+f-meets 𝓤 H A W mem run 𝓣 known-g = walk-meets 𝓤 H A f.ended stayed W (goes-none-slice 𝓤 H A W 1 (0 ∷ []) tt (plain (λ _. R-Seat)) yes, tt) (f.clauses 𝓤 H A mem
     run)
-    (WpFn 𝓤 H (𝓣 .C) (𝓣 .Λ) code.function) (WpFn-mono 𝓤 H (W .laws) 𝓣 code.function) (f-walks 𝓤 H A W mem run 𝓣 known)
+    (WpFn 𝓤 H (𝓣 .C) (𝓣 .Λ) code.function) (WpFn-mono 𝓤 H (W .laws) 𝓣 code.function) (f-walks 𝓤 H A W mem run 𝓣 known-g)
 
 pub lowest-free-spec : {M : Type 1} → stated.statement M
 unfolding code.routine tablesOf
