@@ -156,7 +156,7 @@ static void pages(size_t count) {
             const double spent = (now() - start) / 10;
             if (spent < best) best = spent;
         }
-        must(told.value != (loaded ? 0 : count), "page");
+        must(told.listed != (loaded ? 0 : count), "page");
         line(loaded ? "none missing" : "all missing", count, "seats", best);
     }
 }

@@ -157,7 +157,7 @@ OUT_OF_LINE static uint64_t plain_missing(WARDRAIL_TABLES_READ, size_t first, ui
         if (!seats[i].taken || seats[i].held == head->pieces) continue;
         told->total++;
         if (i < first) continue;
-        if (told->value < page_count) page[told->value++] = (uint32_t)i;
+        if (told->listed < page_count) page[told->listed++] = (uint32_t)i;
         else if (told->next == seats_count) told->next = i;
     }
     return 0;
@@ -193,7 +193,7 @@ static void same(const char *what) {
 /* ---- the same answers: numbers, told records and tables, for frames of every id, whole, short, too long and wrong */
 
 static void alike(size_t seat, const uint8_t *b, size_t count, uint64_t expected) {
-    struct wardrail_told a = {7, 7, 7, 7}, t = a;
+    struct wardrail_told a = {{7}, 7, 7, 7}, t = a;
     uint64_t x = wardrail_yard_feed(OURS, seat, b, count, &a), y = plain_feed(THEIRS, seat, b, count, &t);
     if (x != y || x != expected || memcmp(&a, &t, sizeof a)) {
         fprintf(stderr, "bench: a frame of id %u: %llu beside %llu\n", b[4], (unsigned long long)x, (unsigned long long)y);

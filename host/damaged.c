@@ -114,7 +114,7 @@ static void spares(void) {
     says("leave with spare bits", leave(&y, 1) == 0 && y.holders[0] == 1 && y.holders[9] == 1 && y.rows[WIDTH + 1] == 0);
     y.rows[WIDTH] = 0xff;
     y.seats[1].held = 7;
-    says("a seat that was not clear is cleared", sit(&y) == 0 && told.value == 1 && y.rows[WIDTH] == 0 && y.seats[1].held == 0 && y.holders[0] == 1);
+    says("a seat that was not clear is cleared", sit(&y) == 0 && told.seat == 1 && y.rows[WIDTH] == 0 && y.seats[1].held == 0 && y.holders[0] == 1);
 }
 
 /* Every call refuses sizes that do not fit. */

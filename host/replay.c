@@ -685,11 +685,11 @@ static void missing_call(struct line *l) {
     uint32_t *page = lent_out(room, sizeof *page);
     struct wardrail_told told = {0};
     uint64_t r = wardrail_yard_missing(TABLES(l->yard), number(l->word[1]), page, room, &told);
-    agree(untouched(page, told.value * sizeof *page, room * sizeof *page), "a page's output");
+    agree(untouched(page, told.listed * sizeof *page, room * sizeof *page), "a page's output");
     if (r) refused(r, 0);
     else {
-        if (!told.value) putchar('-');
-        for (size_t k = 0; k < told.value; k++) printf("%s%" PRIu32, k ? "," : "", page[k]);
+        if (!told.listed) putchar('-');
+        for (size_t k = 0; k < told.listed; k++) printf("%s%" PRIu32, k ? "," : "", page[k]);
         printf(" of " N " next " N, told.total, told.next);
     }
     free(page);
@@ -706,8 +706,8 @@ static void seat_call(struct line *l) {
     struct wardrail_told told;
     uint64_t held = 0;
     for (uint64_t p = 0; !r && p < y->head.pieces; p++) {
-        agree(wardrail_yard_has(TABLES(y), i, p, &told) == 0 && told.value <= 1, "has");
-        held += told.value;
+        agree(wardrail_yard_has(TABLES(y), i, p, &told) == 0 && told.has <= 1, "has");
+        held += told.has;
     }
     uint64_t past = wardrail_yard_has(TABLES(y), i, y->head.pieces, &told);
     agree(r ? past == r : past == WARDRAIL_BEYOND && held == s.held, "has");

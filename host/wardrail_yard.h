@@ -37,9 +37,12 @@ WARDRAIL_ASSERT(offsetof(struct wardrail_seat, held) == 6, "six flags and a coun
 /* What a frame that is a request is for us. */
 enum wardrail_request { WARDRAIL_REQUEST_NONE = 0, WARDRAIL_REQUEST_SERVE = 1, WARDRAIL_REQUEST_DROP = 2 };
 
-/* What a call says beside its number. What it does not have is 0. */
+/* What a call says beside its number: one value, under the name that the call below has for it. What it does not have is 0. */
 struct wardrail_told {
-    uint64_t value;   /* said at the call below */
+    union {
+        uint64_t value;
+        uint64_t seat, used, listed, piece, has, holders;
+    };
     uint64_t request; /* of a frame: enum wardrail_request */
     uint64_t total;   /* of a page: how many trucks of the whole yard lack a piece */
     uint64_t next;    /* of a page: the next missing seat that is not listed, or S */
@@ -57,13 +60,13 @@ WARDRAIL_ROW(wardrail_told, 4, next);
 /* Starts a yard: sets the sizes and makes the rest 0. 38. */
 uint64_t wardrail_yard_start(WARDRAIL_TABLES, uint32_t pieces, uint32_t piece_length, uint32_t last_length);
 
-/* A truck takes the lowest free seat, which becomes `value`. 38, 35, 39. */
+/* A truck takes the lowest free seat, which becomes `seat`. 38, 35, 39. */
 uint64_t wardrail_yard_sit(WARDRAIL_TABLES, struct wardrail_told *told);
 
 /* The truck of a seat leaves. 38, 36, 39. */
 uint64_t wardrail_yard_leave(WARDRAIL_TABLES, size_t seat);
 
-/* The first frame of what came in from the truck of a seat: `value` becomes how many bytes it used. 38, 36, the frame's 20 and 21,
+/* The first frame of what came in from the truck of a seat: `used` becomes how many bytes it has. 38, 36, the frame's 20 and 21,
  * then by its id 30 to 34 and 39. */
 uint64_t wardrail_yard_feed(WARDRAIL_TABLES, size_t seat, const uint8_t *bytes, size_t bytes_count, struct wardrail_told *told);
 
@@ -75,19 +78,19 @@ uint64_t wardrail_yard_interest(struct wardrail_head *head, struct wardrail_seat
                                 size_t rows_count, const uint16_t *holders, size_t holders_count, size_t seat, bool on,
                                 uint8_t *frame, size_t frame_count);
 
-/* The missing list from seat `first` on: as many seats as fit go to the start of `page`, `value` becomes how many. 38, 36. */
+/* The missing list from seat `first` on: as many seats as fit go to the start of `page`, `listed` becomes how many. 38, 36. */
 uint64_t wardrail_yard_missing(WARDRAIL_TABLES_READ, size_t first, uint32_t *page, size_t page_count, struct wardrail_told *told);
 
-/* The smallest number among the pieces with fewest holders becomes `value`. 38. */
+/* The smallest number among the pieces with fewest holders becomes `piece`. 38. */
 uint64_t wardrail_yard_scarcest(WARDRAIL_TABLES_READ, struct wardrail_told *told);
 
 /* The record of a seat, free or taken, becomes `seen`. 38, 36. */
 uint64_t wardrail_yard_look(WARDRAIL_TABLES_READ, size_t seat, struct wardrail_seat *seen);
 
-/* `value` becomes 1 where a seat's row has a piece, and else 0. 38, 36, 31. */
+/* `has` becomes 1 where a seat's row has a piece, and else 0. 38, 36, 31. */
 uint64_t wardrail_yard_has(WARDRAIL_TABLES_READ, size_t seat, size_t piece, struct wardrail_told *told);
 
-/* How many trucks hold a piece becomes `value`. 38, 31. */
+/* How many trucks hold a piece becomes `holders`. 38, 31. */
 uint64_t wardrail_yard_count(WARDRAIL_TABLES_READ, size_t piece, struct wardrail_told *told);
 
 #ifdef __cplusplus

@@ -20,7 +20,8 @@ NUMBERS = re.compile(r"struct wardrail_\w+")
 
 
 def main():
-    header = sys.stdin.read()
+    # of a union the first name, which is the source's
+    header = re.sub(r"union \{([^;]*;)[^}]*\};", r"\1", sys.stdin.read())
     sources = [path.read_text() for path in sorted(CRATES.glob("*/src/**/*.rt"))]
     exports = {name: (words, answer) for source in sources for name, words, answer in EXPORT.findall(source)}
     declared = {name: (answer, words) for answer, name, words in DECLARED.findall(header)}
