@@ -10,6 +10,7 @@ use lib.IntN.{pos, negsuc}
 use borrow.Author.Tests.{ltb-true, ltb-false, leb-true}
 use Rattle.refusal.specs.Paper.{Outcome, taken, refused, then, map}
 use Rattle.refusal.specs.Limits.{longestFile}
+use Rattle.refusal.proofs.Outcomes.{map-taken}
 use Rattle.bencode_scalar.specs.Reading.{Got, got, bad}
 use Rattle.bencode_scalar.specs.Written.{keyLt}
 use Rattle.bencode_scalar.proofs.Sound.{Holds}
@@ -27,37 +28,34 @@ use Rattle.bencode_walk.proofs.Finding.{beyond}
 use Rattle.bencode_fields.specs.Looks.{endingAt, numberOf, listOf, dictionaryOf, soughtFrom}
 use Rattle.bencode_fields.specs.Values.{naturalAt, listAt, dictionaryAt, must}
 use Rattle.bencode_fields.proofs.Standing.{number-is, list-is, dictionary-is}
+use Rattle.bencode_fields.proofs.Typed.{dictionary-checks}
 use Rattle.torrent_blocks.specs.Rules.{sum, largest}
 use Rattle.torrent_metainfo.specs.declared.File.{File}
 use Rattle.torrent_metainfo.specs.declared.Content.{Content}
 use Rattle.torrent_metainfo.specs.Keys.{lengthKey, pathKey, Tells}
 use Rattle.torrent_metainfo.specs.Rules.{pathAt, fileIn, fileOf, lengthsOf, oneFile, manyFiles, contentOf}
 use Rattle.torrent_metainfo.specs.Reading.{valueIn, valueAt, fileAt, listedTo, filesAt, running, stopped}
-use Rattle.torrent_metainfo.proofs.Naming.{no-way}
+use Rattle.torrent_metainfo.proofs.Naming.{no-way, moved, not-taken, not-then}
 use Rattle.torrent_metainfo.proofs.Telling.{tells-found, tells-missing, tells-read, tell-first}
-
--- a refusal is the same whatever might have been taken
-pub moved : {A B : Type 0} {r o n q : ℕ} → _≡_ {A = Outcome A} (refused r o) (refused n q) → _≡_ {A = Outcome B} (refused r o) (refused n q)
-moved {A} {B} e = ap (λ (x : Outcome A). then {B = B} x (λ y. refused 0 0)) e
 
 -- what is read with the place past it, and without
 took : (y m past : ℕ) (o : Outcome ℕ) → taken (endingAt past m) ≡ map (endingAt y) o → (taken m ≡ o) × (y ≡ past)
 took y m past (taken n) e = let g : endingAt past m ≡ endingAt y n = cc in (ap (λ (x : ℕ × ℕ). taken (x .0)) g, sym (ap (λ (x : ℕ × ℕ). x .1) g))
 took y m past (refused r i) e = no-way (cc)
 
-not-taken : {A B : Type 0} (f : A → B) (r i : ℕ) (o : Outcome A) → refused r i ≡ map f o → refused r i ≡ o
-not-taken f r i (taken x) e = no-way (cc)
-not-taken f r i (refused n q) e = moved e
+-- a dictionary was seen at p, and its first key: that is what stands there
+pub opened : (s : List ℕ) (d p : ℕ) (v : Value) (first : ℕ) → Stands s d p v → taken first ≡ dictionaryOf s p → (es : Entries) × (v ≡ dict es) × Stands s d p (dict es) × (first ≡ p + 1)
+opened s d p v first t e =
+    let x = map-taken (λ es. p + 1) (dictionaryAt p v) first (sym (e ∙ dictionary-is s d p v t)) in
+    let y = dictionary-checks p v .only (x .0) (x .1) in
+    (y .0, y .1, subst (Stands s d p) (y .1) t, sym (x .2))
 
 -- ---- one file
 
 module _ (s : List ℕ) (d p : ℕ) (levels : d ≤ 32) where
   pub file-none : (v : Value) → Stands s d p v → (r o : ℕ) → refused r o ≡ dictionaryOf s p → refused r o ≡ fileOf p v
   unfolding fileOf
-  file-none (str bs) t r o e = moved (e ∙ dictionary-is s d p (str bs) t)
-  file-none (int z) t r o e = moved (e ∙ dictionary-is s d p (int z) t)
-  file-none (list vs) t r o e = moved (e ∙ dictionary-is s d p (list vs) t)
-  file-none (dict es) t r o e = let f = e ∙ dictionary-is s d p (dict es) t in no-way (cc)
+  file-none v t r o e = not-then (λ es. p + 1) (fileIn p (p + length (encode v))) (dictionaryAt p v) (e ∙ dictionary-is s d p v t)
 
   module _ (first : ℕ) (e : taken first ≡ dictionaryOf s p) (w : Sought) (a : seekPaper w ≡ soughtFrom s first lengthKey) where
     -- the entries of the file's dictionary, and the search for its length
@@ -70,16 +68,12 @@ module _ (s : List ℕ) (d p : ℕ) (levels : d ≤ 32) where
       pub length : Tells s deep (lookup (p + 1) entries lengthKey) w
 
     entered : (v : Value) → Stands s d p v → Entered v
-    entered (str bs) t = let f = e ∙ dictionary-is s d p (str bs) t in no-way (cc)
-    entered (int z) t = let f = e ∙ dictionary-is s d p (int z) t in no-way (cc)
-    entered (list vs) t = let f = e ∙ dictionary-is s d p (list vs) t in no-way (cc)
-    entered (dict es) t =
-        let f : taken first ≡ taken (p + 1) = e ∙ dictionary-is s d p (dict es) t in
-        let i : first ≡ p + 1 = cc in
-        let n = dictionary-stands s d p es t .1 in
+    entered v t =
+        let y = opened s d p v first t e in
+        let n = dictionary-stands s d p (y .0) (y .2) .1 in
         let g : n .0 ≤ 32 = omega (arith, n .1) in
-        let x = tell-first s (n .0) g (p + 1) start es (n .2) lengthKey w (a ∙ ap (λ (q : ℕ). soughtFrom s q lengthKey) i) in
-        record { entries = es; is = refl; deep = n .0; low = g; stands = n .2; length = x .told }
+        let x = tell-first s (n .0) g (p + 1) start (y .0) (n .2) lengthKey w (a ∙ ap (λ (q : ℕ). soughtFrom s q lengthKey) (y .3)) in
+        record { entries = y .0; is = y .1; deep = n .0; low = g; stands = n .2; length = x .told }
 
     -- what comes of the entries comes of the file
     by-entries : (v : Value) (n : Entered v) (o : Outcome File) → o ≡ fileIn p (p + length (encode (dict (n .entries)))) (n .entries) → o ≡ fileOf p v
@@ -343,10 +337,7 @@ module _ (s : List ℕ) (place first p files total : ℕ) (g : Listing s place f
 
 module _ (s : List ℕ) (p : ℕ) where
   pub many-not : (d : ℕ) (v : Value) → Stands s d p v → (r o : ℕ) → refused r o ≡ listOf s p → refused r o ≡ filesAt p v
-  many-not d (str bs) t r o e = moved (e ∙ list-is s d p (str bs) t)
-  many-not d (int z) t r o e = moved (e ∙ list-is s d p (int z) t)
-  many-not d (list vs) t r o e = let f = e ∙ list-is s d p (list vs) t in no-way (cc)
-  many-not d (dict es) t r o e = moved (e ∙ list-is s d p (dict es) t)
+  many-not d v t r o e = not-then (λ vs. p + 1) (λ vs. map (λ ns. listedTo (p + length (encode v)) (running p 0 0 ns)) (lengthsOf (p + 1) vs)) (listAt p v) (e ∙ list-is s d p v t)
 
   pub many-with : (d : ℕ) (v : Value) → d ≤ 32 → Stands s d p v → (first : ℕ) → taken first ≡ listOf s p
       → (o : Outcome (Content × ℕ)) → ((d : ℕ) → (vs : Items) → d ≤ 32 → StandItems s d first vs → o ≡ Listed p first vs) → o ≡ filesAt p v

@@ -7,7 +7,7 @@ use lib.ListN.{length}
 use Rattle.refusal.specs.Paper.{Outcome, taken, refused, then, map}
 use Rattle.refusal.specs.declared.Part.{Part}
 use Rattle.bencode_scalar.specs.Written.{keyLt}
-use Rattle.bencode.specs.Value.{Value, Entries, str, int, list, dict, encode, count, Prev, start}
+use Rattle.bencode.specs.Value.{Value, Entries, dict, encode, count, Prev, start}
 use Rattle.bencode.specs.Decode.{decode}
 use Rattle.bencode.specs.Exact.{Fine}
 use Rattle.bencode.proofs.Exact.{taken-fine}
@@ -17,7 +17,7 @@ use Rattle.bencode_walk.specs.Lookup.{Under, nothing, under, lookup}
 use Rattle.bencode_walk.specs.declared.Sought.{Sought}
 use Rattle.bencode_walk.proofs.Standing.{dictionary-stands, fine-stands}
 use Rattle.bencode_fields.specs.Looks.{stringOf, dictionaryOf, needed, soughtFrom}
-use Rattle.bencode_fields.specs.Values.{stringAt, must}
+use Rattle.bencode_fields.specs.Values.{stringAt, dictionaryAt, must}
 use Rattle.bencode_fields.proofs.Standing.{string-is, dictionary-is}
 use Rattle.torrent_metainfo.specs.declared.Known.{Known}
 use Rattle.torrent_metainfo.specs.declared.Content.{Content}
@@ -26,9 +26,9 @@ use Rattle.torrent_metainfo.specs.Keys.{announceKey, infoKey, filesKey, 
 use Rattle.torrent_metainfo.specs.Noted.{Noted}
 use Rattle.torrent_metainfo.specs.Rules.{nameAt, contentOf, pieceLengthAt, placeUnder, sizedOf, infoOf, infoAt, topOf, torrentOf}
 use Rattle.torrent_metainfo.specs.Reading.{stopped, readOf}
-use Rattle.torrent_metainfo.proofs.Naming.{no-way}
+use Rattle.torrent_metainfo.proofs.Naming.{no-way, moved, not-then}
 use Rattle.torrent_metainfo.proofs.Telling.{tells-needed, tells-place, tells-stands, tell-first, tell-second}
-use Rattle.torrent_metainfo.proofs.Filing.{moved}
+use Rattle.torrent_metainfo.proofs.Filing.{opened}
 use Rattle.torrent_metainfo.proofs.Sizing.{sized-stopped, piece-legal}
 
 stop-then : {A B : Type 0} (f : A → Outcome B) (o : Outcome A) {r q : ℕ} → refused r q ≡ o → refused r q ≡ then o f
@@ -149,10 +149,7 @@ module _ (s : List ℕ) (d : ℕ) (before : Prev) (es : Entries) (levels : d ≤
     top-info r o g = go (lookup 1 es infoKey) (told .1) ∙ onward
       where
         by : (q : ℕ) (v : Value) → Stands s d q v → refused r o ≡ dictionaryOf s q → refused r o ≡ infoAt b q v
-        by q (str bs) x y = moved (y ∙ dictionary-is s d q (str bs) x)
-        by q (int z) x y = moved (y ∙ dictionary-is s d q (int z) x)
-        by q (list vs) x y = moved (y ∙ dictionary-is s d q (list vs) x)
-        by q (dict ws) x y = let z = y ∙ dictionary-is s d q (dict ws) x in no-way (cc)
+        by q v x y = not-then (λ ws. q + 1) (infoOf b q) (dictionaryAt q v) (y ∙ dictionary-is s d q v x)
 
         go : (u : Under) → Tells s d u i → refused r o ≡ must 0 u (infoAt b)
         go nothing x = moved (g ∙ tells-needed s d 0 (λ q v. dictionaryOf s q) nothing i x (dictionaryOf s) (λ q v y. refl))
@@ -163,13 +160,10 @@ module _ (s : List ℕ) (d : ℕ) (before : Prev) (es : Entries) (levels : d ≤
     top-read inside g at v₀ o h = go (lookup 1 es infoKey) (told .1) ∙ onward
       where
         by : (q : ℕ) (v : Value) → Stands s d q v → at ≡ q → taken inside ≡ dictionaryOf s q → o ≡ infoAt b q v
-        by q (str bs) x w y = let z = y ∙ dictionary-is s d q (str bs) x in no-way (cc)
-        by q (int z) x w y = let z = y ∙ dictionary-is s d q (int z) x in no-way (cc)
-        by q (list vs) x w y = let z = y ∙ dictionary-is s d q (list vs) x in no-way (cc)
-        by q (dict ws) x w y =
-            let z : taken inside ≡ taken (q + 1) = y ∙ dictionary-is s d q (dict ws) x in
-            let c : inside ≡ q + 1 = cc in
-            h d ws levels (subst (λ (j : ℕ). Stands s d j (dict ws)) (sym w) x) (c ∙ ap (λ (j : ℕ). j + 1) (sym w)) ∙ ap (λ (j : ℕ). infoOf b j ws) w
+        by q v x w y =
+            let z = opened s d q v inside x y in
+            subst (λ (u : Value). o ≡ infoAt b q u) (sym (z .1))
+            (h d (z .0) levels (subst (λ (j : ℕ). Stands s d j (dict (z .0))) (sym w) (z .2)) (z .3 ∙ ap (λ (j : ℕ). j + 1) (sym w)) ∙ ap (λ (j : ℕ). infoOf b j (z .0)) w)
 
         go : (u : Under) → Tells s d u i → o ≡ must 0 u (infoAt b)
         go nothing x = let z : taken inside ≡ refused 10 0 = g ∙ tells-needed s d 0 (λ q v. dictionaryOf s q) nothing i x (dictionaryOf s) (λ q v y. refl) in no-way (cc)
@@ -178,23 +172,15 @@ module _ (s : List ℕ) (d : ℕ) (before : Prev) (es : Entries) (levels : d ≤
 module _ (s : List ℕ) where
   pub whole-not : (v : Value) → Fine s v → (r o : ℕ) → refused r o ≡ dictionaryOf s 0 → refused r o ≡ torrentOf v
   unfolding torrentOf
-  whole-not (str bs) f r o e = moved (e ∙ dictionary-is s 32 0 (str bs) (fine-stands s (str bs) f))
-  whole-not (int z) f r o e = moved (e ∙ dictionary-is s 32 0 (int z) (fine-stands s (int z) f))
-  whole-not (list vs) f r o e = moved (e ∙ dictionary-is s 32 0 (list vs) (fine-stands s (list vs) f))
-  whole-not (dict es) f r o e = let g = e ∙ dictionary-is s 32 0 (dict es) (fine-stands s (dict es) f) in no-way (cc)
+  whole-not v f r o e = not-then (λ es. 0 + 1) topOf (dictionaryAt 0 v) (e ∙ dictionary-is s 32 0 v (fine-stands s v f))
 
   pub whole-with : (v : Value) → Fine s v → (first : ℕ) → taken first ≡ dictionaryOf s 0 → (o : Outcome Torrent)
       → ((d : ℕ) → (before : Prev) → (es : Entries) → d ≤ 32 → StandEntries s d first before es → first ≡ 1 → o ≡ topOf es) → o ≡ torrentOf v
   unfolding torrentOf
-  whole-with (str bs) f first e o h = let g = e ∙ dictionary-is s 32 0 (str bs) (fine-stands s (str bs) f) in no-way (cc)
-  whole-with (int z) f first e o h = let g = e ∙ dictionary-is s 32 0 (int z) (fine-stands s (int z) f) in no-way (cc)
-  whole-with (list vs) f first e o h = let g = e ∙ dictionary-is s 32 0 (list vs) (fine-stands s (list vs) f) in no-way (cc)
-  whole-with (dict es) f first e o h =
-      let t = fine-stands s (dict es) f in
-      let g : taken first ≡ taken (0 + 1) = e ∙ dictionary-is s 32 0 (dict es) t in
-      let i : first ≡ 0 + 1 = cc in
-      let x = dictionary-stands s 32 0 es t .1 in
-      h (x .0) start es (omega (arith, x .1)) (subst (λ (q : ℕ). StandEntries s (x .0) q start es) (sym i) (x .2)) (omega arith)
+  whole-with v f first e o h =
+      let z = opened s 32 0 v first (fine-stands s v f) e in
+      let x = dictionary-stands s 32 0 (z .0) (z .2) .1 in
+      subst (λ (u : Value). o ≡ torrentOf u) (sym (z .1)) (h (x .0) start (z .0) (omega (arith, x .1)) (subst (λ (q : ℕ). StandEntries s (x .0) q start (z .0)) (sym (z .3)) (x .2)) (omega (arith, z .3)))
 
   pub read-with : (n : ℕ) → taken n ≡ map count (decode s) → (o : Outcome Torrent) → ((v : Value) → Fine s v → o ≡ torrentOf v) → o ≡ readOf s
   read-with n e o h = go (decode s) refl e
@@ -204,8 +190,4 @@ module _ (s : List ℕ) where
       go (refused i j) f g = no-way (cc)
 
   pub read-not : (r o : ℕ) → refused r o ≡ map count (decode s) → refused r o ≡ readOf s
-  read-not r o e = go (decode s) e
-    where
-      go : (w : Outcome Value) → refused r o ≡ map count w → refused r o ≡ then w torrentOf
-      go (taken v) g = no-way (cc)
-      go (refused i j) g = moved g
+  read-not r o e = not-then count torrentOf (decode s) e

@@ -1,6 +1,6 @@
 -- Names and paths: the rule for their bytes as the code tests it, and what the looks say where a value stands. Assumes nothing.
 use mathlib.Core.Path.{_≡_, refl, sym, ap, _∙_}
-use mathlib.Core.Bool.{Bool, true, false}
+use mathlib.Core.Bool.{Bool, true, false, cond}
 use mathlib.Core.List.{List, [], _∷_, _++_}
 use Prim.Native.Nat.{ℕ, suc, _+_, _<_, _≤_}
 use native.Mathlib.Omega.{arith}
@@ -19,9 +19,23 @@ use Rattle.bencode_walk.specs.Stands.{Stands, StandItems}
 use Rattle.bencode_walk.proofs.Standing.{string-stands, integer-stands, list-stands, dictionary-stands, items-end, items-next, closes-none, closes-item}
 use Rattle.bencode_walk.proofs.Seeking.{key-further}
 use Rattle.bencode_fields.specs.Looks.{endingAt, stringIn, stringOf, listOf}
-use Rattle.bencode_fields.specs.Values.{partOf}
-use Rattle.bencode_fields.proofs.Standing.{part-bytes, string-is, list-is}
-use Rattle.torrent_metainfo.specs.Rules.{clean, goodName, nameAt, elementsOf, pathAt}
+use Rattle.bencode_fields.specs.Values.{partOf, listAt}
+use Rattle.bencode_fields.proofs.Standing.{part-bytes, look-is, string-is, list-is}
+use Rattle.torrent_metainfo.specs.Rules.{clean, goodName, nameAt, elementsOf, pathIn, pathAt}
+
+-- ---- refusals
+
+-- a refusal is the same whatever might have been taken
+pub moved : {A B : Type 0} {r o n q : ℕ} → _≡_ {A = Outcome A} (refused r o) (refused n q) → _≡_ {A = Outcome B} (refused r o) (refused n q)
+moved {A} {B} e = ap (λ (x : Outcome A). then {B = B} x (λ y. refused 0 0)) e
+
+pub not-taken : {A B : Type 0} (f : A → B) (r i : ℕ) (o : Outcome A) → refused r i ≡ map f o → refused r i ≡ o
+not-taken f r i (taken x) e = no-way (cc)
+not-taken f r i (refused n q) e = moved e
+
+-- a look that was refused, and what was to come of it
+pub not-then : {A B C : Type 0} (f : A → B) (g : A → Outcome C) {r i : ℕ} (o : Outcome A) → refused r i ≡ map f o → refused r i ≡ then o g
+not-then f g {r} {i} o e = ap (λ x. then x g) (not-taken f r i o e)
 
 -- ---- the bytes of a name
 
@@ -91,26 +105,24 @@ name-long (b ∷ c ∷ d ∷ t) x y z = refl
 
 -- ---- a name that stands at p
 
-module _ (s : List ℕ) (d p : ℕ) where
-  pub name-good : (v : Value) → Stands s d p v → (x : Part) → taken x ≡ stringOf s p → goodName (take (x .len) (drop (x .from) s)) ≡ true → taken x ≡ nameAt p v
-  name-good (str bs) t x e g =
-      let f : taken x ≡ taken (partOf p bs) = e ∙ string-is s d p (str bs) t in
-      let h : x ≡ partOf p bs = cc in
-      let i : goodName bs ≡ true = sym (ap (λ (y : Part). goodName (take (y .len) (drop (y .from) s))) h ∙ ap goodName (part-bytes s d p bs t)) ∙ g in
-      rw i f
-  name-good (int z) t x e g = let f = e ∙ string-is s d p (int z) t in no-way (cc)
-  name-good (list vs) t x e g = let f = e ∙ string-is s d p (list vs) t in no-way (cc)
-  name-good (dict es) t x e g = let f = e ∙ string-is s d p (dict es) t in no-way (cc)
+abbrev pub isEnd : Head → Bool
+isEnd (string a m q) = false
+isEnd (integer z q) = false
+isEnd (long a m q) = false
+isEnd (walk.list q) = false
+isEnd (walk.dictionary q) = false
+isEnd (end q) = true
 
-  pub name-bad : (v : Value) → Stands s d p v → (x : Part) → taken x ≡ stringOf s p → goodName (take (x .len) (drop (x .from) s)) ≡ false → refused 13 p ≡ nameAt p v
-  name-bad (str bs) t x e g =
+module _ (s : List ℕ) (d p : ℕ) where
+  pub name-by : (v : Value) → Stands s d p v → (x : Part) → taken x ≡ stringOf s p → {b : Bool} → goodName (take (x .len) (drop (x .from) s)) ≡ b → cond b (taken x) (refused 13 p) ≡ nameAt p v
+  name-by (str bs) t x e {b} g =
       let f : taken x ≡ taken (partOf p bs) = e ∙ string-is s d p (str bs) t in
       let h : x ≡ partOf p bs = cc in
-      let i : goodName bs ≡ false = sym (ap (λ (y : Part). goodName (take (y .len) (drop (y .from) s))) h ∙ ap goodName (part-bytes s d p bs t)) ∙ g in
-      rw i
-  name-bad (int z) t x e g = let f = e ∙ string-is s d p (int z) t in no-way (cc)
-  name-bad (list vs) t x e g = let f = e ∙ string-is s d p (list vs) t in no-way (cc)
-  name-bad (dict es) t x e g = let f = e ∙ string-is s d p (dict es) t in no-way (cc)
+      let i : b ≡ goodName bs = sym g ∙ ap (λ (y : Part). goodName (take (y .len) (drop (y .from) s))) h ∙ ap goodName (part-bytes s d p bs t) in
+      ap (λ (o : Outcome Part). cond b o (refused 13 p)) f ∙ ap (λ (c : Bool). cond c (taken (partOf p bs)) (refused 13 p)) i
+  name-by (int z) t x e g = let f = e ∙ string-is s d p (int z) t in no-way (cc)
+  name-by (list vs) t x e g = let f = e ∙ string-is s d p (list vs) t in no-way (cc)
+  name-by (dict es) t x e g = let f = e ∙ string-is s d p (dict es) t in no-way (cc)
 
   pub name-not : (v : Value) → Stands s d p v → (r o : ℕ) → refused r o ≡ stringOf s p → refused r o ≡ nameAt p v
   name-not (str bs) t r o e = let f : refused r o ≡ taken (partOf p bs) = e ∙ string-is s d p (str bs) t in no-way (cc)
@@ -128,10 +140,9 @@ module _ (s : List ℕ) (d p : ℕ) where
 
   -- no value is an end
   not-end : (v : Value) → Stands s d p v → (q : ℕ) → taken (end q) ≡ lookOf s p → ⊥
-  not-end (str bs) t q e = let f = e ∙ string-stands s d p bs t .seen in no-way (cc)
-  not-end (int z) t q e = let f = e ∙ integer-stands s d p z t in no-way (cc)
-  not-end (list vs) t q e = let f = e ∙ list-stands s d p vs t .0 in no-way (cc)
-  not-end (dict es) t q e = let f = e ∙ dictionary-stands s d p es t .0 in no-way (cc)
+  not-end v t q e =
+      let f : taken true ≡ taken false = ap (λ (o : Outcome Head). then o (λ h. taken (isEnd h))) e ∙ look-is s d p (λ h. taken (isEnd h)) (λ w. taken false) (λ bs. refl) (λ z. refl) (λ vs. refl) (λ es. refl) v t in
+      no-way (cc)
 
 -- ---- the elements of a path
 
@@ -160,7 +171,7 @@ module _ (s : List ℕ) (first p : ℕ) (g : Going s first p) where
       go none u i = let f = e ∙ items-end s d p u in no-way (cc)
       go (item v ws) u i =
           let n = items-next s d p v ws u in
-          let f : taken x ≡ nameAt p v = name-good s d p v (n .0) x (ap (λ (o : Outcome Head). then o (stringIn p)) e) h in
+          let f : taken x ≡ nameAt p v = name-by s d p v (n .0) x (ap (λ (o : Outcome Head). then o (stringIn p)) e) h in
           let j : q ≡ p + length (encode v) = string-ends s d p v (n .0) (x .from) (x .len) q e in
           record { left = ws; stands = rw j (n .1); same = (rw (← f, ← j) at i) }
 
@@ -173,7 +184,7 @@ module _ (s : List ℕ) (first p : ℕ) (g : Going s first p) where
       go (item v ws) u i = let n = items-next s d p v ws u in let k : refused r o ≡ elementsOf first vs = (rw (← h d v (n .0)) at i) in ap (map (λ q. q + 1)) k
 
   pub going-bad : (x : Part) (q : ℕ) → taken (string (x .from) (x .len) q) ≡ lookOf s p → goodName (take (x .len) (drop (x .from) s)) ≡ false → (d : ℕ) (vs : Items) → StandItems s d first vs → refused 13 p ≡ map (λ q. q + 1) (elementsOf first vs)
-  going-bad x q e h = stop-at 13 p (λ d v t. name-bad s d p v t x (ap (λ (o : Outcome Head). then o (stringIn p)) e) h) (λ i f. let z = e ∙ sym f in no-way (cc))
+  going-bad x q e h = stop-at 13 p (λ d v t. name-by s d p v t x (ap (λ (o : Outcome Head). then o (stringIn p)) e) h) (λ i f. let z = e ∙ sym f in no-way (cc))
 
   -- anything but a string or an end
   pub going-not : (o : Outcome Head) → o ≡ lookOf s p → (r q : ℕ) → then o (stringIn p) ≡ refused r q → ((i : ℕ) → taken (end i) ≡ o → ⊥) → (d : ℕ) (vs : Items) → StandItems s d first vs → refused r q ≡ map (λ q. q + 1) (elementsOf first vs)
@@ -208,10 +219,7 @@ passing p v = map (endingAt (p + length (encode v))) (pathAt p v)
 
 module _ (s : List ℕ) (d p : ℕ) where
   pub path-not : (v : Value) → Stands s d p v → (r o : ℕ) → refused r o ≡ listOf s p → refused r o ≡ passing p v
-  path-not (str bs) t r o e = ap (map (endingAt (p + length (encode (str bs))))) (e ∙ list-is s d p (str bs) t)
-  path-not (int z) t r o e = ap (map (endingAt (p + length (encode (int z))))) (e ∙ list-is s d p (int z) t)
-  path-not (list vs) t r o e = let f = e ∙ list-is s d p (list vs) t in no-way (cc)
-  path-not (dict es) t r o e = ap (map (endingAt (p + length (encode (dict es))))) (e ∙ list-is s d p (dict es) t)
+  path-not v t r o e = ap (map (endingAt (p + length (encode v)))) (not-then (λ vs. p + 1) (pathIn p) (listAt p v) (e ∙ list-is s d p v t))
 
   module _ (first : ℕ) (e : taken first ≡ listOf s p) where
     pub path-empty : (v : Value) → Stands s d p v → closes (drop first s) ≡ true → refused 13 p ≡ passing p v
@@ -262,14 +270,6 @@ ends-out s p h = rw (drop-of-length-le s h)
 
 pub ends-in : (s : List ℕ) (p : ℕ) → p < length s → eqb (getD s p 0) 101 ≡ closes (drop p s)
 ends-in s p h = rw (at-head s p h)
-
-abbrev pub isEnd : Head → Bool
-isEnd (string a m q) = false
-isEnd (integer z q) = false
-isEnd (long a m q) = false
-isEnd (walk.list q) = false
-isEnd (walk.dictionary q) = false
-isEnd (end q) = true
 
 module _ (s : List ℕ) (first p : ℕ) (g : Going s first p) where
   pub going-other : refused 10 p ≡ stringOf s p → taken false ≡ then (lookOf s p) (λ h. taken (isEnd h)) → (d : ℕ) (vs : Items) → StandItems s d first vs → refused 10 p ≡ map (λ q. q + 1) (elementsOf first vs)
