@@ -1,7 +1,8 @@
 -- DEMAND 2: exactly the right texts, what is written reads back, and blocks fall where they should. Assumes nothing.
 -- Each statement is about any answer r, and any lent output `out` at exit, that the contract of the call named above it permits: the contract is its premise.
 -- A text is a list of bytes. An outcome is `taken` with what is handed back, or `refused` with number and place.
--- `Encodes s v`: the bytes s are the value v as BEP 3 writes it, and v keeps document 01's limits (demands_laws/specs/Texts). Where parts stand: demands_laws/specs/Places.
+-- `Encodes s v`: the bytes s are the value v as BEP 3 writes it, and v keeps document 01's limits. It and the other words that are not another crate's stand
+-- in demands_laws/specs/Texts.antt, those on where parts stand in Places.antt beside it.
 use mathlib.Core.Path.{_≡_, sym, ap, _∙_}
 use mathlib.Core.Logic.{_⊎_, _↔_, Iff·trans}
 use mathlib.Core.Bool.{true, false, cond}
@@ -28,7 +29,7 @@ use Rattle.hash_sha1.specs.declared.Hashed.{Hashed}
 use Rattle.torrent_blocks.specs.Rules.{sum, Lawful, piecesOf}
 use Rattle.torrent_blocks.specs.Spans.{FilePart, part, joinedFiles, partsOf}
 use Rattle.torrent_blocks.specs.Answers.{Spot, partsPaper, placePaper, sizePaper, sizeOf, blockOf, byteOf, flat, partsWritten}
-use Rattle.torrent_blocks.specs.Answers.{left as parting, Left as Parting}
+use Rattle.torrent_blocks.specs.Answers.{left as parting}
 use Rattle.torrent_blocks.specs.Covers.{run, placesOf, Neat}
 use Rattle.torrent_blocks.specs.declared.Parts.{Parts}
 use Rattle.torrent_blocks.specs.declared.Place.{Place}
@@ -320,10 +321,7 @@ pub block-exact : (ns : List ℕ) (pl p q n : ℕ) (o out : List ℕ) (r : Parts
     → ((k : ℕ) × (partsPaper r ≡ taken k))
     ↔ (Lawful pl ns (piecesOf (sum ns) pl) × (p < piecesOf (sum ns) pl) × (1 ≤ n) × (n ≤ 16384) × (q + n ≤ min pl (sum ns - p * pl))
     × (3 * length (partsOf (joinedFiles ns) (p * pl + q) n) ≤ length o))
-block-exact ns pl p q n o out r c = (
-  λ (k, t). blocks.block-taken ns pl p q n o (partsPaper r) out c k t,
-  λ h. let e = blocks.block-takes ns pl p q n o h in (e .0, ap (λ (x : Parting). x .answer) c ∙ e .1),
-)
+block-exact ns pl p q n o out r c = blocks.block-exact ns pl p q n o (partsPaper r) out c
 
 -- of torrent_blocks::piece_size: taken exactly when the numbers keep the rules and there is such a piece, and it is then the piece length, of the last piece what is left
 pub piece-size-exact : (ns : List ℕ) (pl p : ℕ) (r : Size) → sizePaper r ≡ sizeOf (joinedFiles ns) pl p → (k : ℕ)

@@ -21,19 +21,18 @@ use Rattle.torrent_blocks.proofs.Joined.{joined-laid, joined-start, joined-coun
 use mathlib.Core.Logic.{_↔_}
 use Rattle.refusal.proofs.Cases.{no-way}
 use Rattle.torrent_blocks.proofs.Causes as causes
-use Rattle.demands_laws.proofs.Refusals.{at-place}
+use Rattle.demands_laws.proofs.Refusals.{at-zero}
 
 -- ---- refused
 
 pub block-refused : (files : List Span) (pl p o n : ℕ) (out : List ℕ) (k q : ℕ) → partsWritten (blockOf files pl p o n) out .answer ≡ refused k q ↔ (BlockCause files pl p o n (length out) k × (q ≡ 0))
-block-refused files pl p o n out k q =
-    (causes.block-refused-only files pl p o n out k q, λ h. ap (λ (l : Parting). l .answer) (causes.block-refused-every files pl p o n out k (h .0)) ∙ at-place (h .1))
+block-refused files pl p o n out k q = at-zero (causes.block-refused-only files pl p o n out k q) (λ h. ap (λ (l : Parting). l .answer) (causes.block-refused-every files pl p o n out k h))
 
 pub byte-refused : (files : List Span) (pl f o k q : ℕ) → byteOf files pl f o ≡ refused k q ↔ (ByteCause files pl f o k × (q ≡ 0))
-byte-refused files pl f o k q = (causes.byte-refused-only files pl f o k q, λ h. causes.byte-refused-every files pl f o k (h .0) ∙ at-place (h .1))
+byte-refused files pl f o k q = at-zero (causes.byte-refused-only files pl f o k q) (causes.byte-refused-every files pl f o k)
 
 pub size-refused : (files : List Span) (pl p k q : ℕ) → sizeOf files pl p ≡ refused k q ↔ (SizeCause files pl p k × (q ≡ 0))
-size-refused files pl p k q = (causes.size-refused-only files pl p k q, λ h. causes.size-refused-every files pl p k (h .0) ∙ at-place (h .1))
+size-refused files pl p k q = at-zero (causes.size-refused-only files pl p k q) (causes.size-refused-every files pl p k)
 
 -- ---- taken, of files one after the other
 
@@ -69,7 +68,7 @@ module _ (ns : List ℕ) (pl : ℕ) where
     abbrev Taken : Type 0
     Taken = Lawful pl ns (piecesOf (sum ns) pl) × (p < piecesOf (sum ns) pl) × (1 ≤ n) × (n ≤ 16384) × (q + n ≤ min pl (sum ns - p * pl)) × (3 * length (partsOf ss (p * pl + q) n) ≤ length o)
 
-    pub block-taken : (a : Outcome ℕ) (out : List ℕ) → parting a out ≡ partsWritten (blockOf ss pl p q n) o → (k : ℕ) → a ≡ taken k → Taken
+    block-taken : (a : Outcome ℕ) (out : List ℕ) → parting a out ≡ partsWritten (blockOf ss pl p q n) o → (k : ℕ) → a ≡ taken k → Taken
     unfolding blockOf
     block-taken a out c k t =
         let b = block-parts a out c k t in
@@ -84,12 +83,15 @@ module _ (ns : List ℕ) (pl : ℕ) where
           subst (λ (x : List FilePart). 3 * length x ≤ length o) (sym (h .3)) (b .4),
         )
 
-    pub block-takes : Taken → (k : ℕ) × (partsWritten (blockOf ss pl p q n) o .answer ≡ taken k)
+    block-takes : Taken → (k : ℕ) × (partsWritten (blockOf ss pl p q n) o .answer ≡ taken k)
     unfolding blockOf partsWritten
     block-takes (f, h, a, b, e, g) =
         let i : p < pieces ss pl = omega (arith, h, count-is) in
         let l : Block (heldIn ss pl p) q n = record { some = a; most = b; ends = omega (arith, e, joined-held ns pl p) } in
         (length (partsOf ss (p * pl + q) n), rw (keeps-is ∙ is-lawful pl ns (piecesOf (sum ns) pl) f, lt-ltb p (pieces ss pl) i, is-lies (heldIn ss pl p) q n l, le-leb (3 * length (partsOf ss (p * pl + q) n)) (length o) g))
+
+    pub block-exact : (a : Outcome ℕ) (out : List ℕ) → parting a out ≡ partsWritten (blockOf ss pl p q n) o → ((k : ℕ) × (a ≡ taken k)) ↔ Taken
+    block-exact a out c = (λ (k, t). block-taken a out c k t, λ h. let e = block-takes h in (e .0, ap (λ (x : Parting). x .answer) c ∙ e .1))
 
   module _ (p k : ℕ) where
     abbrev Holds : Type 0

@@ -1,12 +1,10 @@
 -- What a torrent holds, by number: when each number is given. Assumes nothing.
-use mathlib.Core.Path.{_≡_, refl, sym, ap, subst, _∙_}
+use mathlib.Core.Path.{_≡_, refl, sym, ap, _∙_}
 use mathlib.Core.Logic.{_⊎_, inl, inr, ⊎-elim, _↔_, Iff·trans}
 use mathlib.Core.Bool.{Bool, true, false}
 use mathlib.Core.List.{List}
-use Prim.Native.Nat.{ℕ, suc, _+_, _≤_, _<_}
+use Prim.Native.Nat.{ℕ, _+_, _≤_, _<_}
 use native.Mathlib.Omega.{arith}
-use borrow.Author.Tests.{eqb-true, eqb-false}
-use lib.Dec.{eqb}
 use lib.ListN.{length}
 use Rattle.refusal.specs.Paper.{Outcome, taken, refused, then}
 use Rattle.refusal.specs.Limits.{longestPiece}
@@ -26,9 +24,9 @@ use Rattle.torrent_contents.specs.Pieces.{hashPart, hashIn, hashOf, pieceBytes,
 use Rattle.torrent_contents.specs.declared.Entry.{Entry as FileEntry}
 use Rattle.torrent_contents.proofs.Numbering as numbering
 use Rattle.torrent_contents.proofs.Hashing.{hash-there, hash-beyond, check-beyond, check-long, check-outside, check-agreed}
-use Rattle.refusal.proofs.Cases.{less-or}
+use Rattle.refusal.proofs.Cases.{less-or, same-or}
 use Rattle.refusal.proofs.Outcomes.{not-refused, same-refusal}
-use Rattle.demands_laws.proofs.Refusals.{first-of, second-of, refusal-is, then-refused}
+use Rattle.demands_laws.proofs.Refusals.{first-of, second-of, refusal-is, caused, at-zero, then-refused}
 use Rattle.demands_laws.specs.Causes.{Unchecked, no-such-piece, long-piece, wrong-length}
 
 torrent-number : (s : List ℕ) (n p : ℕ) → readOf s ≡ refused n p → n ≤ 13
@@ -54,37 +52,33 @@ hash-alike s n k p l = first-of (then-refused (readOf s) (hashIn n) k p) (λ h. 
 
 -- ---- the check of a piece
 
-module _ (s : List ℕ) (t : Torrent) (n : ℕ) (m : List ℕ) (k p : ℕ) where
-  -- the piece is there: its bytes
-  abbrev expected : List ℕ
-  expected = bytesAt s (hashPart n (t .pieces))
+module _ (s : List ℕ) (t : Torrent) (n : ℕ) (m : List ℕ) where
+  -- the piece that is there: its hash, and how many bytes it has
+  abbrev hash : Part
+  hash = hashPart n (t .pieces)
 
-  bytes-only : n < t .«piece_count» → checkIn s n m t ≡ refused k p → Unchecked t n m k × (p ≡ 0)
-  bytes-only l e =
-      let x = hash-there n t l in
-      less-or (length m) (suc longestPiece)
-      (λ h. by-length (λ g. not-refused (sym (agreement-whole m expected (omega arith)) ∙ check-agreed s n m t (hashPart n (t .pieces)) x (omega arith) (pieceBytes (t .content .total) (t .«piece_length») n) refl g expected refl ∙ e))
-      (λ g. let z = same-refusal {A = Bool} (check-outside s n m t (hashPart n (t .pieces)) x (omega arith) (pieceBytes (t .content .total) (t .«piece_length») n) refl g ∙ e) in (subst (Unchecked t n m) (z .0) (wrong-length l (omega arith) g), sym (z .1))))
-      (λ h. let z = same-refusal {A = Bool} (check-long s n m t (hashPart n (t .pieces)) x (omega arith) ∙ e) in (subst (Unchecked t n m) (z .0) (long-piece l (omega arith)), sym (z .1)))
-    where
-      by-length : {P : Type 0} → (length m ≡ pieceBytes (t .content .total) (t .«piece_length») n → P) → ((length m ≡ pieceBytes (t .content .total) (t .«piece_length») n → ⊥) → P) → P
-      by-length {P} y z = go (eqb (length m) (pieceBytes (t .content .total) (t .«piece_length») n)) refl
-        where
-          go : (b : Bool) → eqb (length m) (pieceBytes (t .content .total) (t .«piece_length») n) ≡ b → P
-          go true e = y (eqb-true _ _ e)
-          go false e = z (eqb-false _ _ e)
+  abbrev size : ℕ
+  size = pieceBytes (t .content .total) (t .«piece_length») n
 
-  in-check : checkIn s n m t ≡ refused k p ↔ (Unchecked t n m k × (p ≡ 0))
-  in-check = (only, λ h. every k (h .0) ∙ refusal-is refl (sym (h .1)))
-    where
-      only : checkIn s n m t ≡ refused k p → Unchecked t n m k × (p ≡ 0)
-      only e = less-or n (t .«piece_count») (λ l. bytes-only l e)
-          (λ l. let z = same-refusal {A = Bool} (check-beyond s n m t 31 0 (hash-beyond n t l) ∙ e) in (subst (Unchecked t n m) (z .0) (no-such-piece l), sym (z .1)))
+  every : (j : ℕ) → Unchecked t n m j → checkIn s n m t ≡ refused j 0
+  every j (no-such-piece l) = sym (check-beyond s n m t 31 0 (hash-beyond n t l))
+  every j (long-piece l h) = sym (check-long s n m t hash (hash-there n t l) h)
+  every j (wrong-length l h g) = sym (check-outside s n m t hash (hash-there n t l) h size refl g)
 
-      every : (j : ℕ) → Unchecked t n m j → checkIn s n m t ≡ refused j 0
-      every j (no-such-piece l) = sym (check-beyond s n m t 31 0 (hash-beyond n t l))
-      every j (long-piece l h) = sym (check-long s n m t (hashPart n (t .pieces)) (hash-there n t l) h)
-      every j (wrong-length l h g) = sym (check-outside s n m t (hashPart n (t .pieces)) (hash-there n t l) h (pieceBytes (t .content .total) (t .«piece_length») n) refl g)
+  module _ (k p : ℕ) (e : checkIn s n m t ≡ refused k p) where
+    by : {j : ℕ} → Unchecked t n m j → Unchecked t n m k × (p ≡ 0)
+    by {j} c = caused (Unchecked t n m) (every j c) c e
+
+    only : Unchecked t n m k × (p ≡ 0)
+    only =
+        less-or n (t .«piece_count»)
+        (λ l. less-or longestPiece (length m) (λ h. by (long-piece l h)) (λ h. same-or (length m) size
+        (λ g. not-refused (sym (agreement-whole m (bytesAt s hash) h) ∙ check-agreed s n m t hash (hash-there n t l) h size refl g (bytesAt s hash) refl ∙ e))
+        (λ g. by (wrong-length l h g))))
+        (λ l. by (no-such-piece l))
+
+  in-check : (k p : ℕ) → checkIn s n m t ≡ refused k p ↔ (Unchecked t n m k × (p ≡ 0))
+  in-check k p = at-zero (only k p) (every k)
 
 -- the torrent's refusal, or one of these
 pub check-exactly : (s : List ℕ) (n : ℕ) (m : List ℕ) (k p : ℕ) → checkOf s n m ≡ refused k p ↔ ((readOf s ≡ refused k p) ⊎ ((t : Torrent) × (readOf s ≡ taken t) × Unchecked t n m k × (p ≡ 0)))

@@ -1,5 +1,5 @@
 -- A refusal of one outcome told as that of another, both ways at once. Assumes nothing.
-use mathlib.Core.Path.{_≡_, refl, sym, ap, _∙_}
+use mathlib.Core.Path.{_≡_, refl, sym, ap, subst, _∙_}
 use mathlib.Core.Logic.{_⊎_, inl, inr, ⊎-elim, _↔_}
 use Prim.Native.Nat.{ℕ}
 use Rattle.refusal.specs.Paper.{Outcome, taken, refused, map, then}
@@ -29,6 +29,13 @@ refusal-is a b = rw (a, b)
 -- the same refusal at place 0
 pub at-place : {A : Type 0} {n p : ℕ} → p ≡ 0 → _≡_ {A = Outcome A} (refused n 0) (refused n p)
 at-place e = refusal-is refl (sym e)
+
+-- a cause of a number, at place 0: the number is its own, and exactly then it is given
+pub caused : {A : Type 0} {o : Outcome A} (C : ℕ → Type 0) {j k p : ℕ} → o ≡ refused j 0 → C j → o ≡ refused k p → C k × (p ≡ 0)
+caused C d c e = let z = outcomes.same-refusal (sym d ∙ e) in (subst C (z .0) c, sym (z .1))
+
+pub at-zero : {A B : Type 0} {o : Outcome A} {k p : ℕ} → (o ≡ refused k p → B × (p ≡ 0)) → (B → o ≡ refused k 0) → o ≡ refused k p ↔ (B × (p ≡ 0))
+at-zero f g = (f, λ (b, z). g b ∙ at-place z)
 
 -- what is taken, seen otherwise: a refusal stays
 pub map-refused : {A B : Type 0} (f : A → B) (o : Outcome A) (n p : ℕ) → map f o ≡ refused n p ↔ o ≡ refused n p
