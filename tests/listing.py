@@ -3,7 +3,13 @@
 import sys
 from pathlib import Path
 
-from cases import ROOT, answered, blocks, refuse_unless, torrent
+ROOT = Path(__file__).resolve().parent.parent
+sys.dont_write_bytecode = True
+sys.path.insert(0, str(ROOT / "second"))
+
+import blocks  # noqa: E402
+import torrent  # noqa: E402
+from refusal import Refused, refuse_unless  # noqa: E402
 
 LONGEST_LISTED = 65_536
 
@@ -22,4 +28,7 @@ def escaped(name):
 
 
 named_file = Path(sys.argv[1]) if len(sys.argv) > 1 else ROOT / "crates/listing/stdin"
-print(answered(lambda: listing(named_file.read_bytes())))
+try:
+    print(listing(named_file.read_bytes()))
+except Refused as refusal:
+    print(refusal)

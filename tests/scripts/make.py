@@ -1,6 +1,6 @@
 """Writes the scripts of this folder, each with the answers that it has to get.
 
-    python3 tests/scripts/make.py           the small ones, which are stored, into this folder
+    python3 tests/scripts/make.py           the small ones, which are stored, into this folder, and crates/cases/stdin and stdout
     python3 tests/scripts/make.py FOLDER    all, the big ones too, into that folder
 
 The cases stand in the modules beside this one, calls and answers, from document 01.
@@ -11,6 +11,7 @@ from pathlib import Path
 
 import bencode_texts
 import block_calls
+import case_table
 import reply_texts
 import sample_texts
 import torrent_texts
@@ -50,6 +51,7 @@ def write_big(folder):
 def main():
     if len(sys.argv) == 1:
         write_small(Path(__file__).parent)
+        case_table.write(Path(__file__).parents[2] / "crates/cases")
     else:
         write_small(Path(sys.argv[1]))
         write_big(Path(sys.argv[1]))

@@ -1,0 +1,101 @@
+// The lines of the script, one after the other, and what each of them calls.
+use crate::blocks;
+use crate::bytes::write_out;
+use crate::hashes;
+use crate::replies;
+use crate::report;
+use crate::texts;
+use crate::torrents;
+use crate::wire;
+use crate::words;
+use crate::writers;
+
+// The numbers of the calls that others ask for.
+pub const BLOCK: usize = 15;
+
+pub const BYTE: usize = 16;
+
+const SIZE: usize = 17;
+
+pub const WRITE_TORRENT: usize = 18;
+
+pub const WRITE_REPLY: usize = 19;
+
+pub const WRITE_HANDSHAKE: usize = 20;
+
+pub const WRITE_FRAME: usize = 21;
+
+pub fn each(script: &[u8], space: &mut [u8]) {
+    let mut from = 0;
+    while from < script.len() {
+        let to = words::find(script, from, b'\n');
+        one(&script[from..to], space);
+        from = to + 1;
+    }
+}
+
+// A line: a remark, or a call, whose answer may be told by its sum.
+fn one(line: &[u8], space: &mut [u8]) {
+    if line.len() < 4 {
+        return;
+    }
+    if line[0] == b'#' {
+        return;
+    }
+    if line[1] == b'u' {
+        return ask(&line[4..], space, true);
+    }
+    ask(line, space, false);
+}
+
+fn ask(line: &[u8], space: &mut [u8], brief: bool) {
+    let call = number_of(words::word(line, 0, b' '));
+    let a = write_out(space, 0, words::word(line, 1, b' '));
+    let b = write_out(space, a, words::word(line, 2, b' '));
+    let c = write_out(space, b, words::word(line, third(call), b' '));
+    answer(call, line, brief, &space[0..a], &space[a..b], &space[b..c]);
+    report::name(report::NEWLINE);
+}
+
+// The number of a call.
+fn number_of(name: &[u8]) -> usize {
+    words::which(
+        b"bencode|walk|torrent|file|places|piece|reply|peer|entries|frame|frame-cuts|handshake|handshake-cuts|sha1|sha1-parts|block|byte|size|write-torrent|write-reply|write-handshake|write-frame|",
+        name,
+    )
+}
+
+// The third word of bytes, after the first and the second.
+fn third(call: usize) -> usize {
+    if call == WRITE_TORRENT { 5 } else { 3 }
+}
+
+fn answer(call: usize, line: &[u8], brief: bool, x: &[u8], y: &[u8], z: &[u8]) {
+    match call {
+        0 => texts::check(x),
+        1 => texts::walk(x),
+        2 => torrents::torrent(x),
+        3 => torrents::file(x, words::number(line, 2) as usize),
+        4 => torrents::places(x),
+        5 => torrents::piece(x, words::small(line, 2), z),
+        6 => replies::reply(x),
+        7 => replies::peer(x, words::number(line, 2) as usize),
+        8 => replies::entries(x),
+        _ => other(call, line, brief, x, y, z),
+    }
+}
+
+fn other(call: usize, line: &[u8], brief: bool, x: &[u8], y: &[u8], z: &[u8]) {
+    match call {
+        9 => wire::frame(x, false),
+        10 => wire::frame_cuts(x),
+        11 => wire::handshake(x, y, false),
+        12 => wire::handshake_cuts(x, y),
+        13 => hashes::whole(x),
+        14 => hashes::parts(x, words::word(line, 2, b' ')),
+        BLOCK => blocks::ask(call, line),
+        BYTE => blocks::ask(call, line),
+        SIZE => blocks::ask(call, line),
+        _ => writers::ask(call, line, brief, x, y, z),
+    }
+}

@@ -1,0 +1,208 @@
+// Each writer, into as many bytes as its line says; what it does not write has to stay.
+ghost use Prim.Native.Nat.{_≤_};
+use crate::calls;
+use crate::report;
+use crate::wire::twenty;
+use crate::words;
+use bencode_writer::Put;
+use peer_wire::write;
+use refusal::Refusal;
+use refusal::big_endian;
+use refusal::big_endian::Number;
+
+// What the lent output holds before each call.
+const MARK: u8 = 255;
+
+pub fn ask(call: usize, line: &[u8], brief: bool, x: &[u8], y: &[u8], z: &[u8]) {
+    let mut out = [MARK; 1048577];
+    lend(&mut out, call, line, brief, x, y, z);
+}
+
+// The array as a slice, whose length is known here from its type alone.
+fn lend(
+    out: &mut [u8; 1048577],
+    call: usize,
+    line: &[u8],
+    brief: bool,
+    x: &[u8],
+    y: &[u8],
+    z: &[u8],
+) {
+    within(out, call, line, brief, x, y, z);
+}
+
+fn within(out: &mut [u8], call: usize, line: &[u8], brief: bool, x: &[u8], y: &[u8], z: &[u8]) {
+    let room = least(words::number(line, room_at(call)), out.len());
+    let r = put(call, line, &mut out[0..room], x, y, z);
+    show(r, &out[0..room], brief);
+    if call == calls::WRITE_FRAME {
+        again(words::word(line, 1, b' '), y, r, &out[0..room]);
+    }
+}
+
+// The word that is the room.
+fn room_at(call: usize) -> usize {
+    if call == calls::WRITE_TORRENT { 6 } else { 3 }
+}
+
+fn least(n: u64, most: usize) -> usize
+    ensures { λ r. ⌜ r ≤ most ⌝ }
+{
+    if n < most as u64 { n as usize } else { most }
+}
+
+fn put(call: usize, line: &[u8], out: &mut [u8], x: &[u8], y: &[u8], z: &[u8]) -> Put {
+    match call {
+        calls::WRITE_TORRENT => torrent(line, out, x, y, z),
+        calls::WRITE_REPLY => tracker::writing::write(out, words::number(line, 1), y),
+        calls::WRITE_HANDSHAKE => write::handshake(out, &twenty(x), &twenty(y)),
+        _ => frame(out, words::word(line, 1, b' '), y),
+    }
+}
+
+fn torrent(line: &[u8], out: &mut [u8], announce: &[u8], name: &[u8], pieces: &[u8]) -> Put {
+    let piece_length = words::number(line, 3);
+    torrent_authoring::write(
+        out,
+        announce,
+        name,
+        piece_length,
+        pieces,
+        words::number(line, 4),
+    )
+}
+
+// A frame by its id, or a keepalive.
+fn frame(out: &mut [u8], word: &[u8], payload: &[u8]) -> Put {
+    if is_keepalive(word) {
+        return write::keepalive(out);
+    }
+    write::raw(out, id(word), payload)
+}
+
+fn is_keepalive(word: &[u8]) -> bool {
+    words::find(word, 0, b'k') < word.len()
+}
+
+fn id(word: &[u8]) -> u8 {
+    (words::value(word) % 256) as u8
+}
+
+// The bytes written, or the refusal.
+fn show(r: Put, out: &[u8], brief: bool) {
+    match r {
+        Put::To(n) => written(out, n, brief),
+        Put::Refused(r) => refused(r, out),
+    }
+}
+
+fn written(out: &[u8], n: usize, brief: bool) {
+    if out.len() < n {
+        return;
+    }
+    if brief {
+        report::sum(&out[0..n]);
+    } else {
+        report::hex(&out[0..n]);
+    }
+    marks(n, out);
+}
+
+fn refused(r: Refusal, out: &[u8]) {
+    report::refused(r);
+    marks(0, out);
+}
+
+fn marks(from: usize, out: &[u8]) {
+    let mut i = from;
+    while i < out.len() {
+        if out[i] != MARK {
+            return report::name(report::CHANGED);
+        }
+        i += 1;
+    }
+}
+
+// The same frame by the writer of its own kind, which has to leave the same.
+fn again(word: &[u8], payload: &[u8], r: Put, out: &[u8]) {
+    if is_keepalive(word) {
+        return;
+    }
+    let mut space = [MARK; 16500];
+    compare(&mut space, id(word), payload, r, out);
+}
+
+fn compare(space: &mut [u8], id: u8, payload: &[u8], r: Put, out: &[u8]) {
+    let room = out.len();
+    if space.len() < room {
+        return;
+    }
+    let own = by_kind(&mut space[0..room], id, payload);
+    if told(own) != told(r) {
+        return report::name(report::OTHERWISE);
+    }
+    if !check::same(&space[0..room], out) {
+        report::name(report::OTHERWISE);
+    }
+}
+
+// What an answer tells, as a number.
+fn told(r: Put) -> usize {
+    match r {
+        Put::To(n) => n,
+        Put::Refused(r) => 100000 + r.number as usize,
+    }
+}
+
+fn by_kind(out: &mut [u8], id: u8, payload: &[u8]) -> Put {
+    match id {
+        4 => have(out, payload),
+        5 => write::bitfield(out, payload),
+        6 => request(out, payload),
+        7 => piece(out, payload),
+        8 => cancel(out, payload),
+        _ => plain(out, id, payload),
+    }
+}
+
+fn plain(out: &mut [u8], id: u8, payload: &[u8]) -> Put {
+    if payload.len() == 0 {
+        return write::plain(out, id);
+    }
+    write::raw(out, id, payload)
+}
+
+fn have(out: &mut [u8], payload: &[u8]) -> Put {
+    if payload.len() != 4 {
+        return write::raw(out, 4, payload);
+    }
+    write::have(out, four(payload, 0))
+}
+
+fn request(out: &mut [u8], payload: &[u8]) -> Put {
+    if payload.len() != 12 {
+        return write::raw(out, 6, payload);
+    }
+    write::request(out, four(payload, 0), four(payload, 4), four(payload, 8))
+}
+
+fn cancel(out: &mut [u8], payload: &[u8]) -> Put {
+    if payload.len() != 12 {
+        return write::raw(out, 8, payload);
+    }
+    write::cancel(out, four(payload, 0), four(payload, 4), four(payload, 8))
+}
+
+fn piece(out: &mut [u8], payload: &[u8]) -> Put {
+    if payload.len() < 8 {
+        return write::raw(out, 7, payload);
+    }
+    write::piece(out, four(payload, 0), four(payload, 4), &payload[8..])
+}
+
+fn four(bytes: &[u8], at: usize) -> u32 {
+    match big_endian::read4(bytes, at) {
+        Number::Is(n) => (n % 4294967296) as u32,
+        Number::Cut => 0,
+    }
+}
