@@ -7,29 +7,22 @@ use Prim.Native.Char.{code}
 use Prim.Native.String as Text
 use Prim.Native.String.{String}
 use lib.ListN.{getD, replicate}
-use Rattle.refusal.specs.BigEndian.{bigEndian}
-use Rattle.refusal.specs.BigEndian.{bytesOf as numberBytes}
+use Rattle.refusal.specs.BigEndian.{bigEndian, bytesOf as numberBytes}
 use Rattle.refusal.specs.Paper.{Outcome, taken, refused}
 use Rattle.bencode_scalar.specs.Written.{keyLt, decimalIn}
 use Rattle.bencode_scalar.specs.Reading.{digitsVal, digitsLen, stringOf, closedOf, integerOf}
-use Rattle.bencode.specs.Value.{encode}
-use Rattle.bencode.specs.Value.{count as countIn}
+use Rattle.bencode.specs.Value.{encode, count as countIn}
 use Rattle.bencode.specs.Decode.{decode, kindOf, keyOf, itemsOf, entriesOf, valueFrom}
 use Rattle.bencode.specs.Answers.{checkOf}
 use Rattle.bencode_walk.specs.Lookup.{lookup, sameKey}
 use Rattle.torrent_blocks.specs.Rules.{powerFrom, sum, fileLengths, lawful}
-use Rattle.torrent_blocks.specs.Spans.{Span, FilePart, part, joinedFiles, joinedFrom, lengths, endFrom, partsFrom}
-use Rattle.torrent_blocks.specs.Spans.{sizes as sizesIn}
+use Rattle.torrent_blocks.specs.Spans.{Span, FilePart, part, joinedFiles, joinedFrom, lengths, endFrom, partsFrom, sizes as sizesIn}
 use Rattle.torrent_blocks.specs.Answers.{Spot, spot, blockOf, byteOf}
-use Rattle.peer_wire.specs.Message.{Message, have, bitfield}
-use Rattle.peer_wire.specs.Message.{encode as frameOf}
-use Rattle.peer_wire.specs.Frames.{least, most, sizedOf, readOf}
-use Rattle.peer_wire.specs.Frames.{messageOf as messageBy}
-use Rattle.torrent_metainfo.specs.Rules.{clean, goodName, elementsOf, fileOf, lengthsOf, infoOf, topOf, torrentOf}
-use Rattle.torrent_metainfo.specs.Rules.{sizedOf as torrentSized}
+use Rattle.peer_wire.specs.Message.{Message, have, bitfield, encode as frameOf}
+use Rattle.peer_wire.specs.Frames.{least, most, sizedOf, readOf, messageOf as messageBy}
+use Rattle.torrent_metainfo.specs.Rules.{clean, goodName, elementsOf, fileOf, lengthsOf, infoOf, topOf, torrentOf, sizedOf as torrentSized}
 use Rattle.bencode_writer.specs.Escaped.{escapedBy}
-use Rattle.torrent_lines.specs.Lines.{elementsIn, filesIn, fileLines, listingOf}
-use Rattle.torrent_lines.specs.Lines.{slashed}
+use Rattle.torrent_lines.specs.Lines.{elementsIn, filesIn, fileLines, listingOf, slashed}
 use Rattle.yard_tables.specs.Counting.{eachFrom}
 use Rattle.yard_tables.specs.Rows.{orBytes}
 use Rattle.yard_tables.specs.Seats.{cleared}

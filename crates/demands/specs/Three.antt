@@ -5,8 +5,7 @@
 use mathlib.Core.Path.{_≡_, sym, ap, ap₂, _∙_}
 use mathlib.Core.Logic.{_↔_, Iff·trans}
 use mathlib.Core.Bool.{true, false, not, _&&_}
-use mathlib.Core.List.{List, _++_}
-use mathlib.Core.List.{List·Memᴰ as In}
+use mathlib.Core.List.{List, _++_, List·Memᴰ as In}
 use Prim.Native.Nat.{ℕ, _*_, _≤_, _<_, min}
 use native.Mathlib.Omega.{arith}
 use lib.Dec.{eqb}
@@ -17,8 +16,7 @@ use Rattle.yard_tables.specs.Counting.{count, Least}
 use Rattle.yard_tables.specs.Rows.{width, hasIn}
 use Rattle.yard_tables.specs.Seats.{cleared}
 use Rattle.yard_tables.specs.Looks.{firstOr}
-use Rattle.yard_tables.specs.Tables.{Yard, Said, wait, done, serve, dropped, listed, scarce}
-use Rattle.yard_tables.specs.Tables.{seated as givesSeat}
+use Rattle.yard_tables.specs.Tables.{Yard, Said, wait, done, serve, dropped, listed, scarce, seated as givesSeat}
 use Rattle.yard_tables.specs.Step.{Call, start, sit, missing, scarcest, step, written}
 use Rattle.yard_tables.specs.declared.Seat.{Seat}
 use Rattle.yard_tables.specs.declared.Page.{Page}

@@ -15,29 +15,25 @@ use Rattle.refusal.specs.Paper.{taken, refused, map, then}
 use Rattle.refusal.specs.Parts.{bytesAt}
 use Rattle.refusal.specs.declared.Part.{Part}
 use Rattle.bencode.specs.Value.{Value, Items, Entries, str, int, list, dict, empty, entry, encode, count}
-use Rattle.bencode.specs.Answers.{paper as countPaper}
-use Rattle.bencode.specs.Answers.{checkOf}
+use Rattle.bencode.specs.Answers.{paper as countPaper, checkOf}
 use Rattle.bencode.specs.declared.Checked.{Checked}
 use Rattle.bencode_walk.specs.Has.{Has}
 use Rattle.bencode_walk.specs.Lookup.{under, lookup}
-use Rattle.bencode_writer.specs.Put.{left, putOf}
-use Rattle.bencode_writer.specs.Put.{paper as putPaper}
+use Rattle.bencode_writer.specs.Put.{left, putOf, paper as putPaper}
 use Rattle.bencode_writer.specs.declared.Put.{Put}
 use Rattle.hash_sha1.specs.Sha1.{sha1}
 use Rattle.hash_sha1.specs.Digest.{paper as hashPaper, left as hashing, Left as Hashing}
 use Rattle.hash_sha1.specs.declared.Hashed.{Hashed}
 use Rattle.torrent_blocks.specs.Rules.{sum, Lawful, piecesOf}
 use Rattle.torrent_blocks.specs.Spans.{FilePart, part, joinedFiles, partsOf}
-use Rattle.torrent_blocks.specs.Answers.{Spot, partsPaper, placePaper, sizePaper, sizeOf, blockOf, byteOf, flat, partsWritten}
-use Rattle.torrent_blocks.specs.Answers.{left as parting}
+use Rattle.torrent_blocks.specs.Answers.{Spot, partsPaper, placePaper, sizePaper, sizeOf, blockOf, byteOf, flat, partsWritten, left as parting}
 use Rattle.torrent_blocks.specs.Covers.{run, placesOf, Neat}
 use Rattle.torrent_blocks.specs.declared.Parts.{Parts}
 use Rattle.torrent_blocks.specs.declared.Place.{Place}
 use Rattle.torrent_blocks.specs.declared.Size.{Size}
 use Rattle.torrent_blocks.proofs.Whole as whole
 use Rattle.torrent_blocks.proofs.Joined.{joined-laid}
-use Rattle.peer_wire.specs.Message.{Message, FieldsFit, body, keepalive}
-use Rattle.peer_wire.specs.Message.{encode as frameOf}
+use Rattle.peer_wire.specs.Message.{Message, FieldsFit, body, keepalive, encode as frameOf}
 use Rattle.peer_wire.specs.Frames.{found, messageIn, readOf, meant, Lengths, streamOf, encodeAll, KeepAll, writeOf}
 use Rattle.peer_wire.specs.Handshake.{hello, name, handshake, zeros, shakeOf}
 use Rattle.peer_wire.specs.Causes.{Zero, All, Right, named}
@@ -46,8 +42,7 @@ use Rattle.peer_wire.proofs.Exact as frames
 use Rattle.peer_wire.proofs.Written as framing
 use Rattle.peer_wire.proofs.Shaking as shaking
 use Rattle.torrent_metainfo.specs.Keys.{announceKey, infoKey, filesKey, lengthKey, nameKey, pieceLengthKey, piecesKey}
-use Rattle.torrent_metainfo.specs.Reading.{announceIn, nameIn}
-use Rattle.torrent_metainfo.specs.Reading.{paper as torrentPaper, readOf as torrentRead}
+use Rattle.torrent_metainfo.specs.Reading.{announceIn, nameIn, paper as torrentPaper, readOf as torrentRead}
 use Rattle.torrent_metainfo.specs.Hashes.{infoHashOf}
 use Rattle.torrent_metainfo.specs.declared.Torrent.{Torrent}
 use Rattle.torrent_metainfo.specs.declared.Reading.{Reading}
@@ -59,20 +54,17 @@ use Rattle.bencode_fields.specs.Nth.{nth}
 use Rattle.torrent_contents.specs.Files.{foundPaper, entryOf}
 use Rattle.torrent_contents.specs.declared.Entry as file-entry
 use Rattle.torrent_contents.specs.declared.Found as file
-use Rattle.torrent_contents.specs.Pieces.{checkPaper}
-use Rattle.torrent_contents.specs.Pieces.{checkOf as pieceOf, hashPaper as pieceHashPaper, hashOf as pieceHashOf}
+use Rattle.torrent_contents.specs.Pieces.{checkPaper, checkOf as pieceOf, hashPaper as pieceHashPaper, hashOf as pieceHashOf}
 use Rattle.torrent_contents.specs.declared.Hash as hash
 use Rattle.torrent_contents.specs.declared.Checked as piece
-use Rattle.torrent_authoring.specs.Writing.{fields, topWith, infoWith}
-use Rattle.torrent_authoring.specs.Writing.{Fields as Torrents, writeOf as authorOf}
+use Rattle.torrent_authoring.specs.Writing.{fields, topWith, infoWith, Fields as Torrents, writeOf as authorOf}
 use Rattle.torrent_authoring.specs.Reading.{only}
 use Rattle.torrent_authoring.proofs.Written as authored
 use Rattle.torrent_authoring.proofs.Rewriting as again
 use Rattle.tracker.specs.Keys.{interval, peers}
 use Rattle.tracker.specs.Entries.{PeerEntry}
 use Rattle.tracker.specs.Reply.{Answer, compact, sixes, counted, replyOf, nthOf}
-use Rattle.tracker.specs.Reading.{entriesIn, peerPaper}
-use Rattle.tracker.specs.Reading.{paper as replyPaper}
+use Rattle.tracker.specs.Reading.{entriesIn, peerPaper, paper as replyPaper}
 use Rattle.tracker.specs.Writing.{writeOf as replyWrite}
 use Rattle.tracker.specs.Exact.{IsReply, saidEntries, ReplySays, ShowsReply}
 use Rattle.tracker.specs.Walks.{Walked}

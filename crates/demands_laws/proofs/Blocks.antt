@@ -11,12 +11,10 @@ use lib.ListN.{length, getD, take, drop}
 use Rattle.refusal.specs.Paper.{Outcome, taken, refused}
 use Rattle.torrent_blocks.specs.Rules.{sum, Lawful, piecesOf, lawful}
 use Rattle.torrent_blocks.specs.Spans.{Span, FilePart, joinedFiles, heldIn, partsOf, part, nowhere, endOf}
-use Rattle.torrent_blocks.specs.Answers.{Spot, spotAt, pieces, keeps, lies, sizeOf, blockOf, byteOf, flat, partsWritten}
-use Rattle.torrent_blocks.specs.Answers.{left as parting, Left as Parting}
+use Rattle.torrent_blocks.specs.Answers.{Spot, spotAt, pieces, keeps, lies, sizeOf, blockOf, byteOf, flat, partsWritten, left as parting, Left as Parting}
 use Rattle.torrent_blocks.specs.Covers.{Block, BlockCause, ByteCause, SizeCause}
 use Rattle.torrent_blocks.proofs.Legal.{is-lawful, lawful-is, piece-bounds}
-use Rattle.torrent_blocks.proofs.Whole.{byte-finds-piece, is-lies, lies-is}
-use Rattle.torrent_blocks.proofs.Whole.{passed as all-passed}
+use Rattle.torrent_blocks.proofs.Whole.{byte-finds-piece, is-lies, lies-is, passed as all-passed}
 use Rattle.torrent_blocks.proofs.Joined.{joined-laid, joined-start, joined-count, joined-size, joined-keeps, joined-held, joined-end}
 use mathlib.Core.Logic.{_↔_}
 use Rattle.refusal.proofs.Cases.{no-way}

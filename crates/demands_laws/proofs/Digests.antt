@@ -6,8 +6,7 @@ use Prim.Native.Nat.{ℕ, _<_}
 use lib.ListN.{length}
 use Rattle.refusal.specs.Paper.{Outcome, taken, refused}
 use Rattle.refusal.specs.Parts.{bytesAt}
-use Rattle.hash_sha1.specs.Digest.{Left, left, digestOf, agreementOf}
-use Rattle.hash_sha1.specs.Digest.{paper as hashPaper}
+use Rattle.hash_sha1.specs.Digest.{Left, left, digestOf, agreementOf, paper as hashPaper}
 use Rattle.hash_sha1.specs.declared.Hashed.{Hashed}
 use Rattle.hash_sha1.specs.declared.Hashed.the-variants as hashed
 use Rattle.hash_sha1.proofs.Determined.{digest-refusal-keeps, finish-refusal-keeps}

@@ -21,14 +21,13 @@ use Rattle.torrent_laws.specs.Torrent.{OneFile, sizesOf, TorrentFiles, single, 
 use Rattle.torrent_laws.specs.Exact.{PathAt, FilesAt, none-left, file-at, isSingle, EachAt}
 use Rattle.bencode_fields.specs.Nth.{nth}
 use Rattle.bencode_fields.proofs.Nth.{nth-beyond}
-use Rattle.torrent_contents.specs.Files.{single as oneEntry}
+use Rattle.torrent_contents.specs.Files.{single as oneEntry, inInfo, entry, entriesUnder, allEntries, entryIn, entryOf}
 use Rattle.torrent_contents.specs.Walks.{last, next, Walked, FilesWalked}
 use Rattle.torrent_contents.specs.declared.Entry.{Entry}
 use Rattle.torrent_contents.proofs.Walking.{files-walked}
 use Rattle.refusal.proofs.Cases.{no-way}
 use Rattle.refusal.proofs.Outcomes.{then-taken}
 use Rattle.torrent_laws.proofs.Laws.{torrent-exact}
-use Rattle.torrent_contents.specs.Files.{inInfo, entry, entriesUnder, allEntries, entryIn, entryOf}
 use Rattle.demands_laws.specs.Texts.{Encodes, noFile, NumberOf}
 use Rattle.demands_laws.proofs.Texts.{fine}
 

@@ -15,8 +15,7 @@ use Rattle.peer_wire.proofs.Decided.{exactly}
 use Rattle.peer_wire.proofs.Shaking.{shake-exactly}
 use lib.Seq.{length-take-le}
 use Rattle.refusal.specs.BigEndian.{Bytes}
-use Rattle.peer_wire.specs.Message.{Message, FieldsFit, body}
-use Rattle.peer_wire.specs.Message.{encode as frameOf}
+use Rattle.peer_wire.specs.Message.{Message, FieldsFit, body, encode as frameOf}
 use Rattle.peer_wire.specs.Frames.{found, meant, Lengths, readOf, Allowed, writeOf}
 use Rattle.peer_wire.proofs.Exact as frames
 

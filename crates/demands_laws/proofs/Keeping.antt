@@ -15,14 +15,12 @@ use Rattle.yard_tables.specs.Step.{Call, step, ifTaken, writes, written}
 use Rattle.yard_tables.specs.declared.Head.{Head}
 use Rattle.yard_tables.specs.declared.Seat.{Seat}
 use Rattle.yard_tables.specs.declared.Stepped.{Stepped}
-use Rattle.yard_tables.proofs.Keeping.{Keeps, step-keeps}
-use Rattle.yard_tables.proofs.Keeping.{Unused as Unspoken}
+use Rattle.yard_tables.proofs.Keeping.{Keeps, step-keeps, Unused as Unspoken}
 use Rattle.yard_seating.specs.Steps.{begun}
 use Rattle.yard_seating.specs.declared.Begun.{Begun}
 use Rattle.yard_telling.specs.Telling.{codeOf, toldOf, shownOf}
 use Rattle.yard_telling.specs.declared.Told.{Told}
-use Rattle.yard_telling.proofs.Laws.{unused}
-use Rattle.yard_telling.proofs.Laws.{told-kept as untold, shown-kept as unshown}
+use Rattle.yard_telling.proofs.Laws.{unused, told-kept as untold, shown-kept as unshown}
 use mathlib.Core.Logic.{_⊎_, inl, inr}
 use Rattle.refusal.proofs.Cases.{by-test, no-way}
 

@@ -1,8 +1,7 @@
 -- The number of a refusal is one of a list, call by call. Assumes nothing.
 use mathlib.Core.Path.{_≡_, refl}
 use mathlib.Core.Logic.{inl, inr, ⊎-elim}
-use mathlib.Core.List.{List, [], _∷_, _++_, List·Memᴰ·head, List·Memᴰ·tail, Memᴰ·append-left, Memᴰ·append-right}
-use mathlib.Core.List.{List·Memᴰ as In}
+use mathlib.Core.List.{List, [], _∷_, _++_, List·Memᴰ·head, List·Memᴰ·tail, Memᴰ·append-left, Memᴰ·append-right, List·Memᴰ as In}
 use Prim.Native.Nat.{ℕ, zero, suc, _+_, _≤_, _<_}
 use native.Mathlib.Omega.{arith}
 use Rattle.refusal.specs.Paper.{taken, refused, map, then}
@@ -12,8 +11,7 @@ use Rattle.bencode.specs.Answers.{checkOf}
 use Rattle.bencode_laws.proofs.Laws as bencode
 use Rattle.torrent_blocks.specs.Spans.{Span}
 use Rattle.torrent_blocks.specs.Covers.{run, BlockCause, block-range, block-beyond, block-outside, block-room, ByteCause, byte-range, byte-beyond, byte-outside, SizeCause, size-range, size-beyond}
-use Rattle.peer_wire.specs.Causes.{ShakeCause, WriteCause}
-use Rattle.peer_wire.specs.Causes.{Cause as FrameCause}
+use Rattle.peer_wire.specs.Causes.{ShakeCause, WriteCause, Cause as FrameCause}
 use Rattle.tracker.specs.Reply.{replyOf, counted, nthOf}
 use Rattle.tracker.specs.Faults as faults
 use Rattle.torrent_metainfo.specs.Reading.{readOf}
@@ -21,8 +19,7 @@ use Rattle.torrent_metainfo.specs.declared.Torrent.{Torrent}
 use Rattle.torrent_authoring.specs.Writing.{Fields}
 use Rattle.torrent_authoring.specs.Rules as rules
 use Rattle.torrent_laws.proofs.Laws as torrents
-use Rattle.torrent_contents.specs.Pieces.{hashIn, hashOf}
-use Rattle.torrent_contents.specs.Pieces.{checkOf as pieceOf}
+use Rattle.torrent_contents.specs.Pieces.{hashIn, hashOf, checkOf as pieceOf}
 use Rattle.torrent_contents.specs.Files as file
 use Rattle.refusal.proofs.Cases.{same-or}
 use Rattle.demands_laws.proofs.Refusals.{map-refused, then-refused}

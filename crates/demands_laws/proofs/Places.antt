@@ -19,9 +19,8 @@ use Rattle.torrent_metainfo.specs.Reading.{readOf}
 use Rattle.torrent_metainfo.specs.declared.File.{File}
 use Rattle.torrent_metainfo.specs.declared.Content.{Content}
 use Rattle.torrent_metainfo.specs.declared.Torrent.{Torrent}
-use Rattle.torrent_contents.specs.Files.{into, inInfo, entriesFrom, entriesUnder, entryOf}
+use Rattle.torrent_contents.specs.Files.{into, inInfo, entriesFrom, entriesUnder, entryOf, entry as fileEntry, single as oneEntry}
 use Rattle.bencode_fields.specs.Nth.{nth}
-use Rattle.torrent_contents.specs.Files.{entry as fileEntry, single as oneEntry}
 use Rattle.torrent_contents.specs.declared.Entry.{Entry as FileEntry}
 use Rattle.torrent_contents.proofs.Walking.{files-walked}
 use Rattle.tracker.specs.Keys.{failureReason, interval, peers, ip, peerId, port}

@@ -1,12 +1,10 @@
 -- The yard's causes, number by number, as One/Numbers.antt spells them. Assumes nothing.
 use mathlib.Core.Path.{_≡_, refl, sym, subst}
 use mathlib.Core.Logic.{_⊎_, inl, inr, _↔_}
-use mathlib.Core.List.{List, [], _∷_, List·Memᴰ·head, List·Memᴰ·tail}
-use mathlib.Core.List.{List·Memᴰ as In}
+use mathlib.Core.List.{List, [], _∷_, List·Memᴰ·head, List·Memᴰ·tail, List·Memᴰ as In}
 use Prim.Native.Nat.{ℕ, _*_, _≤_, _<_}
 use lib.ListN.{length}
-use Rattle.peer_wire.specs.Message.{Message, have}
-use Rattle.peer_wire.specs.Message.{bitfield as bits}
+use Rattle.peer_wire.specs.Message.{Message, have, bitfield as bits}
 use Rattle.peer_wire.specs.Causes.{TooLong, All, Right}
 use Rattle.yard_tables.specs.Rows.{width, bitAt}
 use Rattle.yard_tables.specs.Step.{Call, start, sit, feed, missing, look, has, count}

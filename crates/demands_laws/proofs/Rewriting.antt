@@ -14,7 +14,7 @@ use Rattle.bencode.specs.Exact.{Fine}
 use Rattle.bencode.proofs.Exact.{fine-taken}
 use Rattle.bencode_walk.specs.Lookup.{lookup, sameKey}
 use Rattle.bencode_fields.specs.Values.{partOf, dictionaryAt}
-use Rattle.bencode_writer.specs.Put.{putOf, left}
+use Rattle.bencode_writer.specs.Put.{putOf, left, paper as putPaper}
 use Rattle.torrent_blocks.specs.Answers.{keeps}
 use Rattle.tracker.specs.Keys.{interval, peers}
 use Rattle.tracker.specs.Entries.{PeerEntry}
@@ -22,7 +22,6 @@ use Rattle.tracker.specs.Reply.{Answer, compact, sixes, replyIn, replyOf}
 use Rattle.tracker.specs.Exact.{packs, IsReply, fails, has-string, has-list, shows-failure, shows-packs, shows-lists, ReplySays, ShowsReply}
 use Rattle.tracker.proofs.Exact.{reply-only}
 use Rattle.tracker.proofs.Rewriting.{rewrite}
-use Rattle.bencode_writer.specs.Put.{paper as putPaper}
 use Rattle.bencode_writer.specs.declared.Put.{Put}
 use Rattle.tracker.proofs.Rewriting as replies
 use Rattle.refusal.proofs.Cases.{no-way}

@@ -1,5 +1,5 @@
 -- What a program made of its tables is a run of the definitions, and demand 3's laws say so of it. Assumes nothing.
-use mathlib.Core.List.{List, [], _∷_, _++_}
+use mathlib.Core.List.{List, [], _∷_, _++_, List·Memᴰ as In}
 use Prim.Native.Nat.{ℕ}
 use native.Mathlib.Omega.{arith}
 use lib.ListN.{length}
@@ -12,7 +12,6 @@ use Rattle.yard_laws.specs.History.{History, entry, pieces}
 use Rattle.yard_laws.specs.Run.{State, Accepted, next, run, after}
 use Rattle.yard.proofs.Looking.{missing-changes-nothing, scarcest-changes-nothing, look-changes-nothing, has-changes-nothing, count-changes-nothing}
 use mathlib.Core.Bool.{true, false, Bool, true≢false}
-use mathlib.Core.List.{List·Memᴰ as In}
 use Rattle.peer_wire.specs.Causes.{Few, Cut}
 use Rattle.yard_laws.specs.Causes.{Sits, Cause, WaitCause, cut-off}
 use Rattle.yard_tables.proofs.Sizing.{Fitting, fitting}

@@ -11,8 +11,7 @@ use Rattle.refusal.specs.Limits.{mostText, longestInterval}
 use Rattle.bencode_writer.specs.Put.{Left, left, putOf}
 use Rattle.bencode_writer.specs.declared.Put.the-variants.{Refused}
 use Rattle.bencode_writer.proofs.Laws.{put-none, refusal-keeps}
-use Rattle.tracker.specs.Writing.{textOf}
-use Rattle.tracker.specs.Writing.{writeOf as replyText}
+use Rattle.tracker.specs.Writing.{textOf, writeOf as replyText}
 use Rattle.tracker.specs.Faults.{NotWritten, too-late, not-sixes, too-long, no-room}
 use Rattle.tracker.proofs.Rewriting as replies
 use Rattle.torrent_authoring.specs.Writing as author

@@ -3,8 +3,7 @@ use mathlib.Core.List.{[], _∷_}
 use Prim.Native.Nat.{ℕ}
 use Rattle.refusal.specs.Paper.{taken}
 use Rattle.yard_tables.specs.Tables.{Yard, done}
-use Rattle.yard_tables.specs.Step.{Call, start, missing, scarcest, look, has, step, written}
-use Rattle.yard_tables.specs.Step.{count as countCall}
+use Rattle.yard_tables.specs.Step.{Call, start, missing, scarcest, look, has, step, written, count as countCall}
 use Rattle.yard_tables.specs.declared.Seat.{Seat}
 use Rattle.yard_telling.specs.Telling.{Steps, Tells, Looks, Shows}
 use Rattle.yard_telling.specs.declared.Told.{Told}

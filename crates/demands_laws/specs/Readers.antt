@@ -11,8 +11,7 @@ use Rattle.torrent_metainfo.specs.Reading.{readOf}
 use Rattle.torrent_metainfo.specs.Hashes.{infoHashOf}
 use Rattle.torrent_metainfo.specs.declared.Torrent.{Torrent}
 use Rattle.torrent_contents.specs.Files.{entryOf}
-use Rattle.torrent_contents.specs.Pieces.{hashOf}
-use Rattle.torrent_contents.specs.Pieces.{checkOf as pieceOf}
+use Rattle.torrent_contents.specs.Pieces.{hashOf, checkOf as pieceOf}
 use Rattle.torrent_contents.specs.declared.Entry.{Entry}
 
 -- each with what it is asked beside the text

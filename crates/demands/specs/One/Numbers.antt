@@ -47,8 +47,7 @@ use Rattle.torrent_laws.specs.Causes.{NoTorrentText}
 use Rattle.torrent_laws.proofs.Laws as torrents
 use Rattle.torrent_contents.specs.Files as file
 use Rattle.torrent_contents.specs.Pieces as piece
-use Rattle.peer_wire.specs.Message.{Message, have}
-use Rattle.peer_wire.specs.Message.{bitfield as bits}
+use Rattle.peer_wire.specs.Message.{Message, have, bitfield as bits}
 use Rattle.yard_tables.specs.Rows.{width, bitAt}
 use Rattle.yard_tables.specs.Tables.{Yard, wait}
 use Rattle.yard_tables.specs.Step.{Call, start, sit, feed, missing, look, has, count, step}

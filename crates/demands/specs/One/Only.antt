@@ -1,8 +1,7 @@
 -- Statement 4 of demand 1, the rest of it: a call refuses by no number but those that One/Numbers.antt states for it. Call by call, the numbers that a
 -- refusal may have, under the words of document 01 that give them. Assumes nothing.
 use mathlib.Core.Path.{_≡_}
-use mathlib.Core.List.{List, [], _∷_}
-use mathlib.Core.List.{List·Memᴰ as In}
+use mathlib.Core.List.{List, [], _∷_, List·Memᴰ as In}
 use Prim.Native.Nat.{ℕ}
 use lib.ListN.{length}
 use Rattle.refusal.specs.Paper.{refused, map, then}

@@ -2,8 +2,7 @@
 use mathlib.Core.List.{List}
 use mathlib.Core.Path.{_≡_}
 use Prim.Native.Nat.{ℕ}
-use Rattle.bencode_writer.specs.Put.{paper as putPaper}
-use Rattle.bencode_writer.specs.Put.{left}
+use Rattle.bencode_writer.specs.Put.{paper as putPaper, left}
 use Rattle.bencode_writer.specs.declared.Put.{Put}
 use Rattle.torrent_authoring.specs.Writing.{fields, writeOf, sizeOf, paper}
 use Rattle.torrent_authoring.specs.declared.Sized.{Sized}

@@ -7,8 +7,7 @@ use Rattle.peer_wire.specs.Frames.{writeOf as frameOf}
 use Rattle.peer_wire.specs.Handshake.{handshake, zeros}
 use Rattle.peer_wire.specs.Message.{keepalive, encode}
 use Rattle.tracker.specs.Writing.{writeOf as replyTextOf}
-use Rattle.torrent_authoring.specs.Writing.{writeOf as torrentTextOf}
-use Rattle.torrent_authoring.specs.Writing.{fields, sizeOf}
+use Rattle.torrent_authoring.specs.Writing.{writeOf as torrentTextOf, fields, sizeOf}
 use Rattle.wardrail.specs.Said.{detailOf, Tells}
 use Rattle.wardrail.specs.Writers.{Wrote}
 use Rattle.wardrail.proofs.Keeping as kept

@@ -4,8 +4,7 @@ use mathlib.Core.Path.{_≡_, sym, _∙_}
 use Prim.Native.Nat.{ℕ, _≤_}
 use lib.ListN.{length}
 use Rattle.refusal.specs.Paper.{taken}
-use Rattle.bencode_writer.specs.Put.{paper as putPaper}
-use Rattle.bencode_writer.specs.Put.{left, putOf}
+use Rattle.bencode_writer.specs.Put.{paper as putPaper, left, putOf}
 use Rattle.bencode_writer.specs.declared.Put.{Put}
 use Rattle.torrent_lines.specs.Lines.{mostPrinted, listingOf}
 use Rattle.torrent_lines.proofs.Laws as laws

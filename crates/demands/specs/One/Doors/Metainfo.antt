@@ -4,8 +4,7 @@ use mathlib.Core.Path.{_≡_, sym, _∙_}
 use Prim.Native.Nat.{ℕ, _+_, min}
 use lib.ListN.{length}
 use Rattle.refusal.specs.Parts.{bytesAt}
-use Rattle.hash_sha1.specs.Digest.{paper as hashPaper}
-use Rattle.hash_sha1.specs.Digest.{left}
+use Rattle.hash_sha1.specs.Digest.{paper as hashPaper, left}
 use Rattle.hash_sha1.specs.declared.Hashed.{Hashed}
 use Rattle.torrent_metainfo.specs.Hashes.{infoHashOf}
 use Rattle.torrent_metainfo.specs.Reading.{paper, readOf, announceIn, nameIn, filePaper, fileAt}

@@ -3,8 +3,7 @@ use mathlib.Core.List.{List}
 use mathlib.Core.Path.{_≡_}
 use Prim.Native.Nat.{ℕ}
 use Rattle.peer_wire.specs.Frames.{readOf, paper}
-use Rattle.peer_wire.specs.Handshake.{paper as shaken}
-use Rattle.peer_wire.specs.Handshake.{shakeOf}
+use Rattle.peer_wire.specs.Handshake.{paper as shaken, shakeOf}
 use Rattle.peer_wire.specs.declared.Greeting.{Greeting}
 use Rattle.peer_wire.specs.declared.Read.{Read}
 use Rattle.peer_wire.proofs.Determined as laws
