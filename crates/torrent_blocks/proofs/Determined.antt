@@ -18,6 +18,9 @@ use Rattle.torrent_blocks.specs.declared.Place.the-variants.{At, Refused
 use Rattle.torrent_blocks.specs.declared.Size.{Size}
 use Rattle.torrent_blocks.specs.declared.Size.the-variants.{Bytes, Refused as Unknown}
 use Rattle.torrent_blocks.specs.declared.rules.Total.{Total}
+use Rattle.torrent_blocks.specs.declared.ContentOffset.{ContentOffset}
+use Rattle.torrent_blocks.specs.declared.PieceNumber.{PieceNumber}
+use Rattle.torrent_blocks.specs.declared.PieceOffset.{PieceOffset}
 
 -- the answers that the paper's words say
 abbrev partsAs : Outcome ℕ → Parts
@@ -81,3 +84,13 @@ totalIs x = record { 0 = x }
 
 pub total-determined : (t n : ℕ) (r s : Total) → r .0 ≡ min (t + n) largest → s .0 ≡ min (t + n) largest → r ≡ s
 total-determined t n r s e f = ap totalIs (e ∙ sym f)
+
+-- a number of each numbering
+pub content-determined : (n : ℕ) (r s : ContentOffset) → r .0 ≡ n → s .0 ≡ n → r ≡ s
+content-determined n r s e f = ap {B = ContentOffset} (λ (x : ℕ). record { 0 = x }) (e ∙ sym f)
+
+pub number-determined : (n : ℕ) (r s : PieceNumber) → r .0 ≡ n → s .0 ≡ n → r ≡ s
+number-determined n r s e f = ap {B = PieceNumber} (λ (x : ℕ). record { 0 = x }) (e ∙ sym f)
+
+pub offset-determined : (n : ℕ) (r s : PieceOffset) → r .0 ≡ n → s .0 ≡ n → r ≡ s
+offset-determined n r s e f = ap {B = PieceOffset} (λ (x : ℕ). record { 0 = x }) (e ∙ sym f)

@@ -21,7 +21,7 @@ use Rattle.torrent_blocks.specs.declared.Size.{Size}
 use Rattle.torrent_blocks.specs.declared.Size.the-variants.{Refused as Unknown}
 use Rattle.torrent_blocks.specs.declared.PieceNumber.{PieceNumber}
 use Rattle.torrent_blocks.specs.declared.PieceOffset.{PieceOffset}
-use Rattle.torrent_blocks.proofs.Legal.{tests-are, lawful-is, piece-bounds, few-pieces, starts-inside}
+use Rattle.torrent_blocks.proofs.Legal.{tests-are, lawful-is, piece-bounds, few-pieces}
 use Rattle.torrent_blocks.proofs.Joined.{joined-end, joined-count, joined-size, joined-start, joined-held, joined-keeps}
 use Rattle.torrent_blocks.proofs.Steps.{sum-parts, before-step}
 
@@ -64,9 +64,6 @@ module _ (ns : List ℕ) (pl : ℕ) where
 
       pub test-holds : t ≡ true → Known total
       test-holds f = known (sym test-is ∙ sym q ∙ f)
-
-pub piece-starts : (ns : List ℕ) (pl total : ℕ) → Known ns pl total → (p : ℕ) → p < piecesOf total pl → p * pl ≤ total
-piece-starts ns pl total k p h = omega (arith, starts-inside total pl (omega (arith, k .low)) p h)
 
 -- ---- a block
 

@@ -5,13 +5,14 @@ use mathlib.Core.Logic.{_⊎_, inl, inr, ⊎-elim}
 use mathlib.Core.List.{List, [], _∷_}
 use Prim.Native.Nat.{ℕ, zero, suc, _+_, _-_, _*_, _/_, _%_, _^_, _≤_, _<_, min}
 use native.Mathlib.Omega.{arith}
-use native.Mathlib.Nat.{add-mul, suc-mul, div-zero, div-eq-of-lt-le, div-add-mod', mod-lt, div-lt-iff-lt-mul, le-div-iff-mul-le, mul-le-mul}
+use native.Mathlib.Nat.{add-mul, suc-mul, mul-zero, div-zero, mod-zero, div-eq-of-lt-le, div-add-mod', mod-lt, div-lt-iff-lt-mul, le-div-iff-mul-le, mul-le-mul}
 use lib.Dec.{leb, eqb}
 use lib.ListN.{length, getD}
 use lib.Pow.{pow-mono}
 use borrow.Author.Tests.{eqb-true, eq-eqb, ne-eqb, le-leb, lt-leb, leb-true}
 use Rattle.refusal.specs.Limits.{longestFile, longestPiece, shortestPiece, mostFiles, mostPieces}
 use Rattle.refusal.proofs.Cases.{cannot, lt-or-le, both, or-cases}
+use Rattle.torrent_blocks.specs.Numberings.{widest, contentOffset, pieceNumber, pieceOffset}
 use Rattle.torrent_blocks.specs.Rules.{powerFrom, pieceLength, fileLength, fileCount, piecesOf, totalAnd, largest, sum, fileLengths, lawful, PieceLength, Lawful}
 
 -- ---- a piece length is a power of two
@@ -180,3 +181,25 @@ tests-are pl ns total e = by (pieceLength pl) refl
 -- the product of a number of 32 bits and a piece length
 pub product : (p pl : ℕ) → p < 2 ^ 32 → pl ≤ 2 ^ 24 → p * pl + 2 ^ 32 < 2 ^ 57
 product p pl h l = let e : p * pl ≤ (2 ^ 32 - 1) * 2 ^ 24 = mul-le-mul {n₂ = 2 ^ 32 - 1} {m₂ = 2 ^ 24} (omega arith) (omega arith) in omega arith
+
+-- ---- the three numberings
+
+module _ (pl p o : ℕ) where
+  pub offset-none : pl ≡ 0 → o < 2 ^ 32 → o ≡ contentOffset pl p o
+  offset-none e h = let z : p * pl ≡ 0 = ap (λ (x : ℕ). p * x) e ∙ mul-zero p in omega arith
+
+  pub offset-over : 0 < pl → o < 2 ^ 32 → (largest - o) / pl < p → largest ≡ contentOffset pl p o
+  offset-over z h l = let e : largest - o < p * pl = div-lt-iff-lt-mul {k = pl} {x = largest - o} {y = p} z .0 l in omega arith
+
+  pub offset-within : 0 < pl → o < 2 ^ 32 → p ≤ (largest - o) / pl → p * pl + o ≤ largest
+  offset-within z h l = let e : p * pl ≤ largest - o = le-div-iff-mul-le {k = pl} {x = p} {y = largest - o} z .0 l in omega arith
+
+  -- of a number of 32 bits and a piece length it is what it says
+  pub offset-exact : {r : ℕ} → pl ≤ 2 ^ 24 → p < 2 ^ 32 → o < 2 ^ 32 → r ≡ contentOffset pl p o → (r ≡ p * pl + o) × (r < 2 ^ 57)
+  offset-exact h i j e = let q = product p pl i h in (omega arith, omega arith)
+
+pub number-none : (pl x : ℕ) → pl ≡ 0 → 0 ≡ pieceNumber pl x
+number-none pl x e = let z : x / pl ≡ 0 = ap (λ (y : ℕ). x / y) e ∙ div-zero x in omega arith
+
+pub rest-none : (pl x r : ℕ) → pl ≡ 0 → r ≡ min x widest → r ≡ pieceOffset pl x
+rest-none pl x r e h = let z : x % pl ≡ x = ap (λ (y : ℕ). x % y) e ∙ mod-zero x in omega arith

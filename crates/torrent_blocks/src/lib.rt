@@ -5,10 +5,11 @@ pub mod rules;
 ghost use mathlib.Core.Path.{_≡_};
 ghost use mathlib.Core.Bool.{_&&_};
 ghost use mathlib.Core.List.{[], _∷_};
-ghost use Prim.Native.Nat.{ℕ, _+_, _-_, _*_, _/_, _%_, _^_, _<_, _≤_, max, min};
+ghost use Prim.Native.Nat.{ℕ, _+_, _-_, _*_, _^_, _<_, _≤_, max, min};
 ghost use lib.ListN.{length, take};
 ghost use lib.Seq.{sets};
 ghost use Rattle.torrent_blocks.specs.Rules.{pieceLength, fileCount, piecesOf, totalAnd, largest, sum};
+ghost use Rattle.torrent_blocks.specs.Numberings.{widest, contentOffset, pieceNumber, pieceOffset, pieceBytes};
 ghost use Rattle.torrent_blocks.specs.Spans.{joinedFiles, partsFrom};
 ghost use Rattle.torrent_blocks.specs.Steps.{filesFrom, totalFrom, onwards};
 ghost use Rattle.torrent_blocks.specs.Answers.{partsPaper, placePaper, sizePaper, lies, sizeOf, blockOf, byteOf, flat, left, partsWritten};
@@ -72,7 +73,7 @@ pub fn block(
     if rules::pieces(total, piece_length) <= piece.0 as u64 {
         return no_parts(number::BEYOND);
     }
-    if !lies_within(held(total, piece_length, piece), offset, count) {
+    if !lies_within(piece_bytes(total, piece_length, piece), offset, count) {
         return no_parts(number::OUTSIDE);
     }
     if out.len() / 3 < run.parts {
@@ -121,7 +122,52 @@ pub fn piece_size(lengths: &[u64], piece_length: u64, piece: PieceNumber) -> Siz
     if rules::pieces(total, piece_length) <= piece.0 as u64 {
         return unknown(number::BEYOND);
     }
-    Size::Bytes(held(total, piece_length, piece))
+    Size::Bytes(piece_bytes(total, piece_length, piece))
+}
+
+// The place in the content of an offset of a piece. One past every number of 64 bits is the largest.
+pub fn content_offset(piece_length: u64, piece: PieceNumber, offset: PieceOffset) -> ContentOffset
+    ensures { λ r. ⌜ r .0 ≡ contentOffset «piece_length» (piece .0) (offset .0) ⌝ }
+{
+    let start = offset.0 as u64;
+    if piece_length == 0 {
+        return ContentOffset(start);
+    }
+    if (18446744073709551615 - start) / piece_length < piece.0 as u64 {
+        return ContentOffset(18446744073709551615);
+    }
+    ContentOffset((piece.0 as u64) * piece_length + (offset.0 as u64))
+}
+
+// The piece of a place in the content; 0 where the piece length is 0. One past every number of 32 bits is the largest, which is no piece.
+pub fn piece_number(piece_length: u64, place: ContentOffset) -> PieceNumber
+    ensures { λ r. ⌜ r .0 ≡ pieceNumber «piece_length» (place .0) ⌝ }
+{
+    if piece_length == 0 {
+        return PieceNumber(0);
+    }
+    PieceNumber(capped(place.0 / piece_length))
+}
+
+// The offset of a place in its piece.
+pub fn piece_offset(piece_length: u64, place: ContentOffset) -> PieceOffset
+    ensures { λ r. ⌜ r .0 ≡ pieceOffset «piece_length» (place .0) ⌝ }
+{
+    if piece_length == 0 {
+        return PieceOffset(capped(place.0));
+    }
+    PieceOffset(capped(place.0 % piece_length))
+}
+
+// How many bytes a piece has: the piece length, what is left for the last, none past that.
+pub fn piece_bytes(total: Total, piece_length: u64, piece: PieceNumber) -> u64
+    ensures { λ r. ⌜ r ≡ pieceBytes (total .0) «piece_length» (piece .0) ⌝ }
+{
+    let start = content_offset(piece_length, piece, PieceOffset(0));
+    if total.0 <= start.0 {
+        return 0;
+    }
+    smaller(piece_length, total.0 - start.0)
 }
 
 // A file's number and the total of the files before it, where it starts in the content.
@@ -134,13 +180,6 @@ struct File {
 struct Run {
     parts: usize,
     next: File,
-}
-
-fn content_offset(piece_length: u64, piece: PieceNumber, offset: PieceOffset) -> ContentOffset
-    requires { ⌜ «piece_length» ≤ 2 ^ 24 ⌝ }
-    ensures { λ r. ⌜ (r .0 ≡ piece .0 * «piece_length» + offset .0) × (r .0 < 2 ^ 57) ⌝ }
-{
-    ContentOffset((piece.0 as u64) * piece_length + (offset.0 as u64))
 }
 
 fn past(from: ContentOffset, count: u32) -> ContentOffset
@@ -157,20 +196,6 @@ fn in_file(file: File, offset: u64) -> ContentOffset
     ContentOffset(file.start.0 + offset)
 }
 
-fn piece_number(piece_length: u64, place: ContentOffset) -> PieceNumber
-    requires { ⌜ (0 < «piece_length») × (place .0 / «piece_length» < 16384) ⌝ }
-    ensures { λ r. ⌜ r .0 ≡ place .0 / «piece_length» ⌝ }
-{
-    PieceNumber((place.0 / piece_length) as u32)
-}
-
-fn piece_offset(piece_length: u64, place: ContentOffset) -> PieceOffset
-    requires { ⌜ (0 < «piece_length») × («piece_length» ≤ 2 ^ 24) ⌝ }
-    ensures { λ r. ⌜ r .0 ≡ place .0 % «piece_length» ⌝ }
-{
-    PieceOffset((place.0 % piece_length) as u32)
-}
-
 // The rules for a piece length, a number of files and their total. A file that is too long makes the total too large.
 fn keeps_rules(piece_length: u64, files: usize, total: Total) -> bool
     ensures { λ r. ⌜ r ≡ pieceLength «piece_length» && (fileCount files && totalAnd (total .0) (piecesOf (total .0) «piece_length»)) ⌝ }
@@ -182,14 +207,6 @@ fn keeps_rules(piece_length: u64, files: usize, total: Total) -> bool
         return false;
     }
     rules::legal_total(total, piece_length)
-}
-
-// How many bytes a piece that starts within the total has.
-fn held(total: Total, piece_length: u64, piece: PieceNumber) -> u64
-    requires { ⌜ piece .0 * «piece_length» ≤ total .0 ⌝ }
-    ensures { λ r. ⌜ r ≡ min «piece_length» (total .0 - piece .0 * «piece_length») ⌝ }
-{
-    smaller(piece_length, total.0 - piece.0 as u64 * piece_length)
 }
 
 // Whether a block of so many bytes may be, and its last byte lies within its piece.
@@ -317,6 +334,15 @@ fn reach(lengths: &[u64], file: usize) -> File
         i += 1;
     }
     File { number: i, start }
+}
+
+fn capped(n: u64) -> u32
+    ensures { λ r. ⌜ r ≡ min n widest ⌝ }
+{
+    if 4294967295 < n {
+        return 4294967295;
+    }
+    n as u32
 }
 
 fn larger(a: u64, b: u64) -> u64

@@ -2,7 +2,7 @@
 use mathlib.Core.Path.{_≡_}
 use mathlib.Core.Bool.{Bool, true, false, cond}
 use mathlib.Core.List.{List}
-use Prim.Native.Nat.{ℕ, _+_, _-_, _*_, _<_, min}
+use Prim.Native.Nat.{ℕ, _+_, _*_, _<_}
 use lib.Dec.{ltb, leb, eqb}
 use lib.ListN.{length}
 use Rattle.refusal.specs.Paper.{Outcome, taken, refused, refusal, then}
@@ -12,6 +12,7 @@ use Rattle.refusal.specs.Parts.{bytesAt}
 use Rattle.refusal.specs.declared.Part.{Part}
 use Rattle.hash_sha1.specs.Sha1.{sha1}
 use Rattle.hash_sha1.specs.Digest.{same}
+pub use Rattle.torrent_blocks.specs.Numberings.{pieceBytes}
 use Rattle.torrent_metainfo.specs.Reading.{readOf}
 use Rattle.torrent_metainfo.specs.declared.Torrent.{Torrent}
 use Rattle.torrent_contents.specs.declared.Hash.{Hash}
@@ -38,10 +39,6 @@ hashIn n t = cond (ltb n (t .«piece_count»)) (taken (hashPart n (t .pieces))) 
 -- the torrent's refusals, then 31
 abbrev pub hashOf : List ℕ → ℕ → Outcome Part
 hashOf s n = then (readOf s) (hashIn n)
-
--- how many bytes piece n has: the piece length, or what is left for the last
-abbrev pub pieceBytes : ℕ → ℕ → ℕ → ℕ
-pieceBytes total pl n = min pl (total - n * pl)
 
 -- whether the digest of m is the hash of piece n: 8 for a long m, 34 for one of another length
 abbrev pub checkAgainst : List ℕ → ℕ → List ℕ → Torrent → Part → Outcome Bool

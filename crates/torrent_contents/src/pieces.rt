@@ -2,9 +2,9 @@
 ghost use mathlib.Core.Path.{_≡_};
 ghost use Prim.Native.Nat.{_+_, _*_, _≤_};
 ghost use Rattle.refusal.specs.Numbers.{beyond};
-ghost use Rattle.refusal.specs.Limits.{mostText, longestPiece};
+ghost use Rattle.refusal.specs.Limits.{mostText};
 ghost use Rattle.hash_sha1.specs.Digest.{agreementOf};
-ghost use Rattle.torrent_contents.specs.Pieces.{hashPaper, hashIn, checkPaper, checkIn, pieceBytes};
+ghost use Rattle.torrent_contents.specs.Pieces.{hashPaper, hashIn, checkPaper, checkIn};
 use crate::Checked;
 use crate::Hash;
 use hash_sha1::Agreement;
@@ -12,6 +12,7 @@ use refusal::Part;
 use refusal::limit;
 use refusal::number;
 use torrent_blocks::PieceNumber;
+use torrent_blocks::rules::Total;
 use torrent_metainfo::Torrent;
 
 // Where the hash of a piece of the torrent `t` stands.
@@ -31,7 +32,7 @@ pub fn hash(t: Torrent, piece: PieceNumber) -> Hash
 
 // Whether these are the bytes of a piece of the torrent `t`, which `text` is.
 pub fn check(text: &[u8], t: Torrent, piece: PieceNumber, bytes: &[u8]) -> Checked
-    requires { ⌜ (t .pieces .from + 20 * t .«piece_count» ≤ mostText) × (t .«piece_length» ≤ longestPiece) ⌝ }
+    requires { ⌜ t .pieces .from + 20 * t .«piece_count» ≤ mostText ⌝ }
     ensures { λ r. ⌜ checkPaper r ≡ checkIn (now (text .entry)) (piece .0) (now (bytes .entry)) t ⌝ }
 {
     match hash(t, piece) {
@@ -40,29 +41,15 @@ pub fn check(text: &[u8], t: Torrent, piece: PieceNumber, bytes: &[u8]) -> Check
                 return refused(number::LONG);
             }
             let content = t.content;
-            if bytes.len() as u64 == size(content.total, t.piece_length, piece) {
+            if bytes.len() as u64
+                == torrent_blocks::piece_bytes(Total(content.total), t.piece_length, piece)
+            {
                 return agrees(bytes, bencode_walk::bytes(text, part));
             }
             refused(number::OUTSIDE)
         }
         Hash::Refused(r) => Checked::Refused(r),
     }
-}
-
-// How many bytes a piece has: the piece length, or what is left for the last.
-fn size(total: u64, piece_length: u64, piece: PieceNumber) -> u64
-    requires { ⌜ «piece_length» ≤ longestPiece ⌝ }
-    ensures { λ r. ⌜ r ≡ pieceBytes total «piece_length» (piece .0) ⌝ }
-{
-    let start = (piece.0 as u64) * piece_length;
-    if total <= start {
-        return 0;
-    }
-    let left = total - start;
-    if left < piece_length {
-        return left;
-    }
-    piece_length
 }
 
 fn agrees(bytes: &[u8], hash: &[u8]) -> Checked

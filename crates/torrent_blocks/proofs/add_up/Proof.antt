@@ -18,21 +18,6 @@ abbrev μ-loop : tie.MeasureT-loop
 loop-holds : tie.Need-loop-holds Inv-loop μ-loop
 loop-holds c = (omega arith, refl, omega arith)
 
-mul-with-file : tie.Need-mul-with-file Inv-loop μ-loop
-mul-with-file c = search needs
-
-shared-slice-read-with-file : tie.Need-shared-slice-read-with-file Inv-loop μ-loop
-shared-slice-read-with-file c = search needs
-
-with-file-requires : tie.Need-with-file-requires Inv-loop μ-loop
-with-file-requires c κs = search needs
-
-add-i : tie.Need-add-i Inv-loop μ-loop
-add-i c = search needs
-
-loop-less : tie.Need-loop-less Inv-loop μ-loop
-loop-less c = search needs
-
 loop-again : tie.Need-loop-again Inv-loop μ-loop
 loop-again c =
     let l = c .before .before .before .loop in
@@ -47,13 +32,4 @@ pub add-up-spec : {M : Type 1} → statement M
 add-up-spec =
     tie.close
     (tie.spec
-    Inv-loop
-    μ-loop
-    loop-holds
-    mul-with-file
-    shared-slice-read-with-file
-    with-file-requires
-    add-i
-    loop-less
-    loop-again
-    returns)
+    Inv-loop μ-loop loop-holds (λ c. search needs) (λ c. search needs) (λ c κs. search needs) (λ c. search needs) (λ c. search needs) loop-again returns)

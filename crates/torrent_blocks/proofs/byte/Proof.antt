@@ -2,29 +2,17 @@
 use borrow.Author.Needs.{needs}
 use Rattle.torrent_blocks.proofs.Ends.{Known, test-fails, test-holds, reached-all, byte-11, byte-31, byte-34, byte-done, place-inside, place-number}
 use borrow.Author.Tests.{not-true, not-false}
+use mathlib.Core.Path.{_≡_}
+use Prim.Native.Nat.{_/_, _%_}
+use native.Mathlib.Nat.{mod-lt}
 use native.Mathlib.Omega.{arith}
 use Rattle.torrent_blocks.proofs.byte.Statement.{statement}
 use Rattle.torrent_blocks.proofs.byte.Tie as tie
-
-reach-requires : tie.Need-reach-requires
-reach-requires c κs = search needs
-
-add-up-requires : tie.Need-add-up-requires
-add-up-requires c κs = search needs
-
-keeps-rules-requires : tie.Need-keeps-rules-requires
-keeps-rules-requires c κs = search needs
-
-nowhere-requires : tie.Need-nowhere-requires
-nowhere-requires c κs = search needs
 
 returns : tie.Need-returns
 returns c =
     let a = c .before .before .before .before .before .before .args in
     byte-11 (a .lengths .now) (a .piece-length) (a .file) (a .offset) (c .nowhere .ensures) (test-fails (a .lengths .now) (a .piece-length) (c .before .before .before .add-up .result .0) (reached-all (a .lengths .now) (c .before .before .before .before .reach .result .number) (c .before .before .before .before .reach .result .start .0) (c .before .before .before .add-up .result .0) (c .before .before .before .before .reach .ensures .1) (c .before .before .before .add-up .ensures)) (c .before .before .keeps-rules .ensures) (not-true (c .before .before .keeps-rules .result) (c .before .if1 .taken)))
-
-nowhere-requires-2 : tie.Need-nowhere-requires-2
-nowhere-requires-2 c κs = search needs
 
 abbrev entry1 : tie.Else1 → tie.Start
 entry1 c = c .before .before .before .before .before
@@ -39,15 +27,6 @@ returns-2 c =
     let a = c .before .before .before .before .before .before .before .args in
     byte-31 (a .lengths .now) (a .piece-length) (a .file) (a .offset) (c .before .before .before .before .add-up .result .0) (rules-kept (c .before .before)) (c .nowhere2 .ensures) (omega arith)
 
-mul-if3 : tie.Need-mul-if3
-mul-if3 c = search needs
-
-shared-slice-read-if3 : tie.Need-shared-slice-read-if3
-shared-slice-read-if3 c = search needs
-
-nowhere-requires-3 : tie.Need-nowhere-requires-3
-nowhere-requires-3 c κs = search needs
-
 returns-3 : tie.Need-returns-3
 returns-3 c =
     let a = c .before .before .before .before .before .before .before .before .before .args in
@@ -58,35 +37,18 @@ in-file-requires c κs =
     let a = c .before .before .before .before .before .before .before .before .args in
     let k = (rules-kept (c .before .before .before)) in omega (arith, place-inside (a .lengths .now) (a .piece-length) (a .file) (a .offset) (c .before .before .before .before .before .add-up .result .0) (rules-kept (c .before .before .before)) (omega arith) (omega arith) (c .before .before .before .before .before .before .reach .result .number) (c .before .before .before .before .before .before .reach .result .start .0) (c .before .before .before .before .before .before .reach .ensures .0) (c .before .before .before .before .before .before .reach .ensures .1))
 
-piece-number-requires : tie.Need-piece-number-requires
-piece-number-requires c κs =
-    let a = c .before .before .before .before .before .before .before .before .before .args in
-    let k = (rules-kept (c .before .before .before .before)) in (omega arith, place-number (a .lengths .now) (a .piece-length) (a .file) (a .offset) (c .before .before .before .before .before .before .add-up .result .0) (rules-kept (c .before .before .before .before)) (omega arith) (omega arith) (c .before .before .before .before .before .before .before .reach .result .number) (c .before .before .before .before .before .before .before .reach .result .start .0) (c .before .before .before .before .before .before .before .reach .ensures .0) (c .before .before .before .before .before .before .before .reach .ensures .1) (c .in-file .result .0) (c .in-file .ensures))
-
-piece-offset-requires : tie.Need-piece-offset-requires
-piece-offset-requires c κs = let k = (rules-kept (c .before .before .before .before .before)) in (omega arith, omega arith)
-
 returns-4 : tie.Need-returns-4
 returns-4 c =
     let a = c .before .before .before .before .before .before .before .before .before .before .before .args in
-    byte-done (a .lengths .now) (a .piece-length) (a .file) (a .offset) (c .before .before .before .before .before .before .before .before .add-up .result .0) (rules-kept (c .before .before .before .before .before .before)) (omega arith) (omega arith) (c .before .before .before .before .before .before .before .before .before .reach .result .number) (c .before .before .before .before .before .before .before .before .before .reach .result .start .0) (c .before .before .before .before .before .before .before .before .before .reach .ensures .0) (c .before .before .before .before .before .before .before .before .before .reach .ensures .1) (c .before .before .in-file .result .0) (c .before .piece-number .result) (c .piece-offset .result) (c .before .before .in-file .ensures) (c .before .piece-number .ensures) (c .piece-offset .ensures)
+    let k = rules-kept (c .before .before .before .before .before .before) in
+    let x = c .before .before .in-file .result .0 in
+    let n : c .before .piece-number .result .0 ≡ x / a .piece-length = omega (arith, c .before .piece-number .ensures, place-number (a .lengths .now) (a .piece-length) (a .file) (a .offset) (c .before .before .before .before .before .before .before .before .add-up .result .0) (rules-kept (c .before .before .before .before .before .before)) (omega arith) (omega arith) (c .before .before .before .before .before .before .before .before .before .reach .result .number) (c .before .before .before .before .before .before .before .before .before .reach .result .start .0) (c .before .before .before .before .before .before .before .before .before .reach .ensures .0) (c .before .before .before .before .before .before .before .before .before .reach .ensures .1) (c .before .before .in-file .result .0) (c .before .before .in-file .ensures)) in
+    let m : c .piece-offset .result .0 ≡ x % a .piece-length = omega (arith, c .piece-offset .ensures, mod-lt x {m = a .piece-length} (omega arith)) in
+    byte-done (a .lengths .now) (a .piece-length) (a .file) (a .offset) (c .before .before .before .before .before .before .before .before .add-up .result .0) (rules-kept (c .before .before .before .before .before .before)) (omega arith) (omega arith) (c .before .before .before .before .before .before .before .before .before .reach .result .number) (c .before .before .before .before .before .before .before .before .before .reach .result .start .0) (c .before .before .before .before .before .before .before .before .before .reach .ensures .0) (c .before .before .before .before .before .before .before .before .before .reach .ensures .1) (c .before .before .in-file .result .0) (c .before .piece-number .result) (c .piece-offset .result) (c .before .before .in-file .ensures) n m
 
 pub byte-spec : {M : Type 1} → statement M
 byte-spec =
     tie.close
     (tie.spec
-    reach-requires
-    add-up-requires
-    keeps-rules-requires
-    nowhere-requires
-    returns
-    nowhere-requires-2
-    returns-2
-    mul-if3
-    shared-slice-read-if3
-    nowhere-requires-3
-    returns-3
-    in-file-requires
-    piece-number-requires
-    piece-offset-requires
-    returns-4)
+    (λ c κs. search needs) (λ c κs. search needs) (λ c κs. search needs) (λ c κs. search needs) returns (λ c κs. search needs) returns-2 (λ c. search needs)
+    (λ c. search needs) (λ c κs. search needs) returns-3 in-file-requires (λ c κs. search needs) (λ c κs. search needs) returns-4)

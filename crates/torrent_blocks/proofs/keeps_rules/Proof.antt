@@ -5,31 +5,14 @@ use mathlib.Core.Path.{sym, _∙_}
 use Rattle.torrent_blocks.proofs.keeps_rules.Statement.{statement}
 use Rattle.torrent_blocks.proofs.keeps_rules.Tie as tie
 
-legal-piece-length-requires : tie.Need-legal-piece-length-requires
-legal-piece-length-requires c κs = search needs
-
 returns : tie.Need-returns
 returns c = sym (rw (sym (c .before .legal-piece-length .ensures) ∙ not-true (c .before .legal-piece-length .result) (c .if1 .taken)))
 
-legal-file-count-requires : tie.Need-legal-file-count-requires
-legal-file-count-requires c κs = search needs
-
 returns-2 : tie.Need-returns-2
 returns-2 c = sym (rw (sym (c .before .before .before .legal-piece-length .ensures) ∙ not-false (c .before .before .before .legal-piece-length .result) (c .before .before .if1 .left), sym (c .before .legal-file-count .ensures) ∙ not-true (c .before .legal-file-count .result) (c .if2 .taken)))
-
-legal-total-requires : tie.Need-legal-total-requires
-legal-total-requires c κs = search needs
 
 returns-3 : tie.Need-returns-3
 returns-3 c = c .legal-total .ensures ∙ sym (rw (sym (c .before .before .before .before .legal-piece-length .ensures) ∙ not-false (c .before .before .before .before .legal-piece-length .result) (c .before .before .before .if1 .left), sym (c .before .before .legal-file-count .ensures) ∙ not-false (c .before .before .legal-file-count .result) (c .before .if2 .left)))
 
 pub keeps-rules-spec : {M : Type 1} → statement M
-keeps-rules-spec =
-    tie.close
-    (tie.spec
-    legal-piece-length-requires
-    returns
-    legal-file-count-requires
-    returns-2
-    legal-total-requires
-    returns-3)
+keeps-rules-spec = tie.close (tie.spec (λ c κs. search needs) returns (λ c κs. search needs) returns-2 (λ c κs. search needs) returns-3)

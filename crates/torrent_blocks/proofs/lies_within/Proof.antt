@@ -15,15 +15,6 @@ returns-2 c =
     let a = c .before .before .args in
     sym (rw (le-leb 1 (a .count) (omega arith), lt-leb (a .count) 16384 (omega arith)))
 
-cast-last : tie.Need-cast-last
-cast-last c = search needs
-
-sub-last : tie.Need-sub-last
-sub-last c = search needs
-
-add-last : tie.Need-add-last
-add-last c = search needs
-
 returns-3 : tie.Need-returns-3
 returns-3 c =
     let a = c .before .before .before .before .args in
@@ -35,5 +26,4 @@ returns-4 c =
     sym (rw (le-leb 1 (a .count) (omega arith), le-leb (a .count) 16384 (omega arith), le-leb (a .offset .0 + a .count) (a .held) (omega arith)))
 
 pub lies-within-spec : {M : Type 1} → statement M
-lies-within-spec =
-    tie.close (tie.spec returns returns-2 cast-last sub-last add-last returns-3 returns-4)
+lies-within-spec = tie.close (tie.spec returns returns-2 (λ c. search needs) (λ c. search needs) (λ c. search needs) returns-3 returns-4)

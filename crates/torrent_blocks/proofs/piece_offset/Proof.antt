@@ -1,20 +1,11 @@
--- `torrent_blocks::piece_offset` meets its contract: a remainder is below the piece length. Assumes nothing.
+-- `torrent_blocks::piece_offset` meets its contract: without a piece length all is the rest. Assumes nothing.
 use borrow.Author.Needs.{needs}
-use native.Mathlib.Nat.{mod-lt}
-use native.Mathlib.Omega.{arith}
+use Rattle.torrent_blocks.proofs.Legal.{rest-none}
 use Rattle.torrent_blocks.proofs.piece_offset.Statement.{statement}
 use Rattle.torrent_blocks.proofs.piece_offset.Tie as tie
 
-rem-t3 : tie.Need-rem-t3
-rem-t3 c = search needs
-
-cast-t4 : tie.Need-cast-t4
-cast-t4 c =
-    let a = c .before .args in
-    omega (arith, mod-lt (a .place .0) {m = a .piece-length} (omega arith))
-
 returns : tie.Need-returns
-returns c = search needs
+returns c = rest-none (c .before .before .args .piece-length) (c .before .before .args .place .0) (c .capped .result) (c .before .if1 .taken) (c .capped .ensures)
 
 pub piece-offset-spec : {M : Type 1} → statement M
-piece-offset-spec = tie.close (tie.spec rem-t3 cast-t4 returns)
+piece-offset-spec = tie.close (tie.spec (λ c κs. search needs) returns (λ c. search needs) (λ c κs. search needs) (λ c. search needs))

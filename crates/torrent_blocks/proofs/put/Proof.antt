@@ -8,38 +8,11 @@ use Prim.Native.Nat.{suc, _+_}
 use Rattle.torrent_blocks.proofs.put.Statement.{statement}
 use Rattle.torrent_blocks.proofs.put.Tie as tie
 
-mul-out : tie.Need-mul-out
-mul-out c = search needs
-
-slice-write-out : tie.Need-slice-write-out
-slice-write-out c = search needs
-
-sub-out : tie.Need-sub-out
-sub-out c = search needs
-
-add-out : tie.Need-add-out
-add-out c = search needs
-
-mul-out-2 : tie.Need-mul-out-2
-mul-out-2 c = search needs
-
 slice-write-out-2 : tie.Need-slice-write-out-2
 slice-write-out-2 c = simp length-set (omega arith)
 
-sub-out-2 : tie.Need-sub-out-2
-sub-out-2 c = search needs
-
-add-out-2 : tie.Need-add-out-2
-add-out-2 c = search needs
-
-mul-out-3 : tie.Need-mul-out-3
-mul-out-3 c = search needs
-
 slice-write-out-3 : tie.Need-slice-write-out-3
 slice-write-out-3 c = simp length-set (omega arith)
-
-same-length : tie.Need-same-length
-same-length c = search needs
 
 returns : tie.Need-returns
 returns c =
@@ -50,15 +23,5 @@ pub put-spec : {M : Type 1} → statement M
 put-spec =
     tie.close
     (tie.spec
-    mul-out
-    slice-write-out
-    sub-out
-    add-out
-    mul-out-2
-    slice-write-out-2
-    sub-out-2
-    add-out-2
-    mul-out-3
-    slice-write-out-3
-    same-length
-    returns)
+    (λ c. search needs) (λ c. search needs) (λ c. search needs) (λ c. search needs) (λ c. search needs) slice-write-out-2 (λ c. search needs)
+    (λ c. search needs) (λ c. search needs) slice-write-out-3 (λ c. search needs) returns)

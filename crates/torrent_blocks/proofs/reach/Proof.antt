@@ -21,21 +21,6 @@ loop-holds c = (omega arith, omega arith, nothing-before (c .before .args .lengt
 returns : tie.Need-returns Inv-loop μ-loop
 returns c = (omega arith, c .before .before .loop .inv .2)
 
-mul-with-file : tie.Need-mul-with-file Inv-loop μ-loop
-mul-with-file c = search needs
-
-shared-slice-read-with-file : tie.Need-shared-slice-read-with-file Inv-loop μ-loop
-shared-slice-read-with-file c = search needs
-
-with-file-requires : tie.Need-with-file-requires Inv-loop μ-loop
-with-file-requires c κs = search needs
-
-add-i : tie.Need-add-i Inv-loop μ-loop
-add-i c = search needs
-
-loop-less : tie.Need-loop-less Inv-loop μ-loop
-loop-less c = search needs
-
 loop-again : tie.Need-loop-again Inv-loop μ-loop
 loop-again c = (omega arith, omega arith, omega (arith, before-step (c .before .before .before .before .before .before .args .lengths .now) (c .before .before .before .before .loop .i) (omega arith)))
 
@@ -46,14 +31,5 @@ pub reach-spec : {M : Type 1} → statement M
 reach-spec =
     tie.close
     (tie.spec
-    Inv-loop
-    μ-loop
-    loop-holds
-    returns
-    mul-with-file
-    shared-slice-read-with-file
-    with-file-requires
-    add-i
-    loop-less
-    loop-again
+    Inv-loop μ-loop loop-holds returns (λ c. search needs) (λ c. search needs) (λ c κs. search needs) (λ c. search needs) (λ c. search needs) loop-again
     returns-2)

@@ -28,21 +28,6 @@ returns c =
     let a = c .before .before .before .before .before .before .before .before .args in
     writing-past (a .lengths .now) (a .first .number) (a .first .start .0) (a .from .0) (a .to .0) (a .out .now) (c .before .before .before .before .loop .out) (c .before .before .before .before .loop .at) (c .before .before .before .before .loop .start .0) (c .before .before .before .before .loop .i) 0 (c .before .before .before .before .loop .inv) (omega arith)
 
-mul-with-file : tie.Need-mul-with-file Inv-loop μ-loop
-mul-with-file c = search needs
-
-shared-slice-read-with-file : tie.Need-shared-slice-read-with-file Inv-loop μ-loop
-shared-slice-read-with-file c = search needs
-
-with-file-requires : tie.Need-with-file-requires Inv-loop μ-loop
-with-file-requires c κs = search needs
-
-larger-requires : tie.Need-larger-requires Inv-loop μ-loop
-larger-requires c κs = search needs
-
-smaller-requires : tie.Need-smaller-requires Inv-loop μ-loop
-smaller-requires c κs = search needs
-
 put-requires : tie.Need-put-requires Inv-loop μ-loop
 put-requires c κs =
     let a = c .before .before .before .before .before .before .before .before .before .before .before .before .before .before .args in
@@ -52,12 +37,6 @@ add-at : tie.Need-add-at Inv-loop μ-loop
 add-at c =
     let a = c .before .before .before .before .before .before .before .before .before .before .before .before .before .before .before .before .before .args in
     omega (arith, c .before .before .before .before .before .before .before .before .before .before .before .before .before .loop .inv .size, writing-room (a .lengths .now) (a .first .number) (a .first .start .0) (a .from .0) (a .to .0) (a .out .now) (c .before .before .before .before .before .before .before .before .before .before .before .before .before .loop .out) (c .before .before .before .before .before .before .before .before .before .before .before .before .before .loop .at) (c .before .before .before .before .before .before .before .before .before .before .before .before .before .loop .start .0) (c .before .before .before .before .before .before .before .before .before .before .before .before .before .loop .i) (c .before .before .before .before .before .before .before .with-file .result .0) (c .before .before .before .before .before .before .before .before .before .before .before .before .before .loop .inv) (omega arith) (c .before .before .before .before .before .before .before .with-file .ensures) (omega arith) (omega arith))
-
-add-i : tie.Need-add-i Inv-loop μ-loop
-add-i c = search needs
-
-loop-less : tie.Need-loop-less Inv-loop μ-loop
-loop-less c = search needs
 
 loop-again : tie.Need-loop-again Inv-loop μ-loop
 loop-again c =
@@ -76,20 +55,5 @@ pub write-spec : {M : Type 1} → statement M
 write-spec =
     tie.close
     (tie.spec
-    Inv-loop
-    μ-loop
-    loop-holds
-    same-length
-    returns
-    mul-with-file
-    shared-slice-read-with-file
-    with-file-requires
-    larger-requires
-    smaller-requires
-    put-requires
-    add-at
-    add-i
-    loop-less
-    loop-again
-    same-length-2
-    returns-2)
+    Inv-loop μ-loop loop-holds same-length returns (λ c. search needs) (λ c. search needs) (λ c κs. search needs) (λ c κs. search needs) (λ c κs. search needs)
+    put-requires add-at (λ c. search needs) (λ c. search needs) loop-again same-length-2 returns-2)

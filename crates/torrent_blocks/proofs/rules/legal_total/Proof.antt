@@ -9,11 +9,8 @@ use Rattle.torrent_blocks.proofs.rules.legal_total.Tie as tie
 returns : tie.Need-returns
 returns c = sym (rw (lt-leb 1 (c .before .before .args .total .0) (omega arith)))
 
-pieces-requires : tie.Need-pieces-requires
-pieces-requires c κs = search needs
-
 returns-2 : tie.Need-returns-2
 returns-2 c = rw (c .pieces .ensures) (sym (rw (le-leb 1 (c .before .before .before .args .total .0) (omega arith))))
 
 pub legal-total-spec : {M : Type 1} → statement M
-legal-total-spec = tie.close (tie.spec returns pieces-requires returns-2)
+legal-total-spec = tie.close (tie.spec returns (λ c κs. search needs) returns-2)

@@ -8,19 +8,10 @@ use Rattle.torrent_blocks.proofs.rules.pieces.Tie as tie
 returns : tie.Need-returns
 returns c = pieces-none (c .before .args .total .0) (c .before .args .piece-length) (c .if1 .taken)
 
-rem-if2 : tie.Need-rem-if2
-rem-if2 c = search needs
-
-div-result : tie.Need-div-result
-div-result c = search needs
-
 returns-2 : tie.Need-returns-2
 returns-2 c =
     let a = c .before .before .before .before .args in
     pieces-whole (a .total .0) (a .piece-length) (omega arith) (c .before .if2 .taken)
-
-div-result-2 : tie.Need-div-result-2
-div-result-2 c = search needs
 
 add-result : tie.Need-add-result
 add-result c =
@@ -33,5 +24,4 @@ returns-3 c =
     pieces-more (a .total .0) (a .piece-length) (omega arith) (c .before .if2 .left)
 
 pub pieces-spec : {M : Type 1} → statement M
-pieces-spec =
-    tie.close (tie.spec returns rem-if2 div-result returns-2 div-result-2 add-result returns-3)
+pieces-spec = tie.close (tie.spec returns (λ c. search needs) (λ c. search needs) returns-2 (λ c. search needs) add-result returns-3)

@@ -11,10 +11,10 @@ returns : tie.Need-returns
 returns c = ap checkPaper (c .refused .ensures) ∙ check-long (c .before .before .before .before .before .before .before .before .args .text .now) (c .before .before .before .before .before .before .before .before .args .piece .0) (c .before .before .before .before .before .before .before .before .args .bytes .now) (c .before .before .before .before .before .before .before .before .args .t) (c .before .before .before .part .given .0 .0) (ap hashPaper (sym (c .before .before .before .part .given .1)) ∙ c .before .before .before .before .before .hash .ensures) (omega arith)
 
 returns-2 : tie.Need-returns-2
-returns-2 c = c .agrees .ensures ∙ check-agreed (c .before .before .before .before .before .before .before .before .before .before .before .before .args .text .now) (c .before .before .before .before .before .before .before .before .before .before .before .before .args .piece .0) (c .before .before .before .before .before .before .before .before .before .before .before .before .args .bytes .now) (c .before .before .before .before .before .before .before .before .before .before .before .before .args .t) (c .before .before .before .before .before .before .before .part .given .0 .0) (ap hashPaper (sym (c .before .before .before .before .before .before .before .part .given .1)) ∙ c .before .before .before .before .before .before .before .before .before .hash .ensures) (omega arith) (c .before .before .before .size .result) (c .before .before .before .size .ensures) (c .before .before .if2 .taken) _ (c .before .bytes .ensures .0)
+returns-2 c = c .agrees .ensures ∙ check-agreed (c .before .before .before .before .before .before .before .before .before .before .before .before .args .text .now) (c .before .before .before .before .before .before .before .before .before .before .before .before .args .piece .0) (c .before .before .before .before .before .before .before .before .before .before .before .before .args .bytes .now) (c .before .before .before .before .before .before .before .before .before .before .before .before .args .t) (c .before .before .before .before .before .before .before .part .given .0 .0) (ap hashPaper (sym (c .before .before .before .before .before .before .before .part .given .1)) ∙ c .before .before .before .before .before .before .before .before .before .hash .ensures) (omega arith) (c .before .before .before .piece-bytes .result) (c .before .before .before .piece-bytes .ensures) (c .before .before .if2 .taken) _ (c .before .bytes .ensures .0)
 
 returns-3 : tie.Need-returns-3
-returns-3 c = ap checkPaper (c .refused2 .ensures) ∙ check-outside (c .before .before .before .before .before .before .before .before .before .before .before .args .text .now) (c .before .before .before .before .before .before .before .before .before .before .before .args .piece .0) (c .before .before .before .before .before .before .before .before .before .before .before .args .bytes .now) (c .before .before .before .before .before .before .before .before .before .before .before .args .t) (c .before .before .before .before .before .before .part .given .0 .0) (ap hashPaper (sym (c .before .before .before .before .before .before .part .given .1)) ∙ c .before .before .before .before .before .before .before .before .hash .ensures) (omega arith) (c .before .before .size .result) (c .before .before .size .ensures) (λ e. c .before .if2 .left e)
+returns-3 c = ap checkPaper (c .refused2 .ensures) ∙ check-outside (c .before .before .before .before .before .before .before .before .before .before .before .args .text .now) (c .before .before .before .before .before .before .before .before .before .before .before .args .piece .0) (c .before .before .before .before .before .before .before .before .before .before .before .args .bytes .now) (c .before .before .before .before .before .before .before .before .before .before .before .args .t) (c .before .before .before .before .before .before .part .given .0 .0) (ap hashPaper (sym (c .before .before .before .before .before .before .part .given .1)) ∙ c .before .before .before .before .before .before .before .before .hash .ensures) (omega arith) (c .before .before .piece-bytes .result) (c .before .before .piece-bytes .ensures) (λ e. c .before .if2 .left e)
 
 returns-4 : tie.Need-returns-4
 returns-4 c = check-beyond (c .before .before .before .before .before .before .args .text .now) (c .before .before .before .before .before .before .args .piece .0) (c .before .before .before .before .before .before .args .bytes .now) (c .before .before .before .before .before .before .args .t) (c .before .r .given .0 .0 .number) (c .before .r .given .0 .0 .place) (ap hashPaper (sym (c .before .r .given .1)) ∙ c .before .before .before .hash .ensures)
