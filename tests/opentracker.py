@@ -3,7 +3,7 @@
     python3 tests/opentracker.py           asks, and compares what is read with the peers that were announced
     python3 tests/opentracker.py --keep    also keeps the replies as samples/opentracker-*.reply
 
-It needs the package opentracker and nothing beyond this machine, and ends within seconds. crates/tracker_cases reads
+It needs the package opentracker and nothing beyond this machine, and ends within seconds. crates/cases reads
 the kept replies by the proved code; a fresh one has another interval, so nothing is held to this run.
 """
 
