@@ -4,16 +4,16 @@ use mathlib.Core.Logic.{inl, inr}
 use mathlib.Core.List.{List, [], _∷_, _++_, append-assoc}
 use Prim.Native.Nat.{ℕ, zero, suc, _+_, _-_, _≤_, _<_}
 use native.Mathlib.Omega.{arith}
-use lib.ListN.{length, getD, take, drop, length-drop, length-append}
+use lib.ListN.{length, getD, take, drop, length-drop, length-append, take-append-drop}
 use lib.Seq.{take-nil, take-add, take-at, take-take, drop-drop, drop-cons, length-take-le, drop-append-seam}
 use Rattle.refusal.specs.BigEndian.{Bytes, bigEndian, bytesOf}
-use Rattle.refusal.specs.Paper.{taken}
+use Rattle.refusal.specs.Paper.{Outcome, taken, refused}
 use Rattle.refusal.specs.Parts.{bytesAt}
 use Rattle.refusal.specs.declared.Part.{Part}
 use Rattle.refusal.proofs.Bytes.{bigEndian-bytesOf, bytesOf-bigEndian}
 use Rattle.refusal.proofs.Places.{bytes-drop, bytes-take}
 use Rattle.peer_wire.specs.Message.{Message, keepalive, word, body, framed, encode}
-use Rattle.peer_wire.specs.Frames.{least, most, Allowed, Lengths, Keeps, found, numberIn, messageIn, readOf, meant, streamOf, encodeAll, KeepAll}
+use Rattle.peer_wire.specs.Frames.{least, most, Allowed, Lengths, Keeps, Found, wait, found, numberIn, messageIn, readOf, meant, Stream, onward, streamOf, encodeAll, KeepAll}
 use Rattle.peer_wire.specs.Causes.{named, All, Right, Zero, Cause}
 use Rattle.peer_wire.proofs.Steps.{most-most, message-map, message-same}
 use Rattle.peer_wire.proofs.Bodies.{parse, Laid, laid, written}
@@ -135,3 +135,25 @@ stream-reads-back (m ∷ ms) k rest =
     let r = reads-back m (k .0) (encodeAll ms ++ rest) in
     let later : streamOf (length ms) (encodeAll ms ++ rest) ≡ record { messages = ms; after = rest } = stream-reads-back ms (k .1) rest in
     rw (append-assoc (encode m) (encodeAll ms) rest, r .answer, drop-append-seam (encode m) (encodeAll ms ++ rest), later, r .means)
+
+-- a stream's messages, which may be sent, and what is left after them, are its bytes
+abbrev Kept : List ℕ → Stream → Type 0
+Kept s t = (encodeAll (t .messages) ++ t .after ≡ s) × KeepAll (t .messages)
+
+kept-by : (s : List ℕ) → Bytes s → (later : ℕ → Stream) → ((used : ℕ) → Kept (drop used s) (later used)) → (o : Outcome Found) → readOf s ≡ o → Kept s (onward s later o)
+kept-by s bytes later go (taken (found m used)) e =
+    let t = taken-was-written s bytes m used e in
+    let l = go used in
+    (
+      append-assoc (encode (meant s m)) (encodeAll (later used .messages)) (later used .after)
+      ∙ ap (λ (q : List ℕ). encode (meant s m) ++ q) (l .0)
+      ∙ ap (λ (q : List ℕ). q ++ drop used s) (t .0)
+      ∙ take-append-drop used s,
+      (t .1, l .1),
+    )
+kept-by s bytes later go (taken wait) e = (refl, tt)
+kept-by s bytes later go (refused n p) e = (refl, tt)
+
+pub stream-kept : (k : ℕ) (s : List ℕ) → Bytes s → Kept s (streamOf k s)
+stream-kept zero s bytes = (refl, tt)
+stream-kept (suc k) s bytes = kept-by s bytes (λ used. streamOf k (drop used s)) (λ used. stream-kept k (drop used s) (bytes-drop used s bytes)) (readOf s) refl
