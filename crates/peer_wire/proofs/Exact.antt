@@ -143,12 +143,11 @@ Kept s t = (encodeAll (t .messages) ++ t .after ≡ s) × KeepAll (t .messages)
 kept-by : (s : List ℕ) → Bytes s → (later : ℕ → Stream) → ((used : ℕ) → Kept (drop used s) (later used)) → (o : Outcome Found) → readOf s ≡ o → Kept s (onward s later o)
 kept-by s bytes later go (taken (found m used)) e =
     let t = taken-was-written s bytes m used e in
-    let l = go used in
-    (
+    let l = go used in (
       append-assoc (encode (meant s m)) (encodeAll (later used .messages)) (later used .after)
-      ∙ ap (λ (q : List ℕ). encode (meant s m) ++ q) (l .0)
-      ∙ ap (λ (q : List ℕ). q ++ drop used s) (t .0)
-      ∙ take-append-drop used s,
+          ∙ ap (λ (q : List ℕ). encode (meant s m) ++ q) (l .0)
+          ∙ ap (λ (q : List ℕ). q ++ drop used s) (t .0)
+          ∙ take-append-drop used s,
       (t .1, l .1),
     )
 kept-by s bytes later go (taken wait) e = (refl, tt)

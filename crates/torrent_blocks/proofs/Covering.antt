@@ -122,7 +122,7 @@ empty-from from to k b [] o h = refl
 empty-from from to k b (s ∷ ss) o h =
     cut-none k s from to (partsFrom (suc k) ss from to) (omega arith) ∙ empty-from from to (suc k) (s .start + s .size) ss (o .1) (omega arith)
 
-starts-past : (b i : ℕ) (ss : List Span) → Ordered b ss → i < length ss → b ≤ getD ss i nowhere .start
+pub starts-past : (b i : ℕ) (ss : List Span) → Ordered b ss → i < length ss → b ≤ getD ss i nowhere .start
 unfolding Ordered
 starts-past b i [] o h = absurd (omega arith)
 starts-past b zero (s ∷ ss) o h = o .0
