@@ -48,7 +48,7 @@ lowest-ext f g n k e p = record { within = p .within; below = λ j l. sym (e j) 
 abbrev takenAt : List Seat → ℕ → Bool
 takenAt l i = getD l i cleared .taken
 
-free-lowest : (l : List Seat) → Lowest (takenAt l) (length l) (lowestFree l)
+pub free-lowest : (l : List Seat) → Lowest (takenAt l) (length l) (lowestFree l)
 unfolding lowestFree
 free-lowest [] = record { within = omega arith; below = λ j l. absurd (not-suc-le-zero l); lacks = λ l. absurd (not-suc-le-zero l) }
 free-lowest (s ∷ ss) = by-test (Lowest (takenAt (s ∷ ss)) (suc (length ss))) (s .taken)
