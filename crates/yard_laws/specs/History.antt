@@ -7,10 +7,11 @@ use Rattle.refusal.specs.Paper.{Outcome, taken, refused}
 use Rattle.peer_wire.specs.Message.{Message, keepalive, choke, unchoke, interested, notInterested, have, bitfield, request, piece, cancel, other}
 use Rattle.peer_wire.specs.Frames.{Found, wait, found, readOf, meant}
 use Rattle.yard_tables.specs.Rows.{bitAt}
-use Rattle.yard_tables.specs.Tables.{Said, done, used, serve, dropped, wrote, listed, shows, holds, heldBy, scarce}
+use Rattle.yard_tables.specs.Tables.{Said, done, used, serve, dropped, wrote, listed, holds, heldBy, scarce}
+use Rattle.yard_tables.specs.Tables.{shows as showsSeat}
 use Rattle.yard_tables.specs.Tables.{wait as waits, seated as givesSeat}
 use Rattle.yard_tables.specs.Step.{Call, start, sit, leave, feed, interest, missing, scarcest, look, has, count}
-use Rattle.yard_tables.specs.Step.{choke as chokes}
+use Rattle.yard_tables.specs.Step.{choke as chokesAt}
 
 -- a call, its answer, and what it wrote into what was lent for it
 pub record Entry : Type 0 where
@@ -24,6 +25,32 @@ entry c a w = record { call = c; answer = a; output = w }
 -- the newest first
 abbrev pub History : Type 0
 History = List Entry
+
+-- ---- what a message says of its truck
+
+pub data Sort : Type 0 where
+  -- nothing that is kept
+  quiet : Sort
+  -- it chokes us, or no longer; it is interested in us, or no longer
+  chokes : Bool → Sort
+  wants : Bool → Sort
+  -- it has these pieces
+  shows : (ℕ → Bool) → Sort
+  -- bytes of a piece, from an offset in it on
+  sends : ℕ → ℕ → List ℕ → Sort
+
+abbrev pub sortOf : Message (List ℕ) → Sort
+sortOf keepalive = quiet
+sortOf choke = chokes true
+sortOf unchoke = chokes false
+sortOf interested = wants true
+sortOf notInterested = wants false
+sortOf (have p) = shows (λ q. eqb q p)
+sortOf (bitfield bits) = shows (bitAt bits)
+sortOf (request p o l) = quiet
+sortOf (piece p o block) = sends p o block
+sortOf (cancel p o l) = quiet
+sortOf (other id payload) = quiet
 
 -- ---- what a call means for the truck of one seat
 
@@ -54,7 +81,7 @@ gives (serve n) i = false
 gives (dropped n) i = false
 gives (wrote n) i = false
 gives (listed x) i = false
-gives (shows s) i = false
+gives (showsSeat s) i = false
 gives (holds b) i = false
 gives (heldBy n) i = false
 gives (scarce p) i = false
@@ -65,7 +92,7 @@ meaning i (start pieces pieceLength lastLength) a = gone
 meaning i sit a = cond (gives a i) came nothing
 meaning i (leave j) a = cond (eqb i j) gone nothing
 meaning i (feed j s) a = cond (eqb i j) (heardIn s (readOf s)) nothing
-meaning i (chokes j b space) a = cond (eqb i j) (weChoke b) nothing
+meaning i (chokesAt j b space) a = cond (eqb i j) (weChoke b) nothing
 meaning i (interest j b space) a = cond (eqb i j) (weWant b) nothing
 meaning i (missing first space) a = nothing
 meaning i scarcest a = nothing
@@ -98,18 +125,15 @@ seated (e ∷ h) i = seatedBy (event i e) (seated h i)
 
 -- ---- it has announced piece p since it sat down
 
+abbrev pub announcedIn : Sort → ℕ → Bool
+announcedIn quiet p = false
+announcedIn (chokes c) p = false
+announcedIn (wants c) p = false
+announcedIn (shows these) p = these p
+announcedIn (sends q b block) p = false
+
 abbrev pub announces : Message (List ℕ) → ℕ → Bool
-announces keepalive p = false
-announces choke p = false
-announces unchoke p = false
-announces interested p = false
-announces notInterested p = false
-announces (have q) p = eqb p q
-announces (bitfield bits) p = bitAt bits p
-announces (request q b l) p = false
-announces (piece q b block) p = false
-announces (cancel q b l) p = false
-announces (other id payload) p = false
+announces m p = announcedIn (sortOf m) p
 
 abbrev pub announcedBy : Event → ℕ → Bool → Bool
 announcedBy nothing p b = b
@@ -166,24 +190,18 @@ weAreInterested [] i = false
 weAreInterested (e ∷ h) i = wantingBy (event i e) (weAreInterested h i)
 
 -- its choke after one more message
-abbrev pub chokeAfter : Message (List ℕ) → Bool → Bool
-chokeAfter keepalive b = b
-chokeAfter choke b = true
-chokeAfter unchoke b = false
-chokeAfter interested b = b
-chokeAfter notInterested b = b
-chokeAfter (have p) b = b
-chokeAfter (bitfield bits) b = b
-chokeAfter (request p o l) b = b
-chokeAfter (piece p o block) b = b
-chokeAfter (cancel p o l) b = b
-chokeAfter (other id payload) b = b
+abbrev pub chokeAfter : Sort → Bool → Bool
+chokeAfter quiet b = b
+chokeAfter (chokes c) b = c
+chokeAfter (wants c) b = b
+chokeAfter (shows these) b = b
+chokeAfter (sends q o block) b = b
 
 abbrev pub chokedBy : Event → Bool → Bool
 chokedBy nothing b = b
 chokedBy came b = true
 chokedBy gone b = false
-chokedBy (heard m) b = chokeAfter m b
+chokedBy (heard m) b = chokeAfter (sortOf m) b
 chokedBy (weChoke c) b = b
 chokedBy (weWant c) b = b
 
@@ -193,24 +211,18 @@ theyAreChoking [] i = false
 theyAreChoking (e ∷ h) i = chokedBy (event i e) (theyAreChoking h i)
 
 -- its interest after one more message
-abbrev pub interestAfter : Message (List ℕ) → Bool → Bool
-interestAfter keepalive b = b
-interestAfter choke b = b
-interestAfter unchoke b = b
-interestAfter interested b = true
-interestAfter notInterested b = false
-interestAfter (have p) b = b
-interestAfter (bitfield bits) b = b
-interestAfter (request p o l) b = b
-interestAfter (piece p o block) b = b
-interestAfter (cancel p o l) b = b
-interestAfter (other id payload) b = b
+abbrev pub interestAfter : Sort → Bool → Bool
+interestAfter quiet b = b
+interestAfter (chokes c) b = b
+interestAfter (wants c) b = c
+interestAfter (shows these) b = b
+interestAfter (sends q o block) b = b
 
 abbrev pub wantedBy : Event → Bool → Bool
 wantedBy nothing b = b
 wantedBy came b = false
 wantedBy gone b = false
-wantedBy (heard m) b = interestAfter m b
+wantedBy (heard m) b = interestAfter (sortOf m) b
 wantedBy (weChoke c) b = b
 wantedBy (weWant c) b = b
 
@@ -231,7 +243,7 @@ sizesBy (start pieces pieceLength lastLength) a z = record { pieces = pieces; pi
 sizesBy sit a z = z
 sizesBy (leave j) a z = z
 sizesBy (feed j s) a z = z
-sizesBy (chokes j b space) a z = z
+sizesBy (chokesAt j b space) a z = z
 sizesBy (interest j b space) a z = z
 sizesBy (missing first space) a z = z
 sizesBy scarcest a z = z
