@@ -29,12 +29,13 @@ use Rattle.yard_tables.specs.Step.{choke as chokes}
 use Rattle.yard_tables.proofs.Counts.{some-one, some-every}
 use Rattle.yard_laws.specs.History.{History, seated, fresh, weAreChoking, theyAreInterested, pieces}
 use Rattle.yard_laws.specs.Expected.{no, startFits, sits, lengthOf, blockFits, blockAnswer, requestAnswer, messageAnswer, frameAnswer, markAnswer, freeSeat, answer}
-use Rattle.yard_laws.specs.Causes.{Sits, Nobody, On, Marks, Says, SpeaksOf, Fits, StartFits, Cause, WaitCause}
+use Rattle.yard_laws.specs.Causes.{Sits, Nobody, On, Marks, Says, SpeaksOf, Fits, Cause, WaitCause}
+use Rattle.yard_laws.specs.View.{StartFits}
 use Rattle.yard_laws.specs.Causes.On.{leaving, feeding, choking as on-choke, wanting as on-want}
 use Rattle.yard_laws.specs.Causes.Marks.{choking, wanting}
 use Rattle.yard_laws.specs.Causes.SpeaksOf.{asked, sent, called-off}
-use Rattle.yard_laws.specs.Causes.Cause.{unfit, all-taken, nobody, past-list, past-look, past-has, no-room, too-long, wrong-payload, not-first, wrong-length, spare-bit, no-such-have, no-such-block, no-such-has, no-such-count, past-piece}
-use Rattle.yard_laws.specs.Causes.WaitCause.{cut-off}
+use Rattle.yard_laws.specs.Causes.CauseBy.{unfit, all-taken, nobody, past-list, past-look, past-has, no-room, too-long, wrong-payload, not-first, wrong-length, spare-bit, no-such-have, no-such-block, no-such-has, no-such-count, past-piece}
+use Rattle.yard_laws.specs.Causes.WaitBy.{cut-off}
 use Rattle.yard_laws.proofs.Lowest.{lowest-is, lowest-unique}
 
 -- ---- tests as statements

@@ -24,8 +24,8 @@ use Rattle.yard_tables.specs.Step.{choke as chokes}
 use Rattle.yard_laws.specs.History.{History, fresh, weAreChoking, theyAreInterested, pieces}
 use Rattle.yard_laws.specs.Expected.{startFits, sits, blockFits, blockAnswer, requestAnswer, messageAnswer, frameAnswer, markAnswer, freeSeat, answer}
 use Rattle.yard_laws.specs.Causes.{Sits, Says, Welcome, Asks, Serves, Drops}
-use Rattle.yard_laws.specs.Causes.Serves.{serves}
-use Rattle.yard_laws.specs.Causes.Drops.{drops}
+use Rattle.yard_laws.specs.Causes.ServesBy.{serves}
+use Rattle.yard_laws.specs.Causes.DropsBy.{drops}
 use Rattle.yard_laws.proofs.Fair.{frame-says, sits-then, fits-block, block-fits}
 
 -- ---- what bytes say

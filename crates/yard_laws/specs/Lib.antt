@@ -2,6 +2,7 @@
 pub mod History
 pub mod Says
 pub mod Expected
+pub mod View
 pub mod Causes
 pub mod Run
 pub mod Damage

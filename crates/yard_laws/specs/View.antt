@@ -1,0 +1,56 @@
+-- What the causes of a refusal ask of a yard, said once for a history and for tables. Assumes nothing: these are definitions.
+use Prim.Native.Nat.{ℕ, _≤_}
+use mathlib.Core.Path.{_≡_}
+use mathlib.Core.Bool.{Bool}
+use lib.ListN.{length, getD}
+use Rattle.torrent_blocks.specs.Rules.{PieceLength}
+use Rattle.yard_tables.specs.Seats.{cleared}
+use Rattle.yard_tables.specs.Tables.{Yard}
+use Rattle.yard_tables.specs.Frames.{pieceSize}
+use Rattle.yard_laws.specs.History.{History, seated, fresh, weAreChoking, theyAreInterested}
+use Rattle.yard_laws.specs.History.{pieces as piecesIn}
+use Rattle.yard_laws.specs.Expected.{lengthOf}
+use Rattle.yard_laws.specs.Run.{SizesFit}
+
+pub record View : Type 1 where
+  pub seats : ℕ
+  -- of each seat: a truck sits there, it has said nothing yet, we choke it, it is interested
+  pub sitsAt : ℕ → Bool
+  pub silent : ℕ → Bool
+  pub choked : ℕ → Bool
+  pub interested : ℕ → Bool
+  -- how many pieces there are, and how long each is
+  pub pieces : ℕ
+  pub longs : ℕ → ℕ
+  -- the sizes that a start may have: pieces, piece length, last piece's length
+  pub MayStart : ℕ → ℕ → ℕ → Type 0
+
+-- a further start has as many pieces as the tables, a legal piece length, and a last piece from 1 to it
+abbrev pub StartFits : History → ℕ → ℕ → ℕ → Type 0
+StartFits h p l k = (p ≡ piecesIn h) × PieceLength l × (1 ≤ k) × (k ≤ l)
+
+-- as the history says, on a yard of n seats
+abbrev pub byHistory : ℕ → History → View
+byHistory n h = record {
+  seats = n;
+  sitsAt = seated h;
+  silent = fresh h;
+  choked = weAreChoking h;
+  interested = theyAreInterested h;
+  pieces = piecesIn h;
+  longs = lengthOf h;
+  MayStart = StartFits h;
+}
+
+-- as the tables say
+abbrev pub byTables : Yard → View
+byTables y = record {
+  seats = length (y .seats);
+  sitsAt = λ i. getD (y .seats) i cleared .taken;
+  silent = λ i. getD (y .seats) i cleared .fresh;
+  choked = λ i. getD (y .seats) i cleared .«am_choking»;
+  interested = λ i. getD (y .seats) i cleared .«peer_interested»;
+  pieces = y .head .pieces;
+  longs = pieceSize (y .head);
+  MayStart = λ p l k. SizesFit p l k y;
+}
