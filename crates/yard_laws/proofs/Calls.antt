@@ -36,7 +36,9 @@ use Rattle.yard_tables.proofs.Sizing.{Fitting, fitting}
 use Rattle.yard_tables.proofs.Sweeps.{length-each, getD-each}
 use Rattle.yard_laws.specs.History.{History, entry, Event, nothing, came, gone, heard, weChoke, weWant, event, announces, seated, announced, fresh, pieces, Sizes, sizesWith, seatedBy}
 use Rattle.yard_laws.specs.Says.{hasPiece, held, loaded, recordOf, holders, takenSeats, completeSeats, headOf}
-use Rattle.yard_laws.specs.Expected.{no, sits, blockFits, blockAnswer, requestAnswer, messageAnswer, frameAnswer, markAnswer}
+use Rattle.torrent_blocks.specs.Answers.{lies}
+use Rattle.yard_laws.specs.View.{byHistory, lengthOf}
+use Rattle.yard_laws.specs.Expected.{no, sitsBy, blockBy, requestBy, messageBy, frameBy, markBy}
 use Rattle.yard_laws.proofs.Agreeing.{Agrees, One, Becomes, at, putBack, hasThen, heldThen, loadedThen, recordThen, change-agrees, quiet-back, counted-fits}
 
 -- ---- tests
@@ -96,8 +98,8 @@ module _ (n : ℕ) (h : History) (y : Yard) (agrees : Agrees n h y) where
   sized-good c w i t e g = by-test (λ (u : Turn). Good c w i u e) (sizesFit (headOf n h) n (length (y .rows)) (length (y .holders))) (λ p. g) (λ p. cannot _ p fits-here)
 
   sitting-good : (c : Call) (w : List ℕ) (i : ℕ) (t : Turn) (e : Outcome Said) → (i < n → seated h i ≡ true → Good c w i t e)
-      → Good c w i (sitting i n (at n h y agrees i) t) (cond (sits n h i) e (no seat))
-  sitting-good c w i t e g = by-same (Good c w i) (sits n h i)
+      → Good c w i (sitting i n (at n h y agrees i) t) (cond (sitsBy (byHistory n h) i) e (no seat))
+  sitting-good c w i t e g = by-same (Good c w i) (sitsBy (byHistory n h) i)
       (λ p. let k = and-eq-true-iff (ltb i n) (seated h i) .0 p in g (ltb-true i n (k .0)) (k .1))
       (λ p. refuses c w i seat)
 
@@ -217,14 +219,14 @@ module _ (n : ℕ) (h : History) (y : Yard) (agrees : Agrees n h y) where
 
     block-good : (m : Message (List ℕ)) (p b k : ℕ) (a : Said) → One (entry c (taken a) w) i (heard m) → ((p : ℕ) → announces m p ≡ false)
         → spoken (recordOf h i) ≡ holding (held h i) (recordThen (heard m) h i)
-        → Good c w i (blockOf p b k a (at n h y agrees i)) (blockAnswer h p b k a)
+        → Good c w i (blockOf p b k a (at n h y agrees i)) (blockBy (byHistory n h) p b k a)
     unfolding blockOf
     block-good m p b k a one none marks = by-same (Good c w i) (ltb p (pieces h))
-        (λ _. by-same (Good c w i) (blockFits h p b k) (λ _. silent m (spoken (recordOf h i)) a one none marks) (λ _. refuses c w i outside))
+        (λ _. by-same (Good c w i) (lies (lengthOf h p) b k) (λ _. silent m (spoken (recordOf h i)) a one none marks) (λ _. refuses c w i outside))
         (λ _. refuses c w i beyond)
 
     message-good : (m : Message (List ℕ)) → ((a : Said) → One (entry c (taken a) w) i (heard m))
-        → Good c w i (messageOf n i bytes m (at n h y agrees i)) (messageAnswer h i bytes m)
+        → Good c w i (messageOf n i bytes m (at n h y agrees i)) (messageBy (byHistory n h) i bytes m)
     unfolding messageOf haveOf bitfieldOf
     message-good keepalive one = silent keepalive _ (used bytes) (one (used bytes)) (λ p. refl) refl
     message-good choke one = silent choke _ (used bytes) (one (used bytes)) (λ p. refl) refl
@@ -246,7 +248,7 @@ module _ (n : ℕ) (h : History) (y : Yard) (agrees : Agrees n h y) where
         (λ j k d r. bits-other (width (pieces h)) n (y .rows) (sizes-here .row) i l b j k (in-row k r) d)))
         (λ _. refuses c w i bitfield))
         (λ _. refuses c w i late)
-    message-good (request p b k) one = block-good (request p b k) p b k (requestAnswer h i bytes) (one (requestAnswer h i bytes)) (λ p. refl) refl
+    message-good (request p b k) one = block-good (request p b k) p b k (requestBy (byHistory n h) i bytes) (one (requestBy (byHistory n h) i bytes)) (λ p. refl) refl
     message-good (piece p b block) one = block-good (piece p b block) p b (length block) (used bytes) (one (used bytes)) (λ p. refl) refl
     message-good (cancel p b k) one = block-good (cancel p b k) p b k (used bytes) (one (used bytes)) (λ p. refl) refl
     message-good (other id payload) one = silent (other id payload) _ (used bytes) (one (used bytes)) (λ p. refl) refl
@@ -256,13 +258,13 @@ module _ (n : ℕ) (h : History) (y : Yard) (agrees : Agrees n h y) where
   cond-nothing false v e = refl
 
   frame-good : (i : ℕ) (s : List ℕ) (w : List ℕ) → i < n → seated h i ≡ true → (o : Outcome Found) → readOf s ≡ o
-      → Good (feed i s) w i (frameOf n i s o (at n h y agrees i)) (frameAnswer h i s o)
+      → Good (feed i s) w i (frameOf n i s o (at n h y agrees i)) (frameBy (byHistory n h) i s o)
   unfolding event sizesWith
   frame-good i s w l sat (refused number place) e = refuses (feed i s) w i number
   frame-good i s w l sat (taken more) e = unchanged (taken wait) (λ j. cond-nothing (eqb j i) _ (rw e)) (λ z. refl)
   frame-good i s w l sat (taken (found m bytes)) e = message-good (feed i s) w i l sat bytes (meant s m) (λ a. frame-one i s w m bytes a e)
 
-  pub feed-kept : (i : ℕ) (s : List ℕ) (w : List ℕ) → Kept (feed i s) w (atSeat i (feedOf i s) y) (cond (sits n h i) (frameAnswer h i s (readOf s)) (no seat))
+  pub feed-kept : (i : ℕ) (s : List ℕ) (w : List ℕ) → Kept (feed i s) w (atSeat i (feedOf i s) y) (cond (sitsBy (byHistory n h) i) (frameBy (byHistory n h) i s (readOf s)) (no seat))
   unfolding feedOf
   feed-kept i s w = lift (feed i s) w i (feedOf i s) _
       (sized-good (feed i s) w i _ _ (sitting-good (feed i s) w i _ _ (λ l sat. frame-good i s w l sat (readOf s) refl)))
@@ -271,18 +273,18 @@ module _ (n : ℕ) (h : History) (y : Yard) (agrees : Agrees n h y) where
 
   mark-good : (f : Seat → Seat) (c : Call) (w : List ℕ) (i space : ℕ) (v : Event) → One (entry c (taken (wrote 5)) w) i v
       → seatedBy v (seated h i) ≡ seated h i → ((p : ℕ) → hasThen v h i p ≡ hasPiece h i p) → f (recordOf h i) ≡ holding (held h i) (recordThen v h i)
-      → Good c w i (markOf f space i n (at n h y agrees i)) (markAnswer n h i space)
+      → Good c w i (markOf f space i n (at n h y agrees i)) (markBy (byHistory n h) i space)
   unfolding markOf
   mark-good f c w i space v one a b e = sized-good c w i _ _ (sitting-good c w i _ _ (λ l sat.
       by-same (Good c w i) (ltb space 5) (λ _. refuses c w i room) (λ _. changed v (taken (wrote 5)) _ l one (steady v i (f (recordOf h i)) l a b e))))
 
-  pub choke-kept : (i : ℕ) (b : Bool) (space : ℕ) (w : List ℕ) → Kept (chokes i b space) w (atSeat i (markOf (chokeMark b) space i) y) (markAnswer n h i space)
+  pub choke-kept : (i : ℕ) (b : Bool) (space : ℕ) (w : List ℕ) → Kept (chokes i b space) w (atSeat i (markOf (chokeMark b) space i) y) (markBy (byHistory n h) i space)
   unfolding event sizesWith
   choke-kept i b space w = lift (chokes i b space) w i (markOf (chokeMark b) space i) _
       (mark-good (chokeMark b) (chokes i b space) w i space (weChoke b)
       (record { here = rw (eq-eqb i i refl); others = λ j d. rw (ne-eqb j i d); sizes-same = λ z. refl }) refl (λ p. refl) refl)
 
-  pub interest-kept : (i : ℕ) (b : Bool) (space : ℕ) (w : List ℕ) → Kept (interest i b space) w (atSeat i (markOf (wantMark b) space i) y) (markAnswer n h i space)
+  pub interest-kept : (i : ℕ) (b : Bool) (space : ℕ) (w : List ℕ) → Kept (interest i b space) w (atSeat i (markOf (wantMark b) space i) y) (markBy (byHistory n h) i space)
   unfolding event sizesWith
   interest-kept i b space w = lift (interest i b space) w i (markOf (wantMark b) space i) _
       (mark-good (wantMark b) (interest i b space) w i space (weWant b)
@@ -355,7 +357,7 @@ module _ (n : ℕ) (h : History) (y : Yard) (agrees : Agrees n h y) where
           omega (arith, a, ap bit (row-of p q), agrees .holders-is p q, count-has (λ j. hasPiece h j p) n i l);
     }
 
-  pub leave-kept : (i : ℕ) (w : List ℕ) → Kept (leave i) w (atSeat i (leaveOf i) y) (cond (sits n h i) (taken done) (no seat))
+  pub leave-kept : (i : ℕ) (w : List ℕ) → Kept (leave i) w (atSeat i (leaveOf i) y) (cond (sitsBy (byHistory n h) i) (taken done) (no seat))
   unfolding leaveOf event sizesWith
   leave-kept i w = lift (leave i) w i (leaveOf i) _ (sized-good (leave i) w i _ _ (sitting-good (leave i) w i _ _ (λ l sat.
       by-test (λ (t : Turn). Good (leave i) w i t (taken done)) (atZero i (at n h y agrees i))

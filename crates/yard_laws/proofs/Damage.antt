@@ -51,11 +51,11 @@ or-other : (a b : Bool) → b ≡ true → a || b ≡ true
 or-other true b e = refl
 or-other false b e = e
 
-no-spare : (pieces : ℕ) (b : List ℕ) → spareSet pieces b ≡ false → (p : ℕ) → pieces ≤ p → p < 8 * length b → bitAt b p ≡ false
+pub no-spare : (pieces : ℕ) (b : List ℕ) → spareSet pieces b ≡ false → (p : ℕ) → pieces ≤ p → p < 8 * length b → bitAt b p ≡ false
 no-spare pieces b e p l m =
     false-if (bitAt b p) (λ t. cannot _ (some-every (λ q. leb pieces q && bitAt b q) (8 * length b) e p m) (both-true (leb pieces p) (bitAt b p) (le-leb pieces p l) t))
 
-spare-none : (pieces : ℕ) (b : List ℕ) → ((p : ℕ) → pieces ≤ p → p < 8 * length b → bitAt b p ≡ false) → spareSet pieces b ≡ false
+pub spare-none : (pieces : ℕ) (b : List ℕ) → ((p : ℕ) → pieces ≤ p → p < 8 * length b → bitAt b p ≡ false) → spareSet pieces b ≡ false
 spare-none pieces b f = false-if (spareSet pieces b) (λ t.
     let k = some-one (λ q. leb pieces q && bitAt b q) (8 * length b) t in
     let q = both (leb pieces (k .0)) (bitAt b (k .0)) (k .2) in
@@ -68,19 +68,19 @@ module _ (y : Yard) where
   abbrev pieces : ℕ
   pieces = y .head .pieces
 
-  abbrev fits : Bool
+  abbrev pub fits : Bool
   fits = sizesFit (y .head) n (length (y .rows)) (length (y .holders))
 
-  fit-is : fits ≡ true → Fit y
+  pub fit-is : fits ≡ true → Fit y
   unfolding sizesFit
   fit-is e = fits-sized pieces (y .head .«piece_length») (y .head .«last_length») y e
 
-  is-fit : Fit y → fits ≡ true
+  pub is-fit : Fit y → fits ≡ true
   unfolding sizesFit
   is-fit f = sized-fits pieces (y .head .«piece_length») (y .head .«last_length») y f
 
   -- seat i and the tables around it
-  abbrev seatAt : ℕ → Around
+  abbrev pub seatAt : ℕ → Around
   seatAt i = around (y .head) (seatOf y i) (y .rows) (y .holders)
 
   -- ---- the tests of a frame that announces, of leaving and of sitting down, by their counts
@@ -102,7 +102,7 @@ module _ (y : Yard) where
         omega (arith, count-has (isNew i said (seatAt i)) pieces p (w .there))
 
     module _ (s : List ℕ) (fit : Fit y) (here : Taken y i) (a : Announces y i s said) where
-      over-is : overTop n i said (seatAt i) ≡ true → Damaged y (feed i s)
+      pub over-is : overTop n i said (seatAt i) ≡ true → Damaged y (feed i s)
       unfolding overTop
       over-is e = first (or-cases _ _ e)
         where
@@ -150,7 +150,7 @@ module _ (y : Yard) where
       holders-over l = or-other heldTest _ (or-other completeTest _
           (some-has (λ q. isNew i said (seatAt i) q && leb n (getD (y .holders) q 0)) pieces p (w .there) (both-true _ _ (is-new p w) (le-leb n (getD (y .holders) p 0) l))))
 
-  zero-is : (i : ℕ) → Fit y → Taken y i → atZero i (seatAt i) ≡ true → Damaged y (leave i)
+  pub zero-is : (i : ℕ) → Fit y → Taken y i → atZero i (seatAt i) ≡ true → Damaged y (leave i)
   unfolding atZero
   zero-is i fit here e = first (or-cases _ _ e)
     where
@@ -176,10 +176,10 @@ module _ (y : Yard) where
   is-zero i (inr (inr (p, l, e, f))) = or-other (eqb (y .head .taken) 0) _ (or-other (eqb (seatOf y i .held) pieces && eqb (y .head .complete) 0) _
       (some-has (λ q. inRow y i q && eqb (getD (y .holders) q 0) 0) pieces p l (both-true _ _ e (eq-eqb (getD (y .holders) p 0) 0 f))))
 
-  lowest-free : lowestFree (y .seats) < n → Free y (lowestFree (y .seats))
+  pub lowest-free : lowestFree (y .seats) < n → Free y (lowestFree (y .seats))
   lowest-free l = (l, free-lowest (y .seats) .lacks l)
 
-  free-some : (i : ℕ) → Free y i → lowestFree (y .seats) < n
+  pub free-some : (i : ℕ) → Free y i → lowestFree (y .seats) < n
   free-some i f = less-or (lowestFree (y .seats)) n (λ l. l) (λ l. cannot _ (f .1) (free-lowest (y .seats) .below i (omega (arith, f .0))))
 
   -- ---- a refusal by 38 or 39 has its cause
@@ -274,7 +274,7 @@ module _ (y : Yard) where
   unsized : (i : ℕ) (t : Turn) → (Fit y → ⊥) → sized n (seatAt i) t .answer ≡ refused sizes 0
   unsized i t f = ap (λ (b : Bool). cond b t (refuse sizes (seatAt i)) .answer) (false-if fits (λ e. f (fit-is e)))
 
-  unfit-given : (c : Call) → Unfit y c → step c y .answer ≡ refused sizes 0
+  pub unfit-given : (c : Call) → Unfit y c → step c y .answer ≡ refused sizes 0
   unfolding step startOf sitOf leaveOf feedOf markOf scarcestOf lookOf hasOf countOf
   unfit-given (start p l k) f = rw (false-if (fitsFor p l k y) (λ e. f (fits-sized p l k y e)))
   unfit-given sit f = unsized (lowestFree (y .seats)) _ f
@@ -290,16 +290,16 @@ module _ (y : Yard) where
 
   -- ---- and of 39
 
-  sized-to : (i : ℕ) (t : Turn) → Fit y → sized n (seatAt i) t ≡ t
+  pub sized-to : (i : ℕ) (t : Turn) → Fit y → sized n (seatAt i) t ≡ t
   sized-to i t f = ap (λ (b : Bool). cond b t (refuse sizes (seatAt i))) (is-fit f)
 
   sitting-to : (i : ℕ) (t : Turn) → Taken y i → sitting i n (seatAt i) t ≡ t
   sitting-to i t h = ap (λ (b : Bool). cond b t (refuse seat (seatAt i))) (both-true (ltb i n) (getD (y .seats) i cleared .taken) (lt-ltb i n (h .0)) (h .1))
 
-  pick : {A : Type 0} (b : Bool) (x z : A) → b ≡ true → cond b x z ≡ x
+  pub pick : {A : Type 0} (b : Bool) (x z : A) → b ≡ true → cond b x z ≡ x
   pick b x z e = rw e
 
-  skip : {A : Type 0} (b : Bool) (x z : A) → b ≡ false → cond b x z ≡ z
+  pub skip : {A : Type 0} (b : Bool) (x z : A) → b ≡ false → cond b x z ≡ z
   skip b x z e = rw e
 
   heard-as : (i : ℕ) (s : List ℕ) (m : Message (List ℕ)) (bytes : ℕ) → Fit y → Taken y i → Says s m bytes
@@ -326,7 +326,7 @@ module _ (y : Yard) where
   unfolding step leaveOf
   zero-given i fit here e = ap (λ (t : Turn). t .answer) (sized-to i _ fit ∙ sitting-to i _ here ∙ pick (atZero i (seatAt i)) _ _ e)
 
-  damage-given : (c : Call) → Damaged y c → step c y .answer ≡ refused damaged 0
+  pub damage-given : (c : Call) → Damaged y c → step c y .answer ≡ refused damaged 0
   unfolding step sitOf
   damage-given c (taken-top i fit f m) = ap (λ (t : Turn). t .answer)
       (sized-to (lowestFree (y .seats)) _ fit ∙ skip (leb n (lowestFree (y .seats))) _ _ (lt-leb n (lowestFree (y .seats)) (free-some i f)) ∙ pick (leb n (y .head .taken)) _ _ (le-leb n (y .head .taken) m))

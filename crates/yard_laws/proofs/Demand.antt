@@ -19,7 +19,8 @@ use Rattle.yard_tables.specs.declared.Page.{Page}
 use Rattle.yard_laws.specs.History.{History, announced, pieces}
 use Rattle.yard_laws.specs.History.{seated as sitsAt}
 use Rattle.yard_laws.specs.Says.{loaded, lacking, recordOf, holders, pageLines, pageOf, leastOf, Lowest}
-use Rattle.yard_laws.specs.Expected.{no, freeSeat, answer}
+use Rattle.yard_laws.specs.View.{byHistory}
+use Rattle.yard_laws.specs.Expected.{no, freeBy, answer}
 use Rattle.yard_laws.specs.Causes.{Cause, WaitCause, Serves, Drops}
 use Rattle.yard_laws.specs.Run.{Accepted, after}
 use Rattle.yard_laws.proofs.Theorem.{right, answered, wrote, some-pieces}
@@ -86,13 +87,13 @@ module _ (p l k : ℕ) (y : Yard) (ok : Accepted p l k y) (cs : List Call) where
 
   -- a seat that is given is the lowest free one
   pub sits-lowest : (i : ℕ) → step sit now .answer ≡ taken (seated i) → Lowest (sitsAt past) seats i × (i < seats)
-  sits-lowest i e = go (leb seats (freeSeat seats past)) refl (sym (answered p l k y ok cs sit) ∙ e)
+  sits-lowest i e = go (leb seats (freeBy (byHistory seats past))) refl (sym (answered p l k y ok cs sit) ∙ e)
     where
-      go : (b : Bool) → leb seats (freeSeat seats past) ≡ b → cond b (no full) (taken (seated (freeSeat seats past))) ≡ taken (seated i) → Lowest (sitsAt past) seats i × (i < seats)
+      go : (b : Bool) → leb seats (freeBy (byHistory seats past)) ≡ b → cond b (no full) (taken (seated (freeBy (byHistory seats past)))) ≡ taken (seated i) → Lowest (sitsAt past) seats i × (i < seats)
       go true q f = let z : _≡_ {A = ℕ} 0 1 = cc in absurd (omega arith)
       go false q f =
-          let d : freeSeat seats past ≡ i = cc in
-          (subst (Lowest (sitsAt past) seats) d (lowest-is (sitsAt past) seats), omega (arith, d, leb-false seats (freeSeat seats past) q))
+          let d : freeBy (byHistory seats past) ≡ i = cc in
+          (subst (Lowest (sitsAt past) seats) d (lowest-is (sitsAt past) seats), omega (arith, d, leb-false seats (freeBy (byHistory seats past)) q))
 
   -- ---- 13: each page, whatever its room
 

@@ -6,8 +6,10 @@ pub mod Lowest
 pub mod Missing
 pub mod Looks
 pub mod Theorem
+pub mod Caused
 pub mod Fair
 pub mod Serving
 pub mod Pages
 pub mod Demand
 pub mod Damage
+pub mod OnTables

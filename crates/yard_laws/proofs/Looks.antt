@@ -23,7 +23,8 @@ use Rattle.yard_tables.specs.declared.Page.{Page}
 use Rattle.yard_tables.proofs.Sizing.{Fitting}
 use Rattle.yard_laws.specs.History.{History, event, pieces, sizesWith, seated}
 use Rattle.yard_laws.specs.Says.{hasPiece, lacking, recordOf, holders, headOf, pageLines, pageOf, lowestWithout, leastOf}
-use Rattle.yard_laws.specs.Expected.{no, freeSeat}
+use Rattle.yard_laws.specs.View.{byHistory}
+use Rattle.yard_laws.specs.Expected.{no, freeBy}
 use Rattle.yard_laws.proofs.Agreeing.{Agrees, at}
 use Rattle.yard_laws.proofs.Calls.{Good, unchanged, Kept, lift, refuses, sized-good, sizes-here, sit-good, by-same}
 use Rattle.yard_laws.proofs.Lowest.{lowest-is, free-is, scarcest-is}
@@ -32,15 +33,15 @@ use Rattle.yard_laws.proofs.Missing.{lines-are, page-is}
 module _ (n : ℕ) (h : History) (y : Yard) (agrees : Agrees n h y) where
   -- ---- sitting down
 
-  free-seat : lowestFree (y .seats) ≡ freeSeat n h
+  free-seat : lowestFree (y .seats) ≡ freeBy (byHistory n h)
   free-seat =
       free-is (y .seats) (seated h) (λ i. ap (λ (s : Seat). s .taken) (agrees .seat-is i))
       ∙ ap (lowestWithout (seated h)) (agrees .seats-len)
 
   pub sit-kept : (w : List ℕ) → Kept n h y agrees sit w (atSeat (lowestFree (y .seats)) (sitOf (lowestFree (y .seats))) y)
-      (cond (leb n (freeSeat n h)) (no full) (taken (givesSeat (freeSeat n h))))
-  sit-kept w = subst (λ (i : ℕ). Kept n h y agrees sit w (atSeat i (sitOf i) y) (cond (leb n (freeSeat n h)) (no full) (taken (givesSeat (freeSeat n h))))) (sym free-seat)
-      (lift n h y agrees sit w (freeSeat n h) (sitOf (freeSeat n h)) _ (sit-good n h y agrees w (freeSeat n h) (lowest-is (seated h) n .lacks)))
+      (cond (leb n (freeBy (byHistory n h))) (no full) (taken (givesSeat (freeBy (byHistory n h)))))
+  sit-kept w = subst (λ (i : ℕ). Kept n h y agrees sit w (atSeat i (sitOf i) y) (cond (leb n (freeBy (byHistory n h))) (no full) (taken (givesSeat (freeBy (byHistory n h)))))) (sym free-seat)
+      (lift n h y agrees sit w (freeBy (byHistory n h)) (sitOf (freeBy (byHistory n h))) _ (sit-good n h y agrees w (freeBy (byHistory n h)) (lowest-is (seated h) n .lacks)))
 
   -- ---- the missing list
 

@@ -14,7 +14,7 @@ use Rattle.yard_tables.specs.Step.{Call, start, sit, leave, feed, choke, intere
 use Rattle.yard_tables.specs.Step.{count as counts}
 use Rattle.yard_tables.specs.declared.Seat.{Seat}
 use Rattle.yard_laws.specs.Causes.{Says}
-use Rattle.yard_laws.specs.Run.{SizesFit}
+use Rattle.yard_laws.specs.View.{SizesFit}
 
 -- ---- 38
 

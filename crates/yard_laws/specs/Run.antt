@@ -1,17 +1,16 @@
 -- A run of calls on tables that are handed on untouched, and what is right after it. Assumes nothing: these are definitions.
 use mathlib.Core.Path.{_≡_}
 use mathlib.Core.List.{List, [], _∷_}
-use Prim.Native.Nat.{ℕ, _*_, _≤_, _<_}
+use Prim.Native.Nat.{ℕ, _≤_, _<_}
 use lib.ListN.{length, getD}
 use Rattle.refusal.specs.Paper.{taken}
-use Rattle.refusal.specs.Limits.{mostPieces, mostSeats}
-use Rattle.torrent_blocks.specs.Rules.{PieceLength}
 use Rattle.yard_tables.specs.Rows.{width, hasIn}
 use Rattle.yard_tables.specs.Seats.{cleared}
 use Rattle.yard_tables.specs.Tables.{Yard, done}
 use Rattle.yard_tables.specs.Step.{Call, start, step, written}
 use Rattle.yard_laws.specs.History.{Entry, History, entry, pieces, sizesSet}
 use Rattle.yard_laws.specs.Expected.{answer, output}
+pub use Rattle.yard_laws.specs.View.{SizesFit}
 use Rattle.yard_laws.specs.Says.{hasPiece, recordOf, holders, takenSeats, completeSeats}
 
 -- the history so far, and the tables
@@ -31,18 +30,6 @@ run (c ∷ cs) s = run cs (next c s)
 -- a start of these sizes is accepted for the tables y, whatever is in them
 abbrev pub Accepted : ℕ → ℕ → ℕ → Yard → Type 0
 Accepted p l k y = step (start p l k) y .answer ≡ taken done
-
--- that is: the sizes are legal, and the lent tables have them
-pub record SizesFit (p l k : ℕ) (y : Yard) : Type 0 where
-  pub some-pieces : 1 ≤ p
-  pub few-pieces : p ≤ mostPieces
-  pub some-seats : 1 ≤ length (y .seats)
-  pub few-seats : length (y .seats) ≤ mostSeats
-  pub piece-length : PieceLength l
-  pub some-last : 1 ≤ k
-  pub last-within : k ≤ l
-  pub rows-fit : length (y .rows) ≡ length (y .seats) * width p
-  pub holders-fit : length (y .holders) ≡ p
 
 -- the start, and then the calls
 abbrev pub after : ℕ → ℕ → ℕ → Yard → List Call → State

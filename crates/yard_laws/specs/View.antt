@@ -1,16 +1,17 @@
 -- What the causes of a refusal ask of a yard, said once for a history and for tables. Assumes nothing: these are definitions.
-use Prim.Native.Nat.{ℕ, _≤_}
+use Prim.Native.Nat.{ℕ, _+_, _*_, _≤_}
 use mathlib.Core.Path.{_≡_}
-use mathlib.Core.Bool.{Bool}
+use mathlib.Core.Bool.{Bool, cond}
+use lib.Dec.{eqb}
 use lib.ListN.{length, getD}
+use Rattle.refusal.specs.Limits.{mostPieces, mostSeats}
 use Rattle.torrent_blocks.specs.Rules.{PieceLength}
+use Rattle.yard_tables.specs.Rows.{width}
 use Rattle.yard_tables.specs.Seats.{cleared}
 use Rattle.yard_tables.specs.Tables.{Yard}
 use Rattle.yard_tables.specs.Frames.{pieceSize}
-use Rattle.yard_laws.specs.History.{History, seated, fresh, weAreChoking, theyAreInterested}
+use Rattle.yard_laws.specs.History.{History, seated, fresh, weAreChoking, theyAreInterested, sizesSet}
 use Rattle.yard_laws.specs.History.{pieces as piecesIn}
-use Rattle.yard_laws.specs.Expected.{lengthOf}
-use Rattle.yard_laws.specs.Run.{SizesFit}
 
 pub record View : Type 1 where
   pub seats : ℕ
@@ -25,11 +26,17 @@ pub record View : Type 1 where
   -- the sizes that a start may have: pieces, piece length, last piece's length
   pub MayStart : ℕ → ℕ → ℕ → Type 0
 
+-- ---- as the history says
+
+-- the length of piece p
+abbrev pub lengthOf : History → ℕ → ℕ
+lengthOf h p = cond (eqb (p + 1) (piecesIn h)) (sizesSet h .lastLength) (sizesSet h .pieceLength)
+
 -- a further start has as many pieces as the tables, a legal piece length, and a last piece from 1 to it
 abbrev pub StartFits : History → ℕ → ℕ → ℕ → Type 0
 StartFits h p l k = (p ≡ piecesIn h) × PieceLength l × (1 ≤ k) × (k ≤ l)
 
--- as the history says, on a yard of n seats
+-- on a yard of n seats
 abbrev pub byHistory : ℕ → History → View
 byHistory n h = record {
   seats = n;
@@ -42,7 +49,20 @@ byHistory n h = record {
   MayStart = StartFits h;
 }
 
--- as the tables say
+-- ---- as the tables say
+
+-- sizes are legal, and the tables have them
+pub record SizesFit (p l k : ℕ) (y : Yard) : Type 0 where
+  pub some-pieces : 1 ≤ p
+  pub few-pieces : p ≤ mostPieces
+  pub some-seats : 1 ≤ length (y .seats)
+  pub few-seats : length (y .seats) ≤ mostSeats
+  pub piece-length : PieceLength l
+  pub some-last : 1 ≤ k
+  pub last-within : k ≤ l
+  pub rows-fit : length (y .rows) ≡ length (y .seats) * width p
+  pub holders-fit : length (y .holders) ≡ p
+
 abbrev pub byTables : Yard → View
 byTables y = record {
   seats = length (y .seats);
