@@ -116,6 +116,12 @@ module _ (lent : Yard) (h : History) (y : Yard) (made : Made lent h y) where
   tops = here (λ g z. ((p : ℕ) → p < pieces g → getD (z .holders) p 0 ≤ seats) × ((i : ℕ) → i < seats → getD (z .seats) i cleared .held ≤ pieces g) × (z .head .taken ≤ seats) × (z .head .complete ≤ seats))
       (λ p l k ok cs. demand.tops p l k lent ok cs)
 
+  -- no count passes the number it could truly reach: a piece has no more holders than trucks sit, no more seats are complete than taken, no truck has more pieces
+  -- than there are
+  pub reach : ((p : ℕ) → p < pieces h → getD (y .holders) p 0 ≤ y .head .taken) × (y .head .complete ≤ y .head .taken) × ((i : ℕ) → i < seats → getD (y .seats) i cleared .held ≤ pieces h)
+  reach = here (λ g z. ((p : ℕ) → p < pieces g → getD (z .holders) p 0 ≤ z .head .taken) × (z .head .complete ≤ z .head .taken) × ((i : ℕ) → i < seats → getD (z .seats) i cleared .held ≤ pieces g))
+      (λ p l k ok cs. demand.reach p l k lent ok cs)
+
   -- ---- 12. A refusal or a wait has its listed cause in the history, and where a cause holds it is given, in document 01's order
 
   module _ (c : Call) where

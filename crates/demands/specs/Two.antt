@@ -28,6 +28,7 @@ use Rattle.torrent_blocks.specs.Rules.{sum, Lawful, piecesOf}
 use Rattle.torrent_blocks.specs.Spans.{FilePart, part, joinedFiles, partsOf}
 use Rattle.torrent_blocks.specs.Answers.{Spot, partsPaper, placePaper, sizePaper, sizeOf, blockOf, byteOf, flat, partsWritten, left as parting}
 use Rattle.torrent_blocks.specs.Covers.{run, placesOf, Neat}
+use Rattle.torrent_blocks.proofs.Unique.{covers-unique}
 use Rattle.torrent_blocks.specs.declared.Parts.{Parts}
 use Rattle.torrent_blocks.specs.declared.Place.{Place}
 use Rattle.torrent_blocks.specs.declared.Size.{Size}
@@ -216,6 +217,10 @@ frame-parts s at q = decided.exactly s (taken (found at q))
 pub stream-reads-back : (ms : List (Message (List ℕ))) → KeepAll ms → (rest : List ℕ) → streamOf (length ms) (encodeAll ms ++ rest) ≡ record { messages = ms; after = rest }
 stream-reads-back = frames.stream-reads-back
 
+-- and of any bytes: the messages that are read, which may be sent, written again, and what is left after them, are the bytes
+pub stream-kept : (k : ℕ) (s : List ℕ) → Bytes s → (encodeAll (streamOf k s .messages) ++ streamOf k s .after ≡ s) × KeepAll (streamOf k s .messages)
+stream-kept = frames.stream-kept
+
 -- of peer_wire::write::handshake, and peer_wire::read_handshake on what it wrote: zeros in the free bytes, the hash that was asked for, the peer id
 pub handshake-reads-back : (info peerId : List ℕ) → length info ≡ 20 → length peerId ≡ 20 → (o out : List ℕ) (r : Put)
     → left (putPaper r) out ≡ putOf (handshake zeros info peerId) 0 o → (q : ℕ) → putPaper r ≡ taken q
@@ -306,6 +311,10 @@ block-covers ns pl p q n o out r c k t =
     let b = blocks.block-parts ns pl p q n o (partsPaper r) out c k t in
     let w = whole.block-covers (joinedFiles ns) pl (joined-laid ns pl) p q n (b .0) (b .1) in
     (b .0, b .2, b .3, w .bytes, w .neat)
+
+-- and no other parts are these bytes, once each and in order, each in its file and not empty
+pub parts-unique : (ns : List ℕ) (x n : ℕ) (ps qs : List FilePart) → placesOf (joinedFiles ns) ps ≡ run x n → Neat (joinedFiles ns) 0 ps → placesOf (joinedFiles ns) qs ≡ run x n → Neat (joinedFiles ns) 0 qs → ps ≡ qs
+parts-unique ns x n ps qs a b c d = covers-unique (joinedFiles ns) (joined-ordered 0 ns) x n ps qs (record { bytes = a; neat = b }) (record { bytes = c; neat = d })
 
 -- and it is taken exactly when the numbers keep the rules for torrents, there is such a piece, the block has 1 to 16,384 bytes and ends within its piece, and
 -- there is room

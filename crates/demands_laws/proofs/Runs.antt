@@ -16,7 +16,7 @@ use Rattle.peer_wire.specs.Causes.{Few, Cut}
 use Rattle.yard_laws.specs.Causes.{Sits, Cause, WaitCause, cut-off}
 use Rattle.yard_tables.proofs.Sizing.{Fitting, fitting}
 use Rattle.yard_laws.specs.Damage.{Fit}
-use Rattle.yard_laws.proofs.Damage.{sizes-exactly}
+use Rattle.yard_laws.proofs.Damage.{is-fit, sizes-exactly}
 use mathlib.Core.Logic.{_⊎_, _↔_, Iff·trans}
 use mathlib.Core.Path.{_≡_, refl, sym, ap, subst, _∙_}
 use Rattle.refusal.proofs.Cases.{by-test, no-way}
@@ -122,4 +122,4 @@ tables-fit lent h y made = fitting (y .head) (length (y .seats)) (length (y .row
 
     go : (b : Bool) → sizesFit (y .head) (length (y .seats)) (length (y .rows)) (length (y .holders)) ≡ b → sizesFit (y .head) (length (y .seats)) (length (y .rows)) (length (y .holders)) ≡ true
     go true e = e
-    go false e = absurd (never (sizes-exactly y sit 0 .1 ((λ (f : Fit y). true≢false (sym f ∙ e)), refl)))
+    go false e = absurd (never (sizes-exactly y sit 0 .1 ((λ (f : Fit y). true≢false (sym (is-fit y f) ∙ e)), refl)))

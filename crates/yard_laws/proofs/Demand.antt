@@ -6,11 +6,13 @@ use mathlib.Core.List.{List}
 use Prim.Native.Nat.{ℕ, zero, suc, _≤_, _<_}
 use native.Mathlib.Omega.{arith}
 use borrow.Author.Tests.{le-leb, leb-false}
-use lib.Dec.{leb}
+use lib.Dec.{leb, eqb}
 use lib.ListN.{length, getD}
 use Rattle.refusal.specs.Paper.{taken, refused}
 use Rattle.refusal.specs.Numbers.{damaged, seat, full}
+use Rattle.refusal.proofs.Cases.{both}
 use Rattle.yard_tables.specs.Counting.{count, Least}
+use Rattle.yard_tables.proofs.Counts.{count-sub}
 use Rattle.yard_tables.specs.Seats.{cleared}
 use Rattle.yard_tables.specs.Tables.{Yard, Said, wait, serve, dropped, listed, scarce, seated}
 use Rattle.yard_tables.specs.Step.{Call, sit, missing, scarcest, step}
@@ -18,7 +20,7 @@ use Rattle.yard_tables.specs.Step.{written as writtenIn}
 use Rattle.yard_tables.specs.declared.Page.{Page}
 use Rattle.yard_laws.specs.History.{History, announced, pieces}
 use Rattle.yard_laws.specs.History.{seated as sitsAt}
-use Rattle.yard_laws.specs.Says.{loaded, lacking, recordOf, holders, pageLines, pageOf, leastOf, Lowest}
+use Rattle.yard_laws.specs.Says.{hasPiece, held, loaded, lacking, recordOf, holders, pageLines, pageOf, leastOf, Lowest}
 use Rattle.yard_laws.specs.View.{byHistory}
 use Rattle.yard_laws.specs.Expected.{no, freeBy, answer}
 use Rattle.yard_laws.specs.Causes.{Cause, WaitCause, Serves, Drops}
@@ -63,6 +65,15 @@ module _ (p l k : ℕ) (y : Yard) (ok : Accepted p l k y) (cs : List Call) where
   pub tops : ((q : ℕ) → q < pieces past → getD (now .holders) q 0 ≤ seats) × ((i : ℕ) → i < seats → getD (now .seats) i cleared .held ≤ pieces past)
       × (now .head .taken ≤ seats) × (now .head .complete ≤ seats)
   tops = let r = right p l k y ok cs in (r .holders-top, r .held-top, r .taken-top, r .complete-top)
+
+  -- a piece has no more holders than trucks sit, no more seats are complete than taken, and no truck holds more pieces than there are
+  pub reach : ((q : ℕ) → q < pieces past → getD (now .holders) q 0 ≤ now .head .taken) × (now .head .complete ≤ now .head .taken) × ((i : ℕ) → i < seats → getD (now .seats) i cleared .held ≤ pieces past)
+  reach =
+      let r = right p l k y ok cs in (
+        λ q m. omega (arith, r .holders-right q m, r .taken-right, count-sub (λ i. hasPiece past i q) (sitsAt past) seats (λ i e. both (sitsAt past i) (announced past i q) e .0)),
+        omega (arith, r .complete-right, r .taken-right, count-sub (loaded past) (sitsAt past) seats (λ i e. both (sitsAt past i) (eqb (held past i) (pieces past)) e .0)),
+        r .held-top,
+      )
 
   -- ---- 12: every refusal and every wait has its listed cause, and where a cause holds it is given; without one the call is taken
 

@@ -17,6 +17,7 @@ use Rattle.yard_tables.specs.Rows.{width, bitAt}
 use Rattle.yard_tables.specs.Step.{Call, start, sit, leave, feed, choke, interest, missing, look, has, count}
 use Rattle.yard_laws.specs.History.{History}
 use Rattle.yard_laws.specs.View.{View, byHistory}
+pub use Rattle.yard_laws.specs.View.{StartFits}
 
 -- ---- words
 

@@ -20,6 +20,15 @@ module _ (f g : ℕ → Bool) where
       let b : bit (f n) ≡ bit (g n) = ap bit (h n (omega arith)) in
       omega arith
 
+  -- where f has it g has it
+  pub count-sub : (n : ℕ) → ((k : ℕ) → f k ≡ true → g k ≡ true) → count n f ≤ count n g
+  count-sub zero h = omega arith
+  count-sub (suc n) h = omega (arith, count-sub n h, bit-sub (f n) (g n) (h n))
+    where
+      bit-sub : (a b : Bool) → (a ≡ true → b ≡ true) → bit a ≤ bit b
+      bit-sub true b q = rw (q refl) (omega arith)
+      bit-sub false b q = omega arith
+
   -- g is f but at i
   pub count-change : (n i : ℕ) → i < n → ((k : ℕ) → k < n → k ≢ i → g k ≡ f k) → count n g + bit (f i) ≡ count n f + bit (g i)
   count-change zero i l h = absurd (not-suc-le-zero l)
