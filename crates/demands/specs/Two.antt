@@ -33,7 +33,7 @@ use Rattle.torrent_blocks.specs.declared.Parts.{Parts}
 use Rattle.torrent_blocks.specs.declared.Place.{Place}
 use Rattle.torrent_blocks.specs.declared.Size.{Size}
 use Rattle.torrent_blocks.proofs.Whole as whole
-use Rattle.torrent_blocks.proofs.Joined.{joined-laid}
+use Rattle.torrent_blocks.proofs.Joined.{joined-laid, joined-ordered}
 use Rattle.peer_wire.specs.Message.{Message, FieldsFit, body, keepalive, encode as frameOf}
 use Rattle.peer_wire.specs.Frames.{found, messageIn, readOf, meant, Lengths, streamOf, encodeAll, KeepAll, writeOf}
 use Rattle.peer_wire.specs.Handshake.{hello, name, handshake, zeros, shakeOf}
