@@ -2,12 +2,8 @@
 use borrow.Author.Needs.{needs}
 use Rattle.yard_seating.proofs.Ways.{fault-sizes, fault-past, fault-none, fault-free}
 use native.Mathlib.Omega.{arith}
-use Prim.Native.Nat.{_-_}
 use Rattle.yard_seating.proofs.fault_at.Statement.{statement}
 use Rattle.yard_seating.proofs.fault_at.Tie as tie
-
-sizes-fit-requires : tie.Need-sizes-fit-requires
-sizes-fit-requires c κs = search needs
 
 returns : tie.Need-returns
 returns c = fault-sizes (c .before .before .args .h) (c .before .before .args .s) (c .before .before .args .i) (c .before .before .args .n) (c .before .before .args .row-bytes) (c .before .before .args .counts) _ (c .before .sizes-fit .ensures) (c .if1 .taken)
@@ -22,4 +18,4 @@ returns-4 : tie.Need-returns-4
 returns-4 c = fault-free (c .before .before .before .before .args .h) (c .before .before .before .before .args .s) (c .before .before .before .before .args .i) (c .before .before .before .before .args .n) (c .before .before .before .before .args .row-bytes) (c .before .before .before .before .args .counts) _ (c .before .before .before .sizes-fit .ensures) (c .before .before .if1 .left) (omega arith) (c .if3 .left)
 
 pub fault-at-spec : {M : Type 1} → statement M
-fault-at-spec = tie.close (tie.spec sizes-fit-requires returns returns-2 returns-3 returns-4)
+fault-at-spec = tie.close (tie.spec (λ c κs. search needs) returns returns-2 returns-3 returns-4)

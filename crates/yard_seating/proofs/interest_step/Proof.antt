@@ -6,27 +6,14 @@ use Rattle.yard_tables.specs.Seats.{weWant}
 use Rattle.yard_seating.proofs.Ways.{mark-way, interest-frame}
 use lib.Seq.{sets}
 use lib.ListN.{length}
-use Prim.Native.Nat.{ℕ, _-_}
+use Prim.Native.Nat.{ℕ}
 use mathlib.Core.List.{List}
 use mathlib.Core.Path.{refl, ap, _∙_}
 use Rattle.yard_seating.proofs.interest_step.Statement.{statement}
 use Rattle.yard_seating.proofs.interest_step.Tie as tie
 
-fault-at-requires : tie.Need-fault-at-requires
-fault-at-requires c κs = search needs
-
-interest-id-requires : tie.Need-interest-id-requires
-interest-id-requires c κs = search needs
-
-mark-requires : tie.Need-mark-requires
-mark-requires c κs = search needs
-
-same-length : tie.Need-same-length
-same-length c = search needs
-
 returns : tie.Need-returns
 returns c = (mark-way (c .before .before .before .before .before .before .before .before .before .args .h) (c .before .before .before .before .before .before .before .before .before .args .s) (c .before .before .before .before .before .before .before .before .before .args .i) (c .before .before .before .before .before .before .before .before .before .args .n) (c .before .before .before .before .before .before .before .before .before .args .rows .now) (c .before .before .before .before .before .before .before .before .before .args .holders .now) _ (c .before .before .before .before .before .fault-at .ensures) (weWant (c .before .before .before .before .before .before .before .before .before .args .on)) _ (length (c .before .before .before .before .before .before .before .before .before .args .out .now)) _ refl (c .before .before .mark .ensures .0), c .before .before .mark .ensures .1 ∙ ap (λ (b : List ℕ). sets (c .before .before .before .before .before .before .before .before .before .args .out .now) 0 (ifTaken (paper (c .before .before .mark .result .answer)) b)) (interest-frame (c .before .before .before .before .before .before .before .before .before .args .on) _ (c .before .before .before .before .interest-id .ensures .0)))
 
 pub interest-step-spec : {M : Type 1} → statement M
-interest-step-spec =
-    tie.close (tie.spec fault-at-requires interest-id-requires mark-requires same-length returns)
+interest-step-spec = tie.close (tie.spec (λ c κs. search needs) (λ c κs. search needs) (λ c κs. search needs) (λ c. search needs) returns)

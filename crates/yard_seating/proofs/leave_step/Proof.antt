@@ -4,46 +4,22 @@ use Rattle.yard_seating.proofs.Ways.{row-room, row-inside, leave-fault,
 use Rattle.yard_seating.proofs.Ways.{row-inside, leave-fault, leave-head, leave-piece, leave-done, fault-seat}
 use lib.ListN.{length}
 use native.Mathlib.Omega.{arith}
-use Prim.Native.Nat.{_+_, _*_, _-_, _≤_}
+use Prim.Native.Nat.{_+_, _*_, _≤_}
 use mathlib.Core.Path.{refl, sym, _∙_}
 use Rattle.yard_seating.proofs.leave_step.Statement.{statement}
 use Rattle.yard_seating.proofs.leave_step.Tie as tie
 
-fault-at-requires : tie.Need-fault-at-requires
-fault-at-requires c κs = search needs
-
-refused-requires : tie.Need-refused-requires
-refused-requires c κs = search needs
-
 returns : tie.Need-returns
 returns c = leave-fault (c .before .before .before .before .before .args .h) (c .before .before .before .before .before .args .s) (c .before .before .before .before .before .args .i) (c .before .before .before .before .before .args .n) (c .before .before .before .before .before .args .rows .now) (c .before .before .before .before .before .args .holders .now) _ (c .before .before .fault-at .ensures) _ (c .before .if1 .taken) (c .refused .ensures)
 
-width-requires : tie.Need-width-requires
-width-requires c κs = search needs
-
 mul-at : tie.Need-mul-at
 mul-at c = let ri : c .before .before .before .before .before .args .i * c .width .result + c .width .result ≤ length (c .before .before .before .before .before .args .rows .now) = row-inside (c .before .before .before .before .before .args .h) (c .before .before .before .before .before .args .n) (length (c .before .before .before .before .before .args .rows .now)) (length (c .before .before .before .before .before .args .holders .now)) (fault-seat (c .before .before .before .before .before .args .h) (c .before .before .before .before .before .args .s) (c .before .before .before .before .before .args .i) (c .before .before .before .before .before .args .n) (c .before .before .before .before .before .args .rows .now) (c .before .before .before .before .before .args .holders .now) _ (c .before .before .fault-at .ensures) (c .before .if1 .left) .0) (c .before .before .before .before .before .args .i) _ (fault-seat (c .before .before .before .before .before .args .h) (c .before .before .before .before .before .args .s) (c .before .before .before .before .before .args .i) (c .before .before .before .before .before .args .n) (c .before .before .before .before .before .args .rows .now) (c .before .before .before .before .before .args .holders .now) _ (c .before .before .fault-at .ensures) (c .before .if1 .left) .1) (c .width .ensures) in omega arith
-
-head-at-zero-requires : tie.Need-head-at-zero-requires
-head-at-zero-requires c κs = search needs
-
-refused-requires-2 : tie.Need-refused-requires-2
-refused-requires-2 c κs = search needs
 
 returns-2 : tie.Need-returns-2
 returns-2 c = leave-head (c .before .before .before .before .before .before .before .before .args .h) (c .before .before .before .before .before .before .before .before .args .s) (c .before .before .before .before .before .before .before .before .args .i) (c .before .before .before .before .before .before .before .before .args .n) (c .before .before .before .before .before .before .before .before .args .rows .now) (c .before .before .before .before .before .before .before .before .args .holders .now) _ (c .before .before .before .before .before .fault-at .ensures) _ _ (c .before .before .before .before .if1 .left) (c .before .before .head-at-zero .ensures) (c .before .if2 .taken) (c .refused2 .ensures)
 
 some-zero-requires : tie.Need-some-zero-requires
 some-zero-requires c κs = row-room (c .before .before .before .before .before .before .before .before .before .args .h) (c .before .before .before .before .before .before .before .before .before .args .n) (length (c .before .before .before .before .before .before .before .before .before .args .rows .now)) (length (c .before .before .before .before .before .before .before .before .before .args .holders .now)) (fault-seat (c .before .before .before .before .before .before .before .before .before .args .h) (c .before .before .before .before .before .before .before .before .before .args .s) (c .before .before .before .before .before .before .before .before .before .args .i) (c .before .before .before .before .before .before .before .before .before .args .n) (c .before .before .before .before .before .before .before .before .before .args .rows .now) (c .before .before .before .before .before .before .before .before .before .args .holders .now) _ (c .before .before .before .before .before .before .fault-at .ensures) (c .before .before .before .before .before .if1 .left) .0) (c .before .before .before .before .before .before .before .before .before .args .i) _ (fault-seat (c .before .before .before .before .before .before .before .before .before .args .h) (c .before .before .before .before .before .before .before .before .before .args .s) (c .before .before .before .before .before .before .before .before .before .args .i) (c .before .before .before .before .before .before .before .before .before .args .n) (c .before .before .before .before .before .before .before .before .before .args .rows .now) (c .before .before .before .before .before .before .before .before .before .args .holders .now) _ (c .before .before .before .before .before .before .fault-at .ensures) (c .before .before .before .before .before .if1 .left) .1) (c .before .before .before .before .width .ensures)
-
-refused-requires-3 : tie.Need-refused-requires-3
-refused-requires-3 c κs = search needs
-
-same-length : tie.Need-same-length
-same-length c = search needs
-
-same-length-2 : tie.Need-same-length-2
-same-length-2 c = search needs
 
 returns-3 : tie.Need-returns-3
 returns-3 c = leave-piece (c .before .before .before .before .before .before .before .before .before .before .before .before .args .h) (c .before .before .before .before .before .before .before .before .before .before .before .before .args .s) (c .before .before .before .before .before .before .before .before .before .before .before .before .args .i) (c .before .before .before .before .before .before .before .before .before .before .before .before .args .n) (c .before .before .before .before .before .before .before .before .before .before .before .before .args .rows .now) (c .before .before .before .before .before .before .before .before .before .before .before .before .args .holders .now) _ (c .before .before .before .before .before .before .before .before .before .fault-at .ensures) _ _ _ _ _ (c .before .before .before .before .before .before .before .before .if1 .left) (c .before .before .before .before .before .before .before .width .ensures) refl (c .before .before .before .before .before .before .head-at-zero .ensures) (c .before .before .before .before .before .if2 .left) (c .before .before .some-zero .ensures) (c .before .if3 .taken) (c .refused3 .ensures)
@@ -57,12 +33,6 @@ clear-requires c κs = row-inside (c .before .before .before .before .before .be
 gone-requires : tie.Need-gone-requires
 gone-requires c κs = sym (c .before .before .before .before .before .before .before .before .before .before .before .before .before .before .head-at-zero .ensures) ∙ c .before .before .before .before .before .before .before .before .before .before .before .before .before .if2 .left
 
-same-length-3 : tie.Need-same-length-3
-same-length-3 c = search needs
-
-same-length-4 : tie.Need-same-length-4
-same-length-4 c = search needs
-
 returns-4 : tie.Need-returns-4
 returns-4 c = leave-done (c .before .before .before .before .before .before .before .before .before .before .before .before .before .before .before .before .before .before .before .before .before .args .h) (c .before .before .before .before .before .before .before .before .before .before .before .before .before .before .before .before .before .before .before .before .before .args .s) (c .before .before .before .before .before .before .before .before .before .before .before .before .before .before .before .before .before .before .before .before .before .args .i) (c .before .before .before .before .before .before .before .before .before .before .before .before .before .before .before .before .before .before .before .before .before .args .n) (c .before .before .before .before .before .before .before .before .before .before .before .before .before .before .before .before .before .before .before .before .before .args .rows .now) (c .before .before .before .before .before .before .before .before .before .before .before .before .before .before .before .before .before .before .before .before .before .args .holders .now) _ (c .before .before .before .before .before .before .before .before .before .before .before .before .before .before .before .before .before .before .fault-at .ensures) _ _ _ _ _ _ _ (c .before .before .before .before .before .before .before .before .before .before .before .before .before .before .before .before .before .if1 .left) (c .before .before .before .before .before .before .before .before .before .before .before .before .before .before .before .before .width .ensures) refl (c .before .before .before .before .before .before .before .before .before .before .before .before .before .before .before .head-at-zero .ensures) (c .before .before .before .before .before .before .before .before .before .before .before .before .before .before .if2 .left) (c .before .before .before .before .before .before .before .before .before .before .before .some-zero .ensures) (c .before .before .before .before .before .before .before .before .before .before .if3 .left) (c .before .before .before .before .before .before .before .lower .ensures) (c .before .before .before .clear .ensures) (c .gone .ensures)
 
@@ -70,22 +40,6 @@ pub leave-step-spec : {M : Type 1} → statement M
 leave-step-spec =
     tie.close
     (tie.spec
-    fault-at-requires
-    refused-requires
-    returns
-    width-requires
-    mul-at
-    head-at-zero-requires
-    refused-requires-2
-    returns-2
-    some-zero-requires
-    refused-requires-3
-    same-length
-    same-length-2
-    returns-3
-    lower-requires
-    clear-requires
-    gone-requires
-    same-length-3
-    same-length-4
-    returns-4)
+    (λ c κs. search needs) (λ c κs. search needs) returns (λ c κs. search needs) mul-at (λ c κs. search needs) (λ c κs. search needs) returns-2
+    some-zero-requires (λ c κs. search needs) (λ c. search needs) (λ c. search needs) returns-3 lower-requires clear-requires gone-requires (λ c. search needs)
+    (λ c. search needs) returns-4)

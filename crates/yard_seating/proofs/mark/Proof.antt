@@ -4,30 +4,14 @@ use Rattle.peer_wire.specs.Message.{framed}
 use mathlib.Core.List.{[], _∷_}
 use Rattle.yard_seating.proofs.Ways.{mark-fault, mark-room, mark-done, refused-writes, plain-writes, mark-writes}
 use lib.ListN.{length}
-use Prim.Native.Nat.{_-_}
 use Rattle.yard_seating.proofs.mark.Statement.{statement}
 use Rattle.yard_seating.proofs.mark.Tie as tie
-
-refused-requires : tie.Need-refused-requires
-refused-requires c κs = search needs
 
 returns : tie.Need-returns
 returns c = (mark-fault (c .before .before .before .args .h) (c .before .before .before .args .s) (c .before .before .before .args .t) (c .before .before .before .args .fault) (length (c .before .before .before .args .out .now)) _ (c .before .if1 .taken) (c .refused .ensures), refused-writes (c .before .before .before .args .h) (c .before .before .before .args .s) _ _ (c .before .before .before .args .out .now) _ (c .refused .ensures))
 
-refused-requires-2 : tie.Need-refused-requires-2
-refused-requires-2 c κs = search needs
-
 returns-2 : tie.Need-returns-2
 returns-2 c = (mark-room (c .before .before .before .before .args .h) (c .before .before .before .before .args .s) (c .before .before .before .before .args .t) (c .before .before .before .before .args .fault) (length (c .before .before .before .before .args .out .now)) _ (c .before .before .if1 .left) (c .before .if2 .taken) (c .refused2 .ensures), refused-writes (c .before .before .before .before .args .h) (c .before .before .before .before .args .s) _ _ (c .before .before .before .before .args .out .now) _ (c .refused2 .ensures))
-
-plain-requires : tie.Need-plain-requires
-plain-requires c κs = search needs
-
-marked-requires : tie.Need-marked-requires
-marked-requires c κs = search needs
-
-same-length : tie.Need-same-length
-same-length c = search needs
 
 returns-3 : tie.Need-returns-3
 returns-3 c = (mark-done (c .before .before .before .before .before .before .before .before .args .h) (c .before .before .before .before .before .before .before .before .args .s) (c .before .before .before .before .before .before .before .before .args .t) (c .before .before .before .before .before .before .before .before .args .fault) (length (c .before .before .before .before .before .before .before .before .args .out .now)) _ (c .before .before .before .before .before .before .if1 .left) (c .before .before .before .before .before .if2 .left) (c .marked .ensures), mark-writes (c .before .before .before .before .before .before .before .before .args .h) (c .before .before .before .before .before .before .before .before .args .t) _ (c .before .before .before .before .before .before .before .before .args .out .now) _ (framed (c .before .before .before .before .before .before .before .before .args .id ∷ [])) (c .marked .ensures) (plain-writes (c .before .before .before .before .before .before .before .before .args .id) (c .before .before .before .before .before .before .before .before .args .out .now) _ _ (c .before .before .before .before .before .before .before .before .pre) (c .before .before .before .before .before .if2 .left) (c .before .before .before .plain .ensures)))
@@ -36,11 +20,4 @@ pub mark-spec : {M : Type 1} → statement M
 mark-spec =
     tie.close
     (tie.spec
-    refused-requires
-    returns
-    refused-requires-2
-    returns-2
-    plain-requires
-    marked-requires
-    same-length
-    returns-3)
+    (λ c κs. search needs) returns (λ c κs. search needs) returns-2 (λ c κs. search needs) (λ c κs. search needs) (λ c. search needs) returns-3)

@@ -9,9 +9,6 @@ use Rattle.yard_tables.specs.declared.Answer.the-variants.{Refused}
 use Rattle.yard_seating.proofs.not_begun.Statement.{statement}
 use Rattle.yard_seating.proofs.not_begun.Tie as tie
 
-refuse-requires : tie.Need-refuse-requires
-refuse-requires c κs = search needs
-
 abbrev refusing : Head → Refusal → Begun
 refusing h x = record { head = h; clear = false; answer = Refused x }
 
@@ -19,4 +16,4 @@ returns : tie.Need-returns
 returns c = ap (refusing (c .before .args .h)) (c .refuse .ensures)
 
 pub not-begun-spec : {M : Type 1} → statement M
-not-begun-spec = tie.close (tie.spec refuse-requires returns)
+not-begun-spec = tie.close (tie.spec (λ c κs. search needs) returns)

@@ -5,38 +5,19 @@ use Rattle.yard_seating.proofs.Ways.{few-seats, row-inside, sit-sizes, 
 use Rattle.yard_seating.proofs.Ways.{row-inside, sit-sizes, sit-full, sit-damaged, sit-done}
 use lib.ListN.{length}
 use native.Mathlib.Omega.{arith}
-use Prim.Native.Nat.{_+_, _*_, _-_, _≤_}
-use mathlib.Core.Bool.{false}
+use Prim.Native.Nat.{_+_, _*_, _≤_}
 use mathlib.Core.Path.{sym, _∙_}
 use Rattle.yard_seating.proofs.sit_step.Statement.{statement}
 use Rattle.yard_seating.proofs.sit_step.Tie as tie
 
-sizes-fit-requires : tie.Need-sizes-fit-requires
-sizes-fit-requires c κs = search needs
-
-refused-requires : tie.Need-refused-requires
-refused-requires c κs = search needs
-
 returns : tie.Need-returns
 returns c = sit-sizes (c .before .before .before .before .before .args .h) (c .before .before .before .before .before .args .s) (c .before .before .before .before .before .args .i) (c .before .before .before .before .before .args .n) (c .before .before .before .before .before .args .rows .now) (c .before .before .before .before .before .args .holders .now) _ (c .before .before .sizes-fit .ensures) _ (c .before .if1 .taken) (c .refused .ensures)
-
-refused-requires-2 : tie.Need-refused-requires-2
-refused-requires-2 c κs = search needs
 
 returns-2 : tie.Need-returns-2
 returns-2 c = sit-full (c .before .before .before .before .before .before .args .h) (c .before .before .before .before .before .before .args .s) (c .before .before .before .before .before .before .args .i) (c .before .before .before .before .before .before .args .n) (c .before .before .before .before .before .before .args .rows .now) (c .before .before .before .before .before .before .args .holders .now) _ (c .before .before .before .sizes-fit .ensures) _ (c .before .before .if1 .left) (c .before .if2 .taken) (c .refused2 .ensures)
 
-cast-if3 : tie.Need-cast-if3
-cast-if3 c = search needs
-
-refused-requires-3 : tie.Need-refused-requires-3
-refused-requires-3 c κs = search needs
-
 returns-3 : tie.Need-returns-3
 returns-3 c = sit-damaged (c .before .before .before .before .before .before .before .before .args .h) (c .before .before .before .before .before .before .before .before .args .s) (c .before .before .before .before .before .before .before .before .args .i) (c .before .before .before .before .before .before .before .before .args .n) (c .before .before .before .before .before .before .before .before .args .rows .now) (c .before .before .before .before .before .before .before .before .args .holders .now) _ (c .before .before .before .before .before .sizes-fit .ensures) _ (c .before .before .before .before .if1 .left) (omega arith) (c .before .if3 .taken) (c .refused3 .ensures)
-
-width-requires : tie.Need-width-requires
-width-requires c κs = search needs
 
 mul-clear : tie.Need-mul-clear
 mul-clear c = let ri : c .before .before .before .before .before .before .before .before .before .args .i * c .before .width .result + c .before .width .result ≤ length (c .before .before .before .before .before .before .before .before .before .args .rows .now) = row-inside (c .before .before .before .before .before .before .before .before .before .args .h) (c .before .before .before .before .before .before .before .before .before .args .n) (length (c .before .before .before .before .before .before .before .before .before .args .rows .now)) (length (c .before .before .before .before .before .before .before .before .before .args .holders .now)) (sym (c .before .before .before .before .before .before .sizes-fit .ensures) ∙ not-false _ (c .before .before .before .before .before .if1 .left)) (c .before .before .before .before .before .before .before .before .before .args .i) _ (omega arith) (c .before .width .ensures) in omega arith
@@ -47,9 +28,6 @@ clear-requires c κs = let ri : c .before .before .before .before .before .befor
 seated-requires : tie.Need-seated-requires
 seated-requires c κs = let fs : c .before .before .before .before .before .before .before .before .before .before .before .before .args .n ≤ 2000 = few-seats (c .before .before .before .before .before .before .before .before .before .before .before .before .args .h) (c .before .before .before .before .before .before .before .before .before .before .before .before .args .n) (length (c .before .before .before .before .before .before .before .before .before .before .before .before .args .rows .now)) (length (c .before .before .before .before .before .before .before .before .before .before .before .before .args .holders .now)) (sym (c .before .before .before .before .before .before .before .before .before .sizes-fit .ensures) ∙ not-false _ (c .before .before .before .before .before .before .before .before .if1 .left)) in omega arith
 
-same-length : tie.Need-same-length
-same-length c = search needs
-
 returns-4 : tie.Need-returns-4
 returns-4 c = sit-done (c .before .before .before .before .before .before .before .before .before .before .before .before .before .args .h) (c .before .before .before .before .before .before .before .before .before .before .before .before .before .args .s) (c .before .before .before .before .before .before .before .before .before .before .before .before .before .args .i) (c .before .before .before .before .before .before .before .before .before .before .before .before .before .args .n) (c .before .before .before .before .before .before .before .before .before .before .before .before .before .args .rows .now) (c .before .before .before .before .before .before .before .before .before .before .before .before .before .args .holders .now) _ (c .before .before .before .before .before .before .before .before .before .before .sizes-fit .ensures) _ _ _ (c .before .before .before .before .before .before .before .before .before .if1 .left) (omega arith) (omega arith) (c .before .before .before .before .before .width .ensures) (c .before .before .before .clear .ensures) (c .seated .ensures)
 
@@ -57,17 +35,5 @@ pub sit-step-spec : {M : Type 1} → statement M
 sit-step-spec =
     tie.close
     (tie.spec
-    sizes-fit-requires
-    refused-requires
-    returns
-    refused-requires-2
-    returns-2
-    cast-if3
-    refused-requires-3
-    returns-3
-    width-requires
-    mul-clear
-    clear-requires
-    seated-requires
-    same-length
-    returns-4)
+    (λ c κs. search needs) (λ c κs. search needs) returns (λ c κs. search needs) returns-2 (λ c. search needs) (λ c κs. search needs) returns-3
+    (λ c κs. search needs) mul-clear clear-requires seated-requires (λ c. search needs) returns-4)

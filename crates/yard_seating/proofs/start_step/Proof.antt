@@ -5,37 +5,12 @@ use Rattle.yard_seating.proofs.Ways.{clears-not, clears-all}
 use Rattle.yard_seating.proofs.Ways.{start-refused, start-done}
 use Rattle.yard_seating.proofs.Ways.{start-refused, start-done}
 use lib.ListN.{length}
-use Prim.Native.Nat.{_-_}
 use mathlib.Core.Path.{refl, ap}
 use Rattle.yard_seating.proofs.start_step.Statement.{statement}
 use Rattle.yard_seating.proofs.start_step.Tie as tie
 
-empty-head-requires : tie.Need-empty-head-requires
-empty-head-requires c κs = search needs
-
-sizes-fit-requires : tie.Need-sizes-fit-requires
-sizes-fit-requires c κs = search needs
-
-not-begun-requires : tie.Need-not-begun-requires
-not-begun-requires c κs = search needs
-
 returns : tie.Need-returns
 returns c = ((λ seats e. start-refused (c .before .before .before .before .before .before .args .h) _ (c .before .before .before .before .before .before .args .n) (c .before .before .before .before .before .before .args .rows .now) (c .before .before .before .before .before .before .args .holders .now) (c .before .before .before .before .before .before .args .pieces) (c .before .before .before .before .before .before .args .piece-length) (c .before .before .before .before .before .before .args .last-length) (c .before .before .before .empty-head .ensures) _ (c .before .before .sizes-fit .ensures) _ seats e (c .before .if1 .taken) (c .not-begun .ensures)), clears-not _ (c .before .before .before .before .before .before .args .n) (length (c .before .before .before .before .before .before .args .rows .now)) (length (c .before .before .before .before .before .before .args .holders .now)) (c .before .before .before .before .before .before .args .pieces) (c .before .before .before .before .before .before .args .piece-length) (c .before .before .before .before .before .before .args .last-length) (c .before .before .before .empty-head .ensures) _ _ (c .before .before .sizes-fit .ensures) (c .before .if1 .taken) (ap (λ (x : Begun). x .clear) (c .not-begun .ensures)))
-
-clear-requires : tie.Need-clear-requires
-clear-requires c κs = search needs
-
-clear-counts-requires : tie.Need-clear-counts-requires
-clear-counts-requires c κs = search needs
-
-begin-requires : tie.Need-begin-requires
-begin-requires c κs = search needs
-
-same-length : tie.Need-same-length
-same-length c = search needs
-
-same-length-2 : tie.Need-same-length-2
-same-length-2 c = search needs
 
 returns-2 : tie.Need-returns-2
 returns-2 c = ((λ seats e. start-done (c .before .before .before .before .before .before .before .before .before .before .before .before .before .before .args .h) _ (c .before .before .before .before .before .before .before .before .before .before .before .before .before .before .args .n) (c .before .before .before .before .before .before .before .before .before .before .before .before .before .before .args .rows .now) (c .before .before .before .before .before .before .before .before .before .before .before .before .before .before .args .holders .now) (c .before .before .before .before .before .before .before .before .before .before .before .before .before .before .args .pieces) (c .before .before .before .before .before .before .before .before .before .before .before .before .before .before .args .piece-length) (c .before .before .before .before .before .before .before .before .before .before .before .before .before .before .args .last-length) (c .before .before .before .before .before .before .before .before .before .before .before .empty-head .ensures) _ (c .before .before .before .before .before .before .before .before .before .before .sizes-fit .ensures) _ seats e _ _ _ (c .before .before .before .before .before .before .before .before .before .if1 .left) refl (c .before .before .before .before .before .before .before .clear .ensures) (c .before .before .before .clear-counts .ensures) (c .begin .ensures)), clears-all _ (c .before .before .before .before .before .before .before .before .before .before .before .before .before .before .args .n) (length (c .before .before .before .before .before .before .before .before .before .before .before .before .before .before .args .rows .now)) (length (c .before .before .before .before .before .before .before .before .before .before .before .before .before .before .args .holders .now)) (c .before .before .before .before .before .before .before .before .before .before .before .before .before .before .args .pieces) (c .before .before .before .before .before .before .before .before .before .before .before .before .before .before .args .piece-length) (c .before .before .before .before .before .before .before .before .before .before .before .before .before .before .args .last-length) (c .before .before .before .before .before .before .before .before .before .before .before .empty-head .ensures) _ _ (c .before .before .before .before .before .before .before .before .before .before .sizes-fit .ensures) (c .before .before .before .before .before .before .before .before .before .if1 .left) (ap (λ (x : Begun). x .clear) (c .begin .ensures)))
@@ -44,13 +19,5 @@ pub start-step-spec : {M : Type 1} → statement M
 start-step-spec =
     tie.close
     (tie.spec
-    empty-head-requires
-    sizes-fit-requires
-    not-begun-requires
-    returns
-    clear-requires
-    clear-counts-requires
-    begin-requires
-    same-length
-    same-length-2
-    returns-2)
+    (λ c κs. search needs) (λ c κs. search needs) (λ c κs. search needs) returns (λ c κs. search needs) (λ c κs. search needs) (λ c κs. search needs)
+    (λ c. search needs) (λ c. search needs) returns-2)

@@ -12,18 +12,11 @@ use Rattle.yard_hearing.proofs.have.is_whole.Tie as tie
 returns : tie.Need-returns
 returns c = λ e. absurd (true≢false (sym e))
 
-number-requires : tie.Need-number-requires
-number-requires c κs = search needs
-
 returns-2 : tie.Need-returns-2
 returns-2 c = λ e. absurd (true≢false (sym e))
-
-shared-slice-read-result : tie.Need-shared-slice-read-result
-shared-slice-read-result c = search needs
 
 returns-3 : tie.Need-returns-3
 returns-3 c = λ e. (omega arith, whole-have (c .before .before .before .before .before .args .bytes .now) (c .before .before .number .result) _ (c .before .before .number .ensures) (omega arith) (omega arith) refl (eqb-true _ _ e))
 
 pub is-whole-spec : {M : Type 1} → statement M
-is-whole-spec =
-    tie.close (tie.spec returns number-requires returns-2 shared-slice-read-result returns-3)
+is-whole-spec = tie.close (tie.spec returns (λ c κs. search needs) returns-2 (λ c. search needs) returns-3)

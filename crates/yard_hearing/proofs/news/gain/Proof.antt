@@ -1,38 +1,19 @@
 -- `yard_hearing::news::gain` meets its contract. Assumes nothing.
 use mathlib.Core.Path.{sym, _∙_}
-use Prim.Native.Nat.{_-_}
 use native.Mathlib.Omega.{arith}
 use Rattle.yard_hearing.proofs.Gaining.{room-sum, room-complete, gained-full, gained-part}
 use borrow.Author.Needs.{needs}
 use Rattle.yard_hearing.proofs.news.gain.Statement.{statement}
 use Rattle.yard_hearing.proofs.news.gain.Tie as tie
 
-held-requires : tie.Need-held-requires
-held-requires c κs = search needs
-
-add-sum : tie.Need-add-sum
-add-sum c = search needs
-
-spoken-requires : tie.Need-spoken-requires
-spoken-requires c κs = search needs
-
 cast-t : tie.Need-cast-t
 cast-t c = omega (arith, c .before .before .held .ensures, room-sum (c .before .before .before .args .n) (c .before .before .before .args .h) (c .before .before .before .args .s) (c .before .before .before .args .news) (c .before .before .before .pre .3) 65535 (omega arith) (omega arith))
-
-completes-requires : tie.Need-completes-requires
-completes-requires c κs = search needs
 
 add-g : tie.Need-add-g
 add-g c = omega (arith, room-complete (c .before .before .before .before .before .before .args .n) (c .before .before .before .before .before .before .args .h) (c .before .before .before .before .before .before .args .s) (c .before .before .before .before .before .before .args .news) (c .before .before .before .before .before .before .pre .3) (sym (c .before .before .completes .ensures) ∙ c .before .if1 .taken))
 
-taken-requires : tie.Need-taken-requires
-taken-requires c κs = search needs
-
 returns : tie.Need-returns
 returns c = gained-full (c .before .before .before .before .before .before .before .args .h) (c .before .before .before .before .before .before .before .args .s) (c .before .before .before .before .before .before .before .args .news) (c .before .before .before .before .before .before .held .ensures) (c .before .before .before .before .spoken .ensures) (c .before .before .before .completes .ensures) (c .before .before .if1 .taken) (c .taken .ensures)
-
-taken-requires-2 : tie.Need-taken-requires-2
-taken-requires-2 c κs = search needs
 
 returns-2 : tie.Need-returns-2
 returns-2 c = gained-part (c .before .before .before .before .before .before .args .h) (c .before .before .before .before .before .before .args .s) (c .before .before .before .before .before .before .args .news) (c .before .before .before .before .before .held .ensures) (c .before .before .before .spoken .ensures) (c .before .before .completes .ensures) (c .before .if1 .left) (c .taken2 .ensures)
@@ -41,13 +22,5 @@ pub gain-spec : {M : Type 1} → statement M
 gain-spec =
     tie.close
     (tie.spec
-    held-requires
-    add-sum
-    spoken-requires
-    cast-t
-    completes-requires
-    add-g
-    taken-requires
-    returns
-    taken-requires-2
+    (λ c κs. search needs) (λ c. search needs) (λ c κs. search needs) cast-t (λ c κs. search needs) add-g (λ c κs. search needs) returns (λ c κs. search needs)
     returns-2)

@@ -1,6 +1,6 @@
 -- `yard_hearing::news::have_step` meets its contract. Assumes nothing.
 use mathlib.Core.Path.{sym, ap, _∙_}
-use Prim.Native.Nat.{_+_, _*_, _-_, _/_, _<_}
+use Prim.Native.Nat.{_+_, _*_, _/_, _<_}
 use native.Mathlib.Omega.{arith}
 use lib.ListN.{length}
 use Rattle.yard_tables.proofs.Digits.{row-byte}
@@ -10,17 +10,8 @@ use borrow.Author.Needs.{needs}
 use Rattle.yard_hearing.proofs.news.have_step.Statement.{statement}
 use Rattle.yard_hearing.proofs.news.have_step.Tie as tie
 
-wide-requires : tie.Need-wide-requires
-wide-requires c κs = search needs
-
-refused-requires : tie.Need-refused-requires
-refused-requires c κs = search needs
-
 returns : tie.Need-returns
 returns c = have-beyond (c .before .before .before .before .before .args .h) (c .before .before .before .before .before .args .s) (c .before .before .before .before .before .args .rows .now) (c .before .before .before .before .before .args .holders .now) (c .before .before .before .before .before .args .n) (c .before .before .before .before .before .args .i) (c .before .before .before .before .before .args .used) (c .before .before .before .before .before .args .p) (c .refused .result) (c .before .before .wide .result) (c .before .before .wide .ensures) (c .before .if1 .taken) (c .refused .ensures)
-
-add-at : tie.Need-add-at
-add-at c = search needs
 
 mul-at : tie.Need-mul-at
 mul-at c = let f : c .before .before .before .before .args .i * ((c .before .wide .result + 7) / 8) + c .before .before .before .before .args .p / 8 < length (c .before .before .before .before .args .rows .now) = rw (c .before .before .before .before .pre .row, c .before .wide .ensures) (row-byte (c .before .before .before .before .args .i) (c .before .before .before .before .args .n) (c .before .before .before .before .args .h .pieces) (c .before .before .before .before .args .p) (c .before .before .before .before .pre .seat) (omega arith)) in omega arith
@@ -31,29 +22,11 @@ add-at-2 c = let f : c .before .before .before .before .args .i * ((c .before .w
 slice-read-had : tie.Need-slice-read-had
 slice-read-had c = let f : c .before .before .before .before .before .args .i * ((c .before .before .wide .result + 7) / 8) + c .before .before .before .before .before .args .p / 8 < length (c .before .before .before .before .before .args .rows .now) = rw (c .before .before .before .before .before .pre .row, c .before .before .wide .ensures) (row-byte (c .before .before .before .before .before .args .i) (c .before .before .before .before .before .args .n) (c .before .before .before .before .before .args .h .pieces) (c .before .before .before .before .before .args .p) (c .before .before .before .before .before .pre .seat) (omega arith)) in omega arith
 
-bit-of-requires : tie.Need-bit-of-requires
-bit-of-requires c κs = search needs
-
-passed-requires : tie.Need-passed-requires
-passed-requires c κs = search needs
-
 returns-2 : tie.Need-returns-2
 returns-2 c = have-had (c .before .before .before .before .before .before .before .before .args .h) (c .before .before .before .before .before .before .before .before .args .s) (c .before .before .before .before .before .before .before .before .args .rows .now) (c .before .before .before .before .before .before .before .before .args .holders .now) (c .before .before .before .before .before .before .before .before .args .n) (c .before .before .before .before .before .before .before .before .args .i) (c .before .before .before .before .before .before .before .before .args .used) (c .before .before .before .before .before .before .before .before .args .p) (c .before .before .before .before .before .wide .result) (c .before .before .before .before .before .wide .ensures) (c .before .before .before .before .if1 .left) (c .before .before .before .before .before .before .before .before .pre) (c .before .before .bit-of .result) (c .before .before .bit-of .ensures) (c .before .if2 .taken) (c .passed .result) (c .passed .ensures)
 
-mul-count : tie.Need-mul-count
-mul-count c = search needs
-
-slice-read-count : tie.Need-slice-read-count
-slice-read-count c = search needs
-
-one-more-requires : tie.Need-one-more-requires
-one-more-requires c κs = search needs
-
 too-many-requires : tie.Need-too-many-requires
 too-many-requires c κs = omega (arith, ap (λ (x : News). x .added) (c .one-more .ensures))
-
-refused-requires-2 : tie.Need-refused-requires-2
-refused-requires-2 c κs = search needs
 
 returns-3 : tie.Need-returns-3
 returns-3 c = have-bad (c .before .before .before .before .before .before .before .before .before .before .before .before .args .h) (c .before .before .before .before .before .before .before .before .before .before .before .before .args .s) (c .before .before .before .before .before .before .before .before .before .before .before .before .args .rows .now) (c .before .before .before .before .before .before .before .before .before .before .before .before .args .holders .now) (c .before .before .before .before .before .before .before .before .before .before .before .before .args .n) (c .before .before .before .before .before .before .before .before .before .before .before .before .args .i) (c .before .before .before .before .before .before .before .before .before .before .before .before .args .used) (c .before .before .before .before .before .before .before .before .before .before .before .before .args .p) (c .before .before .before .before .before .before .before .before .before .wide .result) (c .before .before .before .before .before .before .before .before .before .wide .ensures) (c .before .before .before .before .before .before .before .before .if1 .left) (c .before .before .before .before .before .before .before .before .before .before .before .before .pre) (c .before .before .before .before .before .before .bit-of .result) (c .before .before .before .before .before .before .bit-of .ensures) (c .before .before .before .before .before .if2 .left) (c .before .before .before .one-more .result) (c .before .before .before .one-more .ensures) (c .before .before .too-many .result) (c .refused2 .result) (c .before .before .too-many .ensures) (c .before .if3 .taken) (c .refused2 .ensures)
@@ -61,26 +34,11 @@ returns-3 c = have-bad (c .before .before .before .before .before .before .befor
 add-holders : tie.Need-add-holders
 add-holders c = omega (arith, c .before .before .before .before .before .before .before .before .before .before .before .pre .seats, count-room (c .before .before .before .before .before .before .before .before .before .before .before .args .h) (c .before .before .before .before .before .before .before .before .before .before .before .args .s) (c .before .before .before .before .before .before .before .before .before .before .before .args .rows .now) (c .before .before .before .before .before .before .before .before .before .before .before .args .holders .now) (c .before .before .before .before .before .before .before .before .before .before .before .args .n) (c .before .before .before .before .before .before .before .before .before .before .before .args .i) (c .before .before .before .before .before .before .before .before .before .before .before .args .used) (c .before .before .before .before .before .before .before .before .before .before .before .args .p) (c .before .before .before .before .before .before .before .before .wide .result) (c .before .before .before .before .before .before .before .before .wide .ensures) (c .before .before .before .before .before .before .before .if1 .left) (c .before .before .before .before .before .before .before .before .before .before .before .pre) (c .before .before .before .before .before .bit-of .result) (c .before .before .before .before .before .bit-of .ensures) (c .before .before .before .before .if2 .left) (c .before .before .one-more .result) (c .before .before .one-more .ensures) (c .before .too-many .result) (c .before .too-many .ensures) (c .if3 .left))
 
-mul-holders : tie.Need-mul-holders
-mul-holders c = search needs
-
-slice-write-holders : tie.Need-slice-write-holders
-slice-write-holders c = search needs
-
-mask-requires : tie.Need-mask-requires
-mask-requires c κs = search needs
-
 slice-write-rows : tie.Need-slice-write-rows
 slice-write-rows c = let f : c .before .before .before .before .before .before .before .before .before .before .before .before .args .i * ((c .before .before .before .before .before .before .before .before .before .wide .result + 7) / 8) + c .before .before .before .before .before .before .before .before .before .before .before .before .args .p / 8 < length (c .before .before .before .before .before .before .before .before .before .before .before .before .args .rows .now) = rw (c .before .before .before .before .before .before .before .before .before .before .before .before .pre .row, c .before .before .before .before .before .before .before .before .before .wide .ensures) (row-byte (c .before .before .before .before .before .before .before .before .before .before .before .before .args .i) (c .before .before .before .before .before .before .before .before .before .before .before .before .args .n) (c .before .before .before .before .before .before .before .before .before .before .before .before .args .h .pieces) (c .before .before .before .before .before .before .before .before .before .before .before .before .args .p) (c .before .before .before .before .before .before .before .before .before .before .before .before .pre .seat) (omega arith)) in omega arith
 
 gain-requires : tie.Need-gain-requires
 gain-requires c κs = (c .before .before .before .before .before .before .before .before .before .before .before .before .pre .seats, c .before .before .before .before .before .before .before .before .before .before .before .before .pre .few, omega (arith, ap (λ (x : News). x .added) (c .before .before .before .one-more .ensures)), sym (c .before .before .too-many .ensures) ∙ c .before .if3 .left)
-
-same-length : tie.Need-same-length
-same-length c = search needs
-
-same-length-2 : tie.Need-same-length-2
-same-length-2 c = search needs
 
 returns-4 : tie.Need-returns-4
 returns-4 c = have-good (c .before .before .before .before .before .before .before .before .before .before .before .before .before .args .h) (c .before .before .before .before .before .before .before .before .before .before .before .before .before .args .s) (c .before .before .before .before .before .before .before .before .before .before .before .before .before .args .rows .now) (c .before .before .before .before .before .before .before .before .before .before .before .before .before .args .holders .now) (c .before .before .before .before .before .before .before .before .before .before .before .before .before .args .n) (c .before .before .before .before .before .before .before .before .before .before .before .before .before .args .i) (c .before .before .before .before .before .before .before .before .before .before .before .before .before .args .used) (c .before .before .before .before .before .before .before .before .before .before .before .before .before .args .p) (c .before .before .before .before .before .before .before .before .before .before .wide .result) (c .before .before .before .before .before .before .before .before .before .before .wide .ensures) (c .before .before .before .before .before .before .before .before .before .if1 .left) (c .before .before .before .before .before .before .before .before .before .before .before .before .before .pre) (c .before .before .before .before .before .before .before .bit-of .result) (c .before .before .before .before .before .before .before .bit-of .ensures) (c .before .before .before .before .before .before .if2 .left) (c .before .before .before .before .one-more .result) (c .before .before .before .before .one-more .ensures) (c .before .before .before .too-many .result) (c .gain .result) (c .before .mask .result) (c .before .before .before .too-many .ensures) (c .before .before .if3 .left) (c .gain .ensures) (c .before .mask .ensures)
@@ -89,28 +47,6 @@ pub have-step-spec : {M : Type 1} → statement M
 have-step-spec =
     tie.close
     (tie.spec
-    wide-requires
-    refused-requires
-    returns
-    add-at
-    mul-at
-    add-at-2
-    slice-read-had
-    bit-of-requires
-    passed-requires
-    returns-2
-    mul-count
-    slice-read-count
-    one-more-requires
-    too-many-requires
-    refused-requires-2
-    returns-3
-    add-holders
-    mul-holders
-    slice-write-holders
-    mask-requires
-    slice-write-rows
-    gain-requires
-    same-length
-    same-length-2
-    returns-4)
+    (λ c κs. search needs) (λ c κs. search needs) returns (λ c. search needs) mul-at add-at-2 slice-read-had (λ c κs. search needs) (λ c κs. search needs)
+    returns-2 (λ c. search needs) (λ c. search needs) (λ c κs. search needs) too-many-requires (λ c κs. search needs) returns-3 add-holders (λ c. search needs)
+    (λ c. search needs) (λ c κs. search needs) slice-write-rows gain-requires (λ c. search needs) (λ c. search needs) returns-4)

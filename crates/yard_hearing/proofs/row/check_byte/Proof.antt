@@ -15,41 +15,11 @@ Inv-loop rows said holders at p end top had says news₀ q₀ news q = (p ≤ q)
 abbrev μ-loop : tie.MeasureT-loop
 μ-loop rows said holders at p end top had says news₀ q₀ news q = end - q
 
-add-had : tie.Need-add-had Inv-loop μ-loop
-add-had c = search needs
-
-shared-slice-read-had : tie.Need-shared-slice-read-had Inv-loop μ-loop
-shared-slice-read-had c = search needs
-
-shared-slice-read-says : tie.Need-shared-slice-read-says Inv-loop μ-loop
-shared-slice-read-says c = search needs
-
 returns : tie.Need-returns Inv-loop μ-loop
 returns c = c .before .before .before .before .before .before .pre .7 ∙ sym (checked-skip (c .before .before .before .before .before .before .args .rows .now) (c .before .before .before .before .before .before .args .at) (c .before .before .before .before .before .before .args .said .now) (c .before .before .before .before .before .before .args .holders .now) (c .before .before .before .before .before .before .args .top) (c .before .before .before .before .before .before .args .p) (c .before .before .before .before .before .before .args .end) (c .before .before .before .before .before .before .pre .3) (λ q l m. nothing-new (c .before .before .before .before .before .before .args .rows .now) (c .before .before .before .before .before .before .args .at) (c .before .before .before .before .before .before .args .said .now) q (c .before .before .before .before .before .before .args .p / 8) (omega arith) (c .if1 .taken)))
 
-loop-holds : tie.Need-loop-holds Inv-loop μ-loop
-loop-holds c = search needs
-
-bit-of-requires : tie.Need-bit-of-requires Inv-loop μ-loop
-bit-of-requires c κs = search needs
-
-bit-of-requires-2 : tie.Need-bit-of-requires-2 Inv-loop μ-loop
-bit-of-requires-2 c κs = search needs
-
-mul-note : tie.Need-mul-note Inv-loop μ-loop
-mul-note c = search needs
-
-shared-slice-read-note : tie.Need-shared-slice-read-note Inv-loop μ-loop
-shared-slice-read-note c = search needs
-
 note-requires : tie.Need-note-requires Inv-loop μ-loop
 note-requires c κs = omega (arith, ap (λ (x : News). x .added) (c .before .before .before .before .loop .inv .2), checked-le (c .before .before .before .before .before .before .before .before .before .before .before .args .rows .now) (c .before .before .before .before .before .before .before .before .before .before .before .args .at) (c .before .before .before .before .before .before .before .before .before .before .before .args .said .now) (c .before .before .before .before .before .before .before .before .before .before .before .args .holders .now) (c .before .before .before .before .before .before .before .before .before .before .before .args .top) (c .before .before .before .before .loop .q))
-
-add-q : tie.Need-add-q Inv-loop μ-loop
-add-q c = search needs
-
-loop-less : tie.Need-loop-less Inv-loop μ-loop
-loop-less c = search needs
 
 loop-again : tie.Need-loop-again Inv-loop μ-loop
 loop-again c = (search needs, search needs, checked-turn (c .before .before .before .before .before .before .before .before .before .before .before .before .args .rows .now) (c .before .before .before .before .before .before .before .before .before .before .before .before .args .at) (c .before .before .before .before .before .before .before .before .before .before .before .before .args .said .now) (c .before .before .before .before .before .before .before .before .before .before .before .before .args .holders .now) (c .before .before .before .before .before .before .before .before .before .before .before .before .args .top) (c .before .before .before .before .before .before .before .before .before .before .before .before .args .p / 8) (c .before .before .before .before .before .loop .q) _ _ _ _ (omega arith) (c .before .before .before .before .before .loop .inv .2) (c .before .before .before .bit-of .ensures) (c .before .before .bit-of2 .ensures) (c .note .ensures))
@@ -61,19 +31,5 @@ pub check-byte-spec : {M : Type 1} → statement M
 check-byte-spec =
     tie.close
     (tie.spec
-    Inv-loop
-    μ-loop
-    add-had
-    shared-slice-read-had
-    shared-slice-read-says
-    returns
-    loop-holds
-    bit-of-requires
-    bit-of-requires-2
-    mul-note
-    shared-slice-read-note
-    note-requires
-    add-q
-    loop-less
-    loop-again
-    returns-2)
+    Inv-loop μ-loop (λ c. search needs) (λ c. search needs) (λ c. search needs) returns (λ c. search needs) (λ c κs. search needs) (λ c κs. search needs)
+    (λ c. search needs) (λ c. search needs) note-requires (λ c. search needs) (λ c. search needs) loop-again returns-2)

@@ -18,32 +18,8 @@ abbrev μ-loop : tie.MeasureT-loop
 loop-holds : tie.Need-loop-holds Inv-loop μ-loop
 loop-holds c = (search needs, refl, merged-start (c .args .at) (c .args .said .now) (c .args .rows .now))
 
-add-rows : tie.Need-add-rows Inv-loop μ-loop
-add-rows c = search needs
-
-slice-read-rows : tie.Need-slice-read-rows Inv-loop μ-loop
-slice-read-rows c = search needs
-
-shared-slice-read-rows : tie.Need-shared-slice-read-rows Inv-loop μ-loop
-shared-slice-read-rows c = search needs
-
-add-rows-2 : tie.Need-add-rows-2 Inv-loop μ-loop
-add-rows-2 c = search needs
-
-slice-write-rows : tie.Need-slice-write-rows Inv-loop μ-loop
-slice-write-rows c = search needs
-
-add-k : tie.Need-add-k Inv-loop μ-loop
-add-k c = search needs
-
-loop-less : tie.Need-loop-less Inv-loop μ-loop
-loop-less c = search needs
-
 loop-again : tie.Need-loop-again Inv-loop μ-loop
 loop-again c = (search needs, search needs, rw merged-next (cc))
-
-same-length : tie.Need-same-length Inv-loop μ-loop
-same-length c = search needs
 
 returns : tie.Need-returns Inv-loop μ-loop
 returns c = let e : c .before .loop .k ≡ c .before .before .args .n = omega arith in c .before .loop .inv .2 ∙ ap (λ (x : ℕ). merged (c .before .before .args .at) (c .before .before .args .said .now) x (c .before .before .args .rows .now)) e
@@ -52,16 +28,5 @@ pub merge-row-spec : {M : Type 1} → statement M
 merge-row-spec =
     tie.close
     (tie.spec
-    Inv-loop
-    μ-loop
-    loop-holds
-    add-rows
-    slice-read-rows
-    shared-slice-read-rows
-    add-rows-2
-    slice-write-rows
-    add-k
-    loop-less
-    loop-again
-    same-length
-    returns)
+    Inv-loop μ-loop loop-holds (λ c. search needs) (λ c. search needs) (λ c. search needs) (λ c. search needs) (λ c. search needs) (λ c. search needs)
+    (λ c. search needs) loop-again (λ c. search needs) returns)

@@ -10,9 +10,6 @@ returns c = up-had (c .before .args .count) (c .before .args .had) (c .before .a
 returns-2 : tie.Need-returns-2
 returns-2 c = up-top (c .before .before .before .args .count) (c .before .before .before .args .had) (c .before .before .before .args .says) (c .before .before .if1 .left) (c .before .if2 .taken) (c .if3 .taken)
 
-add-result : tie.Need-add-result
-add-result c = search needs
-
 returns-3 : tie.Need-returns-3
 returns-3 c = up-more (c .before .before .before .args .count) (c .before .before .before .args .had) (c .before .before .before .args .says) (c .before .before .if1 .left) (c .before .if2 .taken) (c .if3 .left)
 
@@ -20,4 +17,4 @@ returns-4 : tie.Need-returns-4
 returns-4 c = up-silent (c .before .before .args .count) (c .before .before .args .had) (c .before .before .args .says) (c .if2 .left)
 
 pub raise-spec : {M : Type 1} → statement M
-raise-spec = tie.close (tie.spec returns returns-2 add-result returns-3 returns-4)
+raise-spec = tie.close (tie.spec returns returns-2 (λ c. search needs) returns-3 returns-4)

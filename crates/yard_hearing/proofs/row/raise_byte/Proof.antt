@@ -16,53 +16,14 @@ Inv-loop rows said holders₀ at p end had says q₀ holders q = (p ≤ q) × (q
 abbrev μ-loop : tie.MeasureT-loop
 μ-loop rows said holders₀ at p end had says q₀ holders q = end - q
 
-add-had : tie.Need-add-had Inv-loop μ-loop
-add-had c = search needs
-
-shared-slice-read-had : tie.Need-shared-slice-read-had Inv-loop μ-loop
-shared-slice-read-had c = search needs
-
-shared-slice-read-says : tie.Need-shared-slice-read-says Inv-loop μ-loop
-shared-slice-read-says c = search needs
-
 returns : tie.Need-returns Inv-loop μ-loop
 returns c = λ l h. h ∙ sym (raised-skip (c .before .before .before .before .before .before .args .rows .now) (c .before .before .before .before .before .before .args .at) (c .before .before .before .before .before .before .args .said .now) (c .before .before .before .before .before .before .args .p) (c .before .before .before .before .before .before .args .end) l (c .before .before .before .before .before .before .pre .3) (λ q x y. nothing-new (c .before .before .before .before .before .before .args .rows .now) (c .before .before .before .before .before .before .args .at) (c .before .before .before .before .before .before .args .said .now) q (c .before .before .before .before .before .before .args .p / 8) (omega arith) (c .if1 .taken)))
 
 loop-holds : tie.Need-loop-holds Inv-loop μ-loop
 loop-holds c = (search needs, search needs, refl, (λ l h. h))
 
-bit-of-requires : tie.Need-bit-of-requires Inv-loop μ-loop
-bit-of-requires c κs = search needs
-
-bit-of-requires-2 : tie.Need-bit-of-requires-2 Inv-loop μ-loop
-bit-of-requires-2 c κs = search needs
-
-mul-raise : tie.Need-mul-raise Inv-loop μ-loop
-mul-raise c = search needs
-
-slice-read-raise : tie.Need-slice-read-raise Inv-loop μ-loop
-slice-read-raise c = search needs
-
-raise-requires : tie.Need-raise-requires Inv-loop μ-loop
-raise-requires c κs = search needs
-
-mul-holders : tie.Need-mul-holders Inv-loop μ-loop
-mul-holders c = search needs
-
-slice-write-holders : tie.Need-slice-write-holders Inv-loop μ-loop
-slice-write-holders c = search needs
-
-add-q : tie.Need-add-q Inv-loop μ-loop
-add-q c = search needs
-
-loop-less : tie.Need-loop-less Inv-loop μ-loop
-loop-less c = search needs
-
 loop-again : tie.Need-loop-again Inv-loop μ-loop
 loop-again c = (search needs, search needs, search needs, (λ l h. raised-turn (c .before .before .before .before .before .before .before .before .before .before .before .before .args .rows .now) (c .before .before .before .before .before .before .before .before .before .before .before .before .args .at) (c .before .before .before .before .before .before .before .before .before .before .before .before .args .said .now) (c .before .before .before .before .before .before .before .before .before .before .before .before .args .p / 8) (c .before .before .before .before .before .loop .q) _ l _ _ _ (omega arith) (c .before .before .before .before .before .loop .inv .3 l h) (c .before .before .before .bit-of .ensures) (c .before .before .bit-of2 .ensures) (c .raise .ensures)))
-
-same-length : tie.Need-same-length Inv-loop μ-loop
-same-length c = search needs
 
 returns-2 : tie.Need-returns-2 Inv-loop μ-loop
 returns-2 c = let e : c .before .loop .q ≡ c .before .before .before .before .before .before .before .before .args .end = omega arith in λ l h. c .before .loop .inv .3 l h ∙ ap (λ (x : ℕ). raised (c .before .before .before .before .before .before .before .before .args .rows .now) (c .before .before .before .before .before .before .before .before .args .at) (c .before .before .before .before .before .before .before .before .args .said .now) x l) e
@@ -71,22 +32,6 @@ pub raise-byte-spec : {M : Type 1} → statement M
 raise-byte-spec =
     tie.close
     (tie.spec
-    Inv-loop
-    μ-loop
-    add-had
-    shared-slice-read-had
-    shared-slice-read-says
-    returns
-    loop-holds
-    bit-of-requires
-    bit-of-requires-2
-    mul-raise
-    slice-read-raise
-    raise-requires
-    mul-holders
-    slice-write-holders
-    add-q
-    loop-less
-    loop-again
-    same-length
-    returns-2)
+    Inv-loop μ-loop (λ c. search needs) (λ c. search needs) (λ c. search needs) returns loop-holds (λ c κs. search needs) (λ c κs. search needs)
+    (λ c. search needs) (λ c. search needs) (λ c κs. search needs) (λ c. search needs) (λ c. search needs) (λ c. search needs) (λ c. search needs) loop-again
+    (λ c. search needs) returns-2)

@@ -15,26 +15,8 @@ Inv-loop said pieces end found₀ p₀ found p = (pieces ≤ p) × (p ≤ end) �
 abbrev μ-loop : tie.MeasureT-loop
 μ-loop said pieces end found₀ p₀ found p = end - p
 
-mul-end : tie.Need-mul-end Inv-loop μ-loop
-mul-end c = search needs
-
 loop-holds : tie.Need-loop-holds Inv-loop μ-loop
 loop-holds c = (search needs, search needs, spare-start (c .before .args .pieces) (c .before .args .said .now) _ (omega arith))
-
-shared-slice-read-b : tie.Need-shared-slice-read-b Inv-loop μ-loop
-shared-slice-read-b c = search needs
-
-bit-of-requires : tie.Need-bit-of-requires Inv-loop μ-loop
-bit-of-requires c κs = search needs
-
-either-requires : tie.Need-either-requires Inv-loop μ-loop
-either-requires c κs = search needs
-
-add-p : tie.Need-add-p Inv-loop μ-loop
-add-p c = search needs
-
-loop-less : tie.Need-loop-less Inv-loop μ-loop
-loop-less c = search needs
 
 loop-again : tie.Need-loop-again Inv-loop μ-loop
 loop-again c = (search needs, search needs, spare-turn (c .before .before .before .before .before .before .args .pieces) (c .before .before .before .before .before .before .args .said .now) (c .before .before .before .before .loop .p) _ _ _ (omega arith) (c .before .before .before .before .loop .inv .2) (c .before .bit-of .ensures) (c .either .ensures))
@@ -46,14 +28,5 @@ pub spare-set-spec : {M : Type 1} → statement M
 spare-set-spec =
     tie.close
     (tie.spec
-    Inv-loop
-    μ-loop
-    mul-end
-    loop-holds
-    shared-slice-read-b
-    bit-of-requires
-    either-requires
-    add-p
-    loop-less
-    loop-again
-    returns)
+    Inv-loop μ-loop (λ c. search needs) loop-holds (λ c. search needs) (λ c κs. search needs) (λ c κs. search needs) (λ c. search needs) (λ c. search needs)
+    loop-again returns)

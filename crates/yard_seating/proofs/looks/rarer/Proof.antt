@@ -1,24 +1,10 @@
 -- `yard_seating::looks::rarer` meets its contract. Assumes nothing.
 use borrow.Author.Needs.{needs}
-use lib.Dec.{ltb}
 use borrow.Author.Tests.{lt-ltb, le-ltb}
-use Prim.Native.Nat.{_-_}
 use mathlib.Core.Path.{refl}
 use Rattle.refusal.proofs.Cases.{pick-yes, pick-no}
 use Rattle.yard_seating.proofs.looks.rarer.Statement.{statement}
 use Rattle.yard_seating.proofs.looks.rarer.Tie as tie
-
-mul-if1 : tie.Need-mul-if1
-mul-if1 c = search needs
-
-shared-slice-read-if1 : tie.Need-shared-slice-read-if1
-shared-slice-read-if1 c = search needs
-
-mul-if1-2 : tie.Need-mul-if1-2
-mul-if1-2 c = search needs
-
-shared-slice-read-if1-2 : tie.Need-shared-slice-read-if1-2
-shared-slice-read-if1-2 c = search needs
 
 returns : tie.Need-returns
 returns c = pick-yes (c .before .before .before .args .best) _ (lt-ltb _ _ (c .if1 .taken)) refl
@@ -27,6 +13,4 @@ returns-2 : tie.Need-returns-2
 returns-2 c = pick-no (c .before .before .before .args .p) _ (le-ltb _ _ (c .if1 .left)) refl
 
 pub rarer-spec : {M : Type 1} → statement M
-rarer-spec =
-    tie.close
-    (tie.spec mul-if1 shared-slice-read-if1 mul-if1-2 shared-slice-read-if1-2 returns returns-2)
+rarer-spec = tie.close (tie.spec (λ c. search needs) (λ c. search needs) (λ c. search needs) (λ c. search needs) returns returns-2)

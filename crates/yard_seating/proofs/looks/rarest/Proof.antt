@@ -19,12 +19,6 @@ loop-holds c = (c .before .pre, rarest-start (c .before .args .holders .now))
 rarer-requires : tie.Need-rarer-requires Inv-loop μ-loop
 rarer-requires c κs = (omega (arith, c .before .loop .inv .1 .within), c .loop-test .taken)
 
-add-p : tie.Need-add-p Inv-loop μ-loop
-add-p c = search needs
-
-loop-less : tie.Need-loop-less Inv-loop μ-loop
-loop-less c = search needs
-
 loop-again : tie.Need-loop-again Inv-loop μ-loop
 loop-again c = (omega arith, rarest-turn (c .before .before .before .before .args .holders .now) (c .before .before .loop .best) (c .before .before .loop .p) _ (c .before .before .loop .inv .1) (c .rarer .ensures))
 
@@ -32,6 +26,4 @@ returns : tie.Need-returns Inv-loop μ-loop
 returns c = rarest-is (c .before .before .before .args .holders .now) (c .before .loop .p) (c .before .loop .best) (omega arith) (c .before .loop .inv .1)
 
 pub rarest-spec : {M : Type 1} → statement M
-rarest-spec =
-    tie.close
-    (tie.spec Inv-loop μ-loop loop-holds rarer-requires add-p loop-less loop-again returns)
+rarest-spec = tie.close (tie.spec Inv-loop μ-loop loop-holds rarer-requires (λ c. search needs) (λ c. search needs) loop-again returns)

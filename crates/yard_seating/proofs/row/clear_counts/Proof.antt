@@ -20,23 +20,8 @@ abbrev μ-loop : tie.MeasureT-loop
 loop-holds : tie.Need-loop-holds Inv-loop μ-loop
 loop-holds c = (search needs, refl, clear-start (c .args .holders .now) 0 (length (c .args .holders .now)))
 
-mul-holders : tie.Need-mul-holders Inv-loop μ-loop
-mul-holders c = search needs
-
-slice-write-holders : tie.Need-slice-write-holders Inv-loop μ-loop
-slice-write-holders c = search needs
-
-add-k : tie.Need-add-k Inv-loop μ-loop
-add-k c = search needs
-
-loop-less : tie.Need-loop-less Inv-loop μ-loop
-loop-less c = search needs
-
 loop-again : tie.Need-loop-again Inv-loop μ-loop
 loop-again c = (search needs, search needs, count-turn (c .before .loop .holders) (c .before .loop .k) (length (c .before .before .args .holders .now)) (omega (arith, c .before .loop .inv .1)) ∙ c .before .loop .inv .2)
-
-same-length : tie.Need-same-length Inv-loop μ-loop
-same-length c = search needs
 
 returns : tie.Need-returns Inv-loop μ-loop
 returns c = sym (clear-end (c .before .loop .holders) 0 (c .before .loop .k) (length (c .before .before .args .holders .now)) (omega (arith, c .before .loop .inv .1))) ∙ c .before .loop .inv .2
@@ -45,13 +30,4 @@ pub clear-counts-spec : {M : Type 1} → statement M
 clear-counts-spec =
     tie.close
     (tie.spec
-    Inv-loop
-    μ-loop
-    loop-holds
-    mul-holders
-    slice-write-holders
-    add-k
-    loop-less
-    loop-again
-    same-length
-    returns)
+    Inv-loop μ-loop loop-holds (λ c. search needs) (λ c. search needs) (λ c. search needs) (λ c. search needs) loop-again (λ c. search needs) returns)

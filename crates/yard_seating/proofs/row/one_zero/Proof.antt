@@ -1,6 +1,5 @@
 -- `yard_seating::row::one_zero` meets its contract. Assumes nothing.
 use Rattle.yard_seating.proofs.Passes.{piece-found, piece-has, piece-lacks}
-use Prim.Native.Nat.{_-_}
 use Rattle.yard_seating.proofs.row.one_zero.Statement.{statement}
 use Rattle.yard_seating.proofs.row.one_zero.Tie as tie
 

@@ -6,14 +6,8 @@ use borrow.Author.Needs.{needs}
 use Rattle.yard_tables.proofs.bits.mask.Statement.{statement}
 use Rattle.yard_tables.proofs.bits.mask.Tie as tie
 
-cast-result : tie.Need-cast-result
-cast-result c = search needs
-
-shr-result : tie.Need-shr-result
-shr-result c = search needs
-
 returns : tie.Need-returns
 returns c = mask-is (c .args .p % 8) (omega arith)
 
 pub mask-spec : {M : Type 1} → statement M
-mask-spec = tie.close (tie.spec cast-result shr-result returns)
+mask-spec = tie.close (tie.spec (λ c. search needs) (λ c. search needs) returns)

@@ -10,17 +10,11 @@ use borrow.Author.Needs.{needs}
 use Rattle.yard_tables.proofs.block.block_step.Statement.{statement}
 use Rattle.yard_tables.proofs.block.block_step.Tie as tie
 
-refused-requires : tie.Need-refused-requires
-refused-requires c κs = search needs
-
 returns : tie.Need-returns
 returns c =
     let p = c .before .before .before .args .p in
     let pieces = c .before .before .before .args .h .pieces in
     pick-no _ (ltb p pieces) (le-ltb p pieces (omega (arith, c .before .if1 .taken))) (c .refused .ensures)
-
-refused-requires-2 : tie.Need-refused-requires-2
-refused-requires-2 c κs = search needs
 
 returns-2 : tie.Need-returns-2
 returns-2 c =
@@ -28,9 +22,6 @@ returns-2 c =
     let pieces = c .before .before .before .before .args .h .pieces in
     let fits = c .before .before .before .before .args .fits in
     pick-yes _ (ltb p pieces) (lt-ltb p pieces (omega (arith, c .before .before .if1 .left))) (pick-no _ fits (not-true fits (c .before .if2 .taken)) (c .refused2 .ensures))
-
-spoken-requires : tie.Need-spoken-requires
-spoken-requires c κs = search needs
 
 returns-3 : tie.Need-returns-3
 returns-3 c =
@@ -42,12 +33,4 @@ returns-3 c =
     (pick-yes _ fits (not-false fits (c .before .if2 .left)) (ap (λ (t : Seat). stepped h t a) (c .spoken .ensures)))
 
 pub block-step-spec : {M : Type 1} → statement M
-block-step-spec =
-    tie.close
-    (tie.spec
-    refused-requires
-    returns
-    refused-requires-2
-    returns-2
-    spoken-requires
-    returns-3)
+block-step-spec = tie.close (tie.spec (λ c κs. search needs) returns (λ c κs. search needs) returns-2 (λ c κs. search needs) returns-3)

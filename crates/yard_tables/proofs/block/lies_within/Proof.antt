@@ -10,18 +10,8 @@ returns c = fits-none (c .before .args .h) (c .before .args .p) (c .before .args
 returns-2 : tie.Need-returns-2
 returns-2 c = fits-long (c .before .before .args .h) (c .before .before .args .p) (c .before .before .args .begin) (c .before .before .args .len) (c .before .if1 .left) (c .if2 .taken)
 
-wide-requires : tie.Need-wide-requires
-wide-requires c κs = search needs
-
-add-result : tie.Need-add-result
-add-result c = search needs
-
-size-of-requires : tie.Need-size-of-requires
-size-of-requires c κs = search needs
-
 returns-3 : tie.Need-returns-3
 returns-3 c = fits-ends (c .before .before .before .before .args .h) (c .before .before .before .before .args .p) (c .before .before .before .before .args .begin) (c .before .before .before .before .args .len) (c .before .before .before .if1 .left) (c .before .before .if2 .left) (c .before .wide .ensures) (c .size-of .ensures)
 
 pub lies-within-spec : {M : Type 1} → statement M
-lies-within-spec =
-    tie.close (tie.spec returns returns-2 wide-requires add-result size-of-requires returns-3)
+lies-within-spec = tie.close (tie.spec returns returns-2 (λ c κs. search needs) (λ c. search needs) (λ c κs. search needs) returns-3)

@@ -7,14 +7,8 @@ use borrow.Author.Needs.{needs}
 use Rattle.yard_tables.proofs.reply.passed.Statement.{statement}
 use Rattle.yard_tables.proofs.reply.passed.Tie as tie
 
-spoken-requires : tie.Need-spoken-requires
-spoken-requires c κs = search needs
-
-taken-requires : tie.Need-taken-requires
-taken-requires c κs = search needs
-
 returns : tie.Need-returns
 returns c = c .taken .ensures ∙ ap (λ (t : Seat). stepped (c .before .before .args .h) t (Taken (c .before .before .args .used))) (c .before .spoken .ensures)
 
 pub passed-spec : {M : Type 1} → statement M
-passed-spec = tie.close (tie.spec spoken-requires taken-requires returns)
+passed-spec = tie.close (tie.spec (λ c κs. search needs) (λ c κs. search needs) returns)

@@ -7,11 +7,8 @@ use Rattle.yard_tables.specs.declared.Answer.the-variants.{Refused}
 use Rattle.yard_tables.proofs.reply.refused.Statement.{statement}
 use Rattle.yard_tables.proofs.reply.refused.Tie as tie
 
-refuse-requires : tie.Need-refuse-requires
-refuse-requires c κs = search needs
-
 returns : tie.Need-returns
 returns c = ap (λ (x : Refusal). stepped (c .before .args .h) (c .before .args .s) (Refused x)) (c .refuse .ensures)
 
 pub refused-spec : {M : Type 1} → statement M
-refused-spec = tie.close (tie.spec refuse-requires returns)
+refused-spec = tie.close (tie.spec (λ c κs. search needs) returns)

@@ -9,9 +9,6 @@ use borrow.Author.Needs.{needs}
 use Rattle.yard_tables.proofs.sizes.sizes_fit.Statement.{statement}
 use Rattle.yard_tables.proofs.sizes.sizes_fit.Tie as tie
 
-wide-requires : tie.Need-wide-requires
-wide-requires c κs = search needs
-
 returns : tie.Need-returns
 returns c = none (c .before .before .args .h) (c .before .before .args .n) (c .before .before .args .rows) (c .before .before .args .holders) (c .before .wide .result) (c .before .wide .ensures) (c .if1 .taken)
 
@@ -24,12 +21,6 @@ returns-3 c = no-seat (c .before .before .before .before .args .h) (c .before .b
 returns-4 : tie.Need-returns-4
 returns-4 c = many-seats (c .before .before .before .before .before .args .h) (c .before .before .before .before .before .args .n) (c .before .before .before .before .before .args .rows) (c .before .before .before .before .before .args .holders) (c .before .before .before .before .wide .result) (c .before .before .before .before .wide .ensures) (c .if4 .taken)
 
-cast-legal-piece-length : tie.Need-cast-legal-piece-length
-cast-legal-piece-length c = search needs
-
-legal-piece-length-requires : tie.Need-legal-piece-length-requires
-legal-piece-length-requires c κs = search needs
-
 returns-5 : tie.Need-returns-5
 returns-5 c = other-length (c .before .before .before .before .before .before .before .before .args .h) (c .before .before .before .before .before .before .before .before .args .n) (c .before .before .before .before .before .before .before .before .args .rows) (c .before .before .before .before .before .before .before .before .args .holders) (c .before .before .before .before .before .before .before .wide .result) (c .before .before .before .before .before .before .before .wide .ensures) (sym (c .before .legal-piece-length .ensures) ∙ not-true (c .before .legal-piece-length .result) (c .if5 .taken))
 
@@ -38,9 +29,6 @@ returns-6 c = no-last (c .before .before .before .before .before .before .before
 
 returns-7 : tie.Need-returns-7
 returns-7 c = long-last (c .before .before .before .before .before .before .before .before .before .before .before .before .args .h) (c .before .before .before .before .before .before .before .before .before .before .before .before .args .n) (c .before .before .before .before .before .before .before .before .before .before .before .before .args .rows) (c .before .before .before .before .before .before .before .before .before .before .before .before .args .holders) (c .before .before .before .before .before .before .before .before .before .before .before .wide .result) (c .before .before .before .before .before .before .before .before .before .before .before .wide .ensures) (c .if7 .taken)
-
-add-if8 : tie.Need-add-if8
-add-if8 c = search needs
 
 mul-if8 : tie.Need-mul-if8
 mul-if8 c = omega (arith, mul-le-mul-right ((c .before .before .before .before .before .before .before .before .before .before .before .wide .result + 7) / 8) (c .before .before .before .before .before .before .before .if4 .left))
@@ -55,17 +43,5 @@ pub sizes-fit-spec : {M : Type 1} → statement M
 sizes-fit-spec =
     tie.close
     (tie.spec
-    wide-requires
-    returns
-    returns-2
-    returns-3
-    returns-4
-    cast-legal-piece-length
-    legal-piece-length-requires
-    returns-5
-    returns-6
-    returns-7
-    add-if8
-    mul-if8
-    returns-8
-    returns-9)
+    (λ c κs. search needs) returns returns-2 returns-3 returns-4 (λ c. search needs) (λ c κs. search needs) returns-5 returns-6 returns-7 (λ c. search needs)
+    mul-if8 returns-8 returns-9)
