@@ -7,46 +7,14 @@ from walkgen import Walk
 from walker import Author, GIVEN, RUNS, TABLES, W_, X, key, par, tup
 
 CRATE = 'yard_scans'
-LOOP_USES = '''use mathlib.Core.WellFounded.{WellFounded, InvImage·wf}
-use native.Mathlib.Omega.{arith}
-use Prim.Native.Nat.{zero-le, _≤_, _-_}
-use lib.WfN.{Nat·lt-wfRel}
-use lib.ListN.{take, drop as dropped, length-set}
-use lib.Dec.{ltb}
-use borrow.Author.Tests.{lt-ltb, le-ltb, ltb-true, ltb-false}
-use mathlib.Core.Logic.{_⊎_, inl, inr}
-use mir.Syntax.{Ty, imm, mut, erased, tyPtr, tyRef}
-use base.Logic.{snd∗, exE}
-use base.Fml.{fsep, froom, fdies, fres, fshr-bor}
-use prog.Wp.{Env, Wp, Out, afterTurn, afterBlock, afterSeq, atReturn}
-use ghost.Atoms.{sem}
-use types.Kit.{anyQ, atRet, runs, Sq}
-use types.Run.{bin, assigns-last, first, blocks, exec, stays, leaves-loop, Below, again, loops}
-use types.Share.{arr-parts}
-use denote.Shadow.{pureI}
-use denote.Memory.{pointee, shares}
-use denote.Slice.{sliceTy, heres, codedHoleys, at-slice}
-use denote.Lend.{Held}
-use denote.Index.{place-is, elem-out, elem-back, elem-put, looks-slice, shuts-slice, opens-slice, closes-slice}
-use Rattle.yard_tables.specs.Seats.{cleared}
-use Rattle.yard_scans.proofs.Seats.{seat-size, within-fits}
-use Rattle.yard_scans.proofs.Steps.{by-test}'''
-ARITH = '''nearer-less : (i n : ℕ) → i < n → n - (i + 1) < n - i
-nearer-less i n l = omega (arith, l)
 
-next-le : (i n : ℕ) → i < n → i + 1 ≤ n
-next-le i n l = omega (arith, l)
-
-le-fits : (i n : ℕ) → i ≤ n → n < 2 ^ 64 → i < 2 ^ 64
-le-fits i n l m = omega (arith, l, m)
-'''
 
 class Pass(Author):
     """fn: the pass; step: its covered step; roles: what each parameter of the step is given; acc: the local that carries a value along,
     and its type. locals: MIR types as text. at: local numbers of i, len, test, place and seat, and of lent, sent, new, len2 and place2
     where there are such. tails: the names of the loop and of what follows it. turn: fields of a turn beside i and le; start, next: their
     values; end: that the contract holds at exit; before: what the walk does before the loop; laws: what these cite."""
-    def __init__(s, table): super().__init__(f"{CRATE}::{table['fn']}", CRATE); s.table = table
+    def __init__(s, table): super().__init__(f"{CRATE}::{table['fn']}"); s.table = table
     def gen(s):
         P = s.table; G = s.fn(f"{CRATE}::{P['step']}"); ps, res, sp = s.ps, s.fn(s.path).result, G.params
         page = next((p for p in ps if p[1] == 'mslice' and p is not ps[0]), None)
@@ -59,7 +27,6 @@ class Pass(Author):
         o = []; A = o.append
         A(f"abbrev SeatsTy : Ty\nSeatsTy = sliceTy (tyRef (named 0) {'mut' if writes else 'imm'} (pointee (R-Seat .written)))\n")
         if page: A(f"abbrev PageTy : Ty\nPageTy = sliceTy (tyRef (named 1) mut (tyInt {W_[page[2]]}))\n\nabbrev LentTy : Ty\nLentTy = tyRef erased mut (tyInt {W_[page[2]]})\n")
-        A(ARITH)
         A(f"-- where a turn begins\nrecord Turn (ys : List Seat){' (cs : List ℕ)' if page else ''} {tel} : Type 0 where\n  i : ℕ\n  le : i ≤ length ys\n" + ''.join(f'  {x}\n' for x in P['turn']))
         A(f"module _ {GIVEN} {RUNS} where\n  -- the contracts that the proof cites\n  abbrev Stp : Contract 𝓤\n  Stp = tripleOf 𝓤 H A g.signature (g.spec {X})\n")
         if 'first' in P: A(f"  abbrev Fst : Contract 𝓤\n  Fst = tripleOf 𝓤 H A k.signature (k.spec {X})\n")
@@ -229,7 +196,7 @@ class Pass(Author):
         mvs = ' ∷ '.join(mach(p) for p in ps) + ' ∷ []'
         A(f"    walk : ent 𝓤 (onEntry 𝓤 H A f.signature {s.ks} {s.qs} xs at) (WpFn 𝓤 H C Λ code.function ({mvs}) Post)\n    walk =\n        {s.entry(mvs)}\n{WALK}\n")
         A(s.closing(callees, contract, ps))
-        return s.file(f"with a loop, written by tools/walks.py. Of `{P['step']}` it knows the\n-- contract alone, and no field of a seat is named.", [LOOP_USES, P['laws']], used, callees, o)
+        return s.file(f"with a loop, written by tools/walks.py. Of `{P['step']}` it knows the\n-- contract alone, and no field of a seat is named.", [P['laws']], used, callees, o)
 
 
 PROOFS = 'use Rattle.yard_scans.proofs.'

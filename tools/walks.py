@@ -15,7 +15,7 @@ def walks():
     # the passes first: `rt mir yard` wants them proved
     for path, text in passes.walks(): yield place(path), text
     for f in sources.public_functions():
-        if f.crate == 'yard': yield place(f.path), Thin(f.path, kit='yard_scans').gen()
+        if f.crate == 'yard': yield place(f.path), Thin(f.path).gen()
 
 
 def place(path):
