@@ -15,11 +15,8 @@ returns-2 c = sym (ap begun (kind-L _ (c .if2 .taken)))
 returns-3 : tie.Need-returns-3
 returns-3 c = sym (ap begun (kind-D _ (c .if3 .taken)))
 
-digit-requires : tie.Need-digit-requires
-digit-requires c κs = search needs
-
 returns-4 : tie.Need-returns-4
 returns-4 c = c .digit .ensures ∙ sym (kind-last _ (c .before .before .before .if1 .left) (c .before .before .if2 .left) (c .before .if3 .left))
 
 pub begins-spec : {M : Type 1} → statement M
-begins-spec = tie.close (tie.spec returns returns-2 returns-3 digit-requires returns-4)
+begins-spec = tie.close (tie.spec returns returns-2 returns-3 (λ c κs. search needs) returns-4)

@@ -7,26 +7,11 @@ use mathlib.Core.Path.{sym, ap, _∙_}
 use Rattle.bencode.proofs.check.Statement.{statement}
 use Rattle.bencode.proofs.check.Tie as tie
 
-refused-requires : tie.Need-refused-requires
-refused-requires c κs = search needs
-
 returns : tie.Need-returns
 returns c = exactly-as (c .before .before .before .args .text .now) _ (ap paper (c .refused .ensures) ∙ check-long (c .before .before .before .args .text .now) (c .before .if1 .taken))
 
-value-requires : tie.Need-value-requires
-value-requires c κs = search needs
-
-enum-known-c : tie.Need-enum-known-c
-enum-known-c c = search needs
-
-refused-requires-2 : tie.Need-refused-requires-2
-refused-requires-2 c κs = search needs
-
 returns-2 : tie.Need-returns-2
 returns-2 c = exactly-as (c .before .before .before .before .before .before .before .before .args .text .now) _ (ap paper (c .refused2 .ensures) ∙ check-more (c .before .before .before .before .before .before .before .before .args .text .now) (omega arith) (c .before .before .before .c .given .0 .0) (sym (c .before .before .before .c .given .1) ∙ c .before .before .before .before .before .value .ensures) (omega arith))
-
-enum-known-r : tie.Need-enum-known-r
-enum-known-r c = search needs
 
 returns-3 : tie.Need-returns-3
 returns-3 c = exactly-as (c .before .before .before .before .before .before .before .args .text .now) _ (check-taken (c .before .before .before .before .before .before .before .args .text .now) (omega arith) (c .before .before .c .given .0 .0) (sym (c .before .before .c .given .1) ∙ c .before .before .before .before .value .ensures) (omega arith))
@@ -38,12 +23,12 @@ pub check-spec : {M : Type 1} → statement M
 check-spec =
     tie.close
     (tie.spec
-    refused-requires
+    (λ c κs. search needs)
     returns
-    value-requires
-    enum-known-c
-    refused-requires-2
+    (λ c κs. search needs)
+    (λ c. search needs)
+    (λ c κs. search needs)
     returns-2
-    enum-known-r
+    (λ c. search needs)
     returns-3
     returns-4)

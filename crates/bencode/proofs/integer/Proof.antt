@@ -5,24 +5,6 @@ use mathlib.Core.Path.{sym, _∙_}
 use Rattle.bencode.proofs.integer.Statement.{statement}
 use Rattle.bencode.proofs.integer.Tie as tie
 
-integer-requires : tie.Need-integer-requires
-integer-requires c κs = search needs
-
-enum-known-next : tie.Need-enum-known-next
-enum-known-next c = search needs
-
-passed-requires : tie.Need-passed-requires
-passed-requires c κs = search needs
-
-enum-told : tie.Need-enum-told
-enum-told c = search needs
-
-bad-requires : tie.Need-bad-requires
-bad-requires c κs = search needs
-
-enum-known-r : tie.Need-enum-known-r
-enum-known-r c = search needs
-
 returns : tie.Need-returns
 returns c = c .passed .ensures ∙ is-at (c .before .before .before .before .before .before .args .at) (c .before .before .before .before .before .before .args .count) (c .before .before .before .before .before .before .args .text .now) _ _ (sym (c .before .before .next .given .1) ∙ c .before .before .before .before .integer .ensures (c .before .before .before .before .before .before .args .count))
 
@@ -36,12 +18,12 @@ pub integer-spec : {M : Type 1} → statement M
 integer-spec =
     tie.close
     (tie.spec
-    integer-requires
-    enum-known-next
-    passed-requires
-    enum-told
-    bad-requires
-    enum-known-r
+    (λ c κs. search needs)
+    (λ c. search needs)
+    (λ c κs. search needs)
+    (λ c. search needs)
+    (λ c κs. search needs)
+    (λ c. search needs)
     returns
     returns-2
     returns-3)

@@ -8,20 +8,8 @@ use mathlib.Core.Path.{sym, ap, _∙_}
 use Rattle.bencode.proofs.string.Statement.{statement}
 use Rattle.bencode.proofs.string.Tie as tie
 
-string-requires : tie.Need-string-requires
-string-requires c κs = search needs
-
-enum-known-from : tie.Need-enum-known-from
-enum-known-from c = search needs
-
 add-passed : tie.Need-add-passed
 add-passed c = omega (arith, whole-inside (c .before .before .before .before .before .args .text .now) (c .before .before .before .before .before .args .at) (c .before .from .given .0 .0) (c .before .from .given .0 .1 .0) (c .before .before .before .before .before .pre) (ap (textOf (c .before .before .before .before .before .args .text .now) _) (sym (c .before .from .given .1)) ∙ c .before .before .before .string .ensures _))
-
-passed-requires : tie.Need-passed-requires
-passed-requires c κs = search needs
-
-enum-known-r : tie.Need-enum-known-r
-enum-known-r c = search needs
 
 returns : tie.Need-returns
 returns c = c .passed .ensures ∙ ap stepOf (ap (textOf (c .before .before .before .before .before .before .args .text .now) _) (sym (c .before .before .from .given .1)) ∙ c .before .before .before .before .string .ensures _)
@@ -33,10 +21,10 @@ pub string-spec : {M : Type 1} → statement M
 string-spec =
     tie.close
     (tie.spec
-    string-requires
-    enum-known-from
+    (λ c κs. search needs)
+    (λ c. search needs)
     add-passed
-    passed-requires
-    enum-known-r
+    (λ c κs. search needs)
+    (λ c. search needs)
     returns
     returns-2)

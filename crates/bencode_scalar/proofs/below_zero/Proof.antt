@@ -10,12 +10,6 @@ use mathlib.Core.Path.{sym, subst}
 use Rattle.bencode_scalar.proofs.below_zero.Statement.{statement}
 use Rattle.bencode_scalar.proofs.below_zero.Tie as tie
 
-sub-less : tie.Need-sub-less
-sub-less c = search needs
-
-cast-t6 : tie.Need-cast-t6
-cast-t6 c = search needs
-
 sub-t7 : tie.Need-sub-t7
 sub-t7 c = subst (λ (z : ℤ). SFits w64 (negsuc 0 -ℤ z)) (sym (toZ-pos w64 (c .before .args .v - 1) (c .if1 .taken))) (subst (SFits w64) (sym (one-less (c .before .args .v - 1))) (record { sfits = c .if1 .taken }))
 
@@ -26,4 +20,4 @@ returns-2 : tie.Need-returns-2
 returns-2 c = λ n h. rw (minus-large n (c .before .args .v) (c .before .args .next) h (c .before .pre) (c .if1 .left))
 
 pub below-zero-spec : {M : Type 1} → statement M
-below-zero-spec = tie.close (tie.spec sub-less cast-t6 sub-t7 returns returns-2)
+below-zero-spec = tie.close (tie.spec (λ c. search needs) (λ c. search needs) sub-t7 returns returns-2)

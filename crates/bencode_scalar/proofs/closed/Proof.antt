@@ -9,35 +9,14 @@ use mathlib.Core.Path.{sym, ap, _∙_}
 use Rattle.bencode_scalar.proofs.closed.Statement.{statement}
 use Rattle.bencode_scalar.proofs.closed.Tie as tie
 
-number-from-requires : tie.Need-number-from-requires
-number-from-requires c κs = search needs
-
-unread-requires : tie.Need-unread-requires
-unread-requires c κs = search needs
-
 returns : tie.Need-returns
 returns c = λ n. c .unread .ensures ∙ sym (ap integerIs (closed-out (c .before .before .before .before .args .text .now) (c .before .before .before .before .args .minus) (c .before .before .before .before .args .b) (c .before .before .before .before .args .at) n _ (c .before .before .number-from .ensures .1) (omega arith)))
-
-shared-slice-read-if2 : tie.Need-shared-slice-read-if2
-shared-slice-read-if2 c = search needs
-
-unread-requires-2 : tie.Need-unread-requires-2
-unread-requires-2 c κs = search needs
 
 returns-2 : tie.Need-returns-2
 returns-2 c = λ n. c .unread2 .ensures ∙ sym (ap integerIs (closed-wrong (c .before .before .before .before .before .before .args .text .now) (c .before .before .before .before .before .before .args .minus) (c .before .before .before .before .before .before .args .b) (c .before .before .before .before .before .before .args .at) n _ (c .before .before .before .before .number-from .ensures .1) (omega arith) (c .before .if2 .taken)))
 
-add-below-zero : tie.Need-add-below-zero
-add-below-zero c = search needs
-
 below-zero-requires : tie.Need-below-zero-requires
 below-zero-requires c κs = omega (arith, c .before .before .before .before .number-from .ensures .0, num-pos (c .before .before .before .before .before .before .args .b) (drop (c .before .before .before .before .before .before .args .at) (c .before .before .before .before .before .before .args .text .now)) (c .before .before .before .before .before .before .pre .1) (c .before .before .before .before .before .before .pre .2 (c .if3 .taken)))
-
-add-from-zero : tie.Need-add-from-zero
-add-from-zero c = search needs
-
-from-zero-requires : tie.Need-from-zero-requires
-from-zero-requires c κs = search needs
 
 returns-3 : tie.Need-returns-3
 returns-3 c = λ n. c .below-zero .ensures _ (c .before .before .before .before .before .number-from .ensures .0) ∙ sym (ap integerIs (closed-whole (c .before .before .before .before .before .before .before .args .text .now) (c .before .before .before .before .before .before .before .args .minus) (c .before .before .before .before .before .before .before .args .b) (c .before .before .before .before .before .before .before .args .at) n _ (c .before .before .before .before .before .number-from .ensures .1) (omega arith) (omega arith)) ∙ rw (c .before .if3 .taken))
@@ -49,15 +28,15 @@ pub closed-spec : {M : Type 1} → statement M
 closed-spec =
     tie.close
     (tie.spec
-    number-from-requires
-    unread-requires
+    (λ c κs. search needs)
+    (λ c κs. search needs)
     returns
-    shared-slice-read-if2
-    unread-requires-2
+    (λ c. search needs)
+    (λ c κs. search needs)
     returns-2
-    add-below-zero
+    (λ c. search needs)
     below-zero-requires
-    add-from-zero
-    from-zero-requires
+    (λ c. search needs)
+    (λ c κs. search needs)
     returns-3
     returns-4)

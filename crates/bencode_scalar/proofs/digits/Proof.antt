@@ -20,9 +20,6 @@ loop-holds c = reading-start _ _ _ (c .before .pre .0) (c .before .pre .1)
 shared-slice-read-b : tie.Need-shared-slice-read-b Inv-loop μ-loop
 shared-slice-read-b c = omega arith
 
-digit-requires : tie.Need-digit-requires Inv-loop μ-loop
-digit-requires c κs = search needs
-
 push-requires : tie.Need-push-requires Inv-loop μ-loop
 push-requires c κs = digit-range _ (sym (c .before .digit .ensures) ∙ c .if1 .taken)
 
@@ -49,7 +46,7 @@ digits-spec =
     μ-loop
     loop-holds
     shared-slice-read-b
-    digit-requires
+    (λ c κs. search needs)
     push-requires
     add-i
     loop-less

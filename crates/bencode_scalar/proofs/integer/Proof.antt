@@ -8,56 +8,23 @@ use mathlib.Core.Path.{sym, ap, _∙_}
 use Rattle.bencode_scalar.proofs.integer.Statement.{statement}
 use Rattle.bencode_scalar.proofs.integer.Tie as tie
 
-unread-requires : tie.Need-unread-requires
-unread-requires c κs = search needs
-
 returns : tie.Need-returns
 returns c = λ n. c .unread .ensures ∙ sym (ap integerIs (int-end (c .before .before .before .args .text .now) (c .before .before .before .args .at) n (omega arith)))
-
-shared-slice-read-if2 : tie.Need-shared-slice-read-if2
-shared-slice-read-if2 c = search needs
-
-unread-requires-2 : tie.Need-unread-requires-2
-unread-requires-2 c κs = search needs
 
 returns-2 : tie.Need-returns-2
 returns-2 c = λ n. c .unread2 .ensures ∙ sym (ap integerIs (int-other (c .before .before .before .before .before .args .text .now) (c .before .before .before .before .before .args .at) n (omega arith) (c .before .if2 .taken)))
 
-add-p : tie.Need-add-p
-add-p c = search needs
-
-unread-requires-3 : tie.Need-unread-requires-3
-unread-requires-3 c κs = search needs
-
 returns-3 : tie.Need-returns-3
 returns-3 c = λ n. c .unread3 .ensures ∙ sym (ap integerIs (int-out (c .before .before .before .before .before .before .args .text .now) (c .before .before .before .before .before .before .args .at) n (omega arith) (omega arith) (omega arith)))
 
-shared-slice-read-b : tie.Need-shared-slice-read-b
-shared-slice-read-b c = search needs
-
-add-negative : tie.Need-add-negative
-add-negative c = search needs
-
-negative-requires : tie.Need-negative-requires
-negative-requires c κs = search needs
-
 returns-4 : tie.Need-returns-4
 returns-4 c = λ n. c .negative .ensures n ∙ sym (ap integerIs (int-minus (c .before .before .before .before .before .before .before .before .args .text .now) (c .before .before .before .before .before .before .before .before .args .at) n (omega arith) (omega arith) (omega arith) (omega arith)))
-
-digit-requires : tie.Need-digit-requires
-digit-requires c κs = search needs
-
-add-closed : tie.Need-add-closed
-add-closed c = search needs
 
 closed-requires : tie.Need-closed-requires
 closed-requires c κs = (omega arith, sym (c .before .digit .ensures) ∙ c .if5 .taken, λ e. absurd (true≢false (sym e)))
 
 returns-5 : tie.Need-returns-5
 returns-5 c = λ n. c .closed .ensures n ∙ sym (ap integerIs (int-plus (c .before .before .before .before .before .before .before .before .before .before .args .text .now) (c .before .before .before .before .before .before .before .before .before .before .args .at) n (omega arith) (omega arith) (omega arith) (c .before .before .before .if4 .left) (sym (c .before .before .digit .ensures) ∙ c .before .if5 .taken)))
-
-unread-requires-4 : tie.Need-unread-requires-4
-unread-requires-4 c κs = search needs
 
 returns-6 : tie.Need-returns-6
 returns-6 c = λ n. c .unread4 .ensures ∙ sym (ap integerIs (int-wrong (c .before .before .before .before .before .before .before .before .before .before .args .text .now) (c .before .before .before .before .before .before .before .before .before .before .args .at) n (omega arith) (omega arith) (omega arith) (c .before .before .before .if4 .left) (sym (c .before .before .digit .ensures) ∙ c .before .if5 .left)))
@@ -66,21 +33,21 @@ pub integer-spec : {M : Type 1} → statement M
 integer-spec =
     tie.close
     (tie.spec
-    unread-requires
+    (λ c κs. search needs)
     returns
-    shared-slice-read-if2
-    unread-requires-2
+    (λ c. search needs)
+    (λ c κs. search needs)
     returns-2
-    add-p
-    unread-requires-3
+    (λ c. search needs)
+    (λ c κs. search needs)
     returns-3
-    shared-slice-read-b
-    add-negative
-    negative-requires
+    (λ c. search needs)
+    (λ c. search needs)
+    (λ c κs. search needs)
     returns-4
-    digit-requires
-    add-closed
+    (λ c κs. search needs)
+    (λ c. search needs)
     closed-requires
     returns-5
-    unread-requires-4
+    (λ c κs. search needs)
     returns-6)

@@ -7,26 +7,14 @@ use mathlib.Core.Path.{sym, ap, _∙_}
 use Rattle.bencode_scalar.proofs.string.Statement.{statement}
 use Rattle.bencode_scalar.proofs.string.Tie as tie
 
-broken-requires : tie.Need-broken-requires
-broken-requires c κs = search needs
-
 returns : tie.Need-returns
 returns c = λ n. ap (textOf (c .before .before .before .args .text .now) n) (c .broken .ensures) ∙ string-end (c .before .before .before .args .text .now) (c .before .before .before .args .at) n (omega arith)
-
-shared-slice-read-digit : tie.Need-shared-slice-read-digit
-shared-slice-read-digit c = search needs
-
-digit-requires : tie.Need-digit-requires
-digit-requires c κs = search needs
 
 string-from-requires : tie.Need-string-from-requires
 string-from-requires c κs = (omega arith, sym (c .before .digit .ensures) ∙ c .if2 .taken)
 
 returns-2 : tie.Need-returns-2
 returns-2 c = c .string-from .ensures
-
-broken-requires-2 : tie.Need-broken-requires-2
-broken-requires-2 c κs = search needs
 
 returns-3 : tie.Need-returns-3
 returns-3 c = λ n. ap (textOf (c .before .before .before .before .before .before .args .text .now) n) (c .broken2 .ensures) ∙ string-other (c .before .before .before .before .before .before .args .text .now) (c .before .before .before .before .before .before .args .at) n (omega arith) (sym (c .before .before .digit .ensures) ∙ c .before .if2 .left)
@@ -35,11 +23,11 @@ pub string-spec : {M : Type 1} → statement M
 string-spec =
     tie.close
     (tie.spec
-    broken-requires
+    (λ c κs. search needs)
     returns
-    shared-slice-read-digit
-    digit-requires
+    (λ c. search needs)
+    (λ c κs. search needs)
     string-from-requires
     returns-2
-    broken-requires-2
+    (λ c κs. search needs)
     returns-3)

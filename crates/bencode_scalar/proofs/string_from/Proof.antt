@@ -7,44 +7,17 @@ use mathlib.Core.Path.{ap, _∙_}
 use Rattle.bencode_scalar.proofs.string_from.Statement.{statement}
 use Rattle.bencode_scalar.proofs.string_from.Tie as tie
 
-shared-slice-read-number-from : tie.Need-shared-slice-read-number-from
-shared-slice-read-number-from c = search needs
-
-add-number-from : tie.Need-add-number-from
-add-number-from c = search needs
-
 number-from-requires : tie.Need-number-from-requires
 number-from-requires c κs = (omega arith, c .before .before .pre .1)
-
-broken-requires : tie.Need-broken-requires
-broken-requires c κs = search needs
 
 returns : tie.Need-returns
 returns c = λ n. ap (textOf (c .before .before .before .before .before .args .text .now) n) (c .broken .ensures) ∙ string-out (c .before .before .before .before .before .args .text .now) (c .before .before .before .before .before .args .at) n (c .before .before .before .before .before .pre .0) (c .before .before .before .before .before .pre .1) _ _ (c .before .before .number-from .ensures .1) (c .before .before .number-from .ensures .0) (omega arith)
 
-shared-slice-read-if2 : tie.Need-shared-slice-read-if2
-shared-slice-read-if2 c = search needs
-
-broken-requires-2 : tie.Need-broken-requires-2
-broken-requires-2 c κs = search needs
-
 returns-2 : tie.Need-returns-2
 returns-2 c = λ n. ap (textOf (c .before .before .before .before .before .before .before .args .text .now) n) (c .broken2 .ensures) ∙ string-wrong (c .before .before .before .before .before .before .before .args .text .now) (c .before .before .before .before .before .before .before .args .at) n (c .before .before .before .before .before .before .before .pre .0) (c .before .before .before .before .before .before .before .pre .1) _ _ (c .before .before .before .before .number-from .ensures .1) (c .before .before .before .before .number-from .ensures .0) (omega arith) (c .before .if2 .taken)
 
-add-left : tie.Need-add-left
-add-left c = search needs
-
-sub-left : tie.Need-sub-left
-sub-left c = search needs
-
-broken-requires-3 : tie.Need-broken-requires-3
-broken-requires-3 c κs = search needs
-
 returns-3 : tie.Need-returns-3
 returns-3 c = λ n. ap (textOf (c .before .before .before .before .before .before .before .before .args .text .now) n) (c .broken3 .ensures) ∙ string-long (c .before .before .before .before .before .before .before .before .args .text .now) (c .before .before .before .before .before .before .before .before .args .at) n (c .before .before .before .before .before .before .before .before .pre .0) (c .before .before .before .before .before .before .before .before .pre .1) _ _ (c .before .before .before .before .before .number-from .ensures .1) (c .before .before .before .before .before .number-from .ensures .0) (omega arith) (omega arith) (omega arith) (omega arith)
-
-add-t13 : tie.Need-add-t13
-add-t13 c = search needs
 
 returns-4 : tie.Need-returns-4
 returns-4 c = λ n. string-whole (c .before .before .before .before .before .before .before .args .text .now) (c .before .before .before .before .before .before .before .args .at) n (c .before .before .before .before .before .before .before .pre .0) (c .before .before .before .before .before .before .before .pre .1) _ _ (c .before .before .before .before .number-from .ensures .1) (c .before .before .before .before .number-from .ensures .0) (omega arith) (omega arith) (omega arith) (omega arith)
@@ -53,17 +26,17 @@ pub string-from-spec : {M : Type 1} → statement M
 string-from-spec =
     tie.close
     (tie.spec
-    shared-slice-read-number-from
-    add-number-from
+    (λ c. search needs)
+    (λ c. search needs)
     number-from-requires
-    broken-requires
+    (λ c κs. search needs)
     returns
-    shared-slice-read-if2
-    broken-requires-2
+    (λ c. search needs)
+    (λ c κs. search needs)
     returns-2
-    add-left
-    sub-left
-    broken-requires-3
+    (λ c. search needs)
+    (λ c. search needs)
+    (λ c κs. search needs)
     returns-3
-    add-t13
+    (λ c. search needs)
     returns-4)

@@ -5,36 +5,6 @@ use Rattle.peer_wire.proofs.Steps.{allowed-by, allowed-other, other-id}
 use Rattle.peer_wire.proofs.is_allowed.Statement.{statement}
 use Rattle.peer_wire.proofs.is_allowed.Tie as tie
 
-between-requires : tie.Need-between-requires
-between-requires c κs = search needs
-
-between-requires-2 : tie.Need-between-requires-2
-between-requires-2 c κs = search needs
-
-between-requires-3 : tie.Need-between-requires-3
-between-requires-3 c κs = search needs
-
-between-requires-4 : tie.Need-between-requires-4
-between-requires-4 c κs = search needs
-
-between-requires-5 : tie.Need-between-requires-5
-between-requires-5 c κs = search needs
-
-between-requires-6 : tie.Need-between-requires-6
-between-requires-6 c κs = search needs
-
-between-requires-7 : tie.Need-between-requires-7
-between-requires-7 c κs = search needs
-
-between-requires-8 : tie.Need-between-requires-8
-between-requires-8 c κs = search needs
-
-between-requires-9 : tie.Need-between-requires-9
-between-requires-9 c κs = search needs
-
-between-requires-10 : tie.Need-between-requires-10
-between-requires-10 c κs = search needs
-
 returns : tie.Need-returns
 returns c = c .between .ensures ∙ allowed-by (c .before .before .args .id) (c .before .before .args .n) 0 (c .before .match .keys1)
 
@@ -69,16 +39,16 @@ pub is-allowed-spec : {M : Type 1} → statement M
 is-allowed-spec =
     tie.close
     (tie.spec
-    between-requires
-    between-requires-2
-    between-requires-3
-    between-requires-4
-    between-requires-5
-    between-requires-6
-    between-requires-7
-    between-requires-8
-    between-requires-9
-    between-requires-10
+    (λ c κs. search needs)
+    (λ c κs. search needs)
+    (λ c κs. search needs)
+    (λ c κs. search needs)
+    (λ c κs. search needs)
+    (λ c κs. search needs)
+    (λ c κs. search needs)
+    (λ c κs. search needs)
+    (λ c κs. search needs)
+    (λ c κs. search needs)
     returns
     returns-2
     returns-3

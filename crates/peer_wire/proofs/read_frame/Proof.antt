@@ -10,14 +10,8 @@ use Rattle.peer_wire.proofs.read_frame.Tie as tie
 returns : tie.Need-returns
 returns c = sym (read-few (c .before .before .args .bytes .now) (omega arith))
 
-word-requires : tie.Need-word-requires
-word-requires c κs = search needs
-
-sized-requires : tie.Need-sized-requires
-sized-requires c κs = search needs
-
 returns-2 : tie.Need-returns-2
 returns-2 c = c .sized .ensures ∙ ap (sizedOf (c .before .before .before .before .args .bytes .now)) (c .before .word .ensures) ∙ sym (read-sized (c .before .before .before .before .args .bytes .now) (omega arith))
 
 pub read-frame-spec : {M : Type 1} → statement M
-read-frame-spec = tie.close (tie.spec returns word-requires sized-requires returns-2)
+read-frame-spec = tie.close (tie.spec returns (λ c κs. search needs) (λ c κs. search needs) returns-2)

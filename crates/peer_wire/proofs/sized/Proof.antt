@@ -12,29 +12,14 @@ use Rattle.peer_wire.proofs.Steps.{sized-long, sized-zero, sized-wait, 
 use Rattle.peer_wire.proofs.sized.Statement.{statement}
 use Rattle.peer_wire.proofs.sized.Tie as tie
 
-refused-requires : tie.Need-refused-requires
-refused-requires c κs = search needs
-
 returns : tie.Need-returns
 returns c = ap paper (c .refused .ensures) ∙ sym (sized-long (c .before .before .before .args .bytes .now) (c .before .before .before .args .n) (omega arith))
 
 returns-2 : tie.Need-returns-2
 returns-2 c = sym (sized-zero (c .before .before .before .args .bytes .now) (c .before .before .before .args .n) (omega arith))
 
-add-end : tie.Need-add-end
-add-end c = search needs
-
 returns-3 : tie.Need-returns-3
 returns-3 c = sym (sized-wait (c .before .before .before .before .args .bytes .now) (c .before .before .before .before .args .n) (omega arith) (omega arith) (omega arith))
-
-shared-slice-read-id : tie.Need-shared-slice-read-id
-shared-slice-read-id c = search needs
-
-is-allowed-requires : tie.Need-is-allowed-requires
-is-allowed-requires c κs = search needs
-
-refused-requires-2 : tie.Need-refused-requires-2
-refused-requires-2 c κs = search needs
 
 returns-4 : tie.Need-returns-4
 returns-4 c = ap paper (c .refused2 .ensures) ∙ sym (sized-wrong (c .before .before .before .before .before .before .before .before .args .bytes .now) (c .before .before .before .before .before .before .before .before .args .n) (omega arith) (omega arith) (omega arith) (sym (c .before .before .is-allowed .ensures) ∙ not-true _ (c .before .if4 .taken)))
@@ -49,14 +34,14 @@ pub sized-spec : {M : Type 1} → statement M
 sized-spec =
     tie.close
     (tie.spec
-    refused-requires
+    (λ c κs. search needs)
     returns
     returns-2
-    add-end
+    (λ c. search needs)
     returns-3
-    shared-slice-read-id
-    is-allowed-requires
-    refused-requires-2
+    (λ c. search needs)
+    (λ c κs. search needs)
+    (λ c κs. search needs)
     returns-4
     whole-requires
     returns-5)

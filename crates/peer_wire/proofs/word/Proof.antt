@@ -5,17 +5,8 @@ use Rattle.peer_wire.proofs.Steps.{word-is, word-fits, word-there}
 use Rattle.peer_wire.proofs.word.Statement.{statement}
 use Rattle.peer_wire.proofs.word.Tie as tie
 
-read4-requires : tie.Need-read4-requires
-read4-requires c κs = search needs
-
-enum-known-n : tie.Need-enum-known-n
-enum-known-n c = search needs
-
 cast-result : tie.Need-cast-result
 cast-result c = record { fits = word-fits (c .before .before .before .before .before .args .at) (c .before .before .before .before .before .args .bytes .now) (λ i. c .before .before .before .before .shared-slice-known .given i .fits) (sym (c .before .before .before .read4 .ensures) ∙ c .before .n .given .1) }
-
-enum-told : tie.Need-enum-told
-enum-told c = search needs
 
 returns : tie.Need-returns
 returns c = word-is (c .before .before .before .before .before .args .at) (c .before .before .before .before .before .args .bytes .now) (sym (c .before .before .before .read4 .ensures) ∙ c .before .n .given .1)
@@ -25,4 +16,4 @@ returns-2 c = absurd (word-there (c .before .before .before .before .args .at) (
 
 pub word-spec : {M : Type 1} → statement M
 word-spec =
-    tie.close (tie.spec read4-requires enum-known-n cast-result enum-told returns returns-2)
+    tie.close (tie.spec (λ c κs. search needs) (λ c. search needs) cast-result (λ c. search needs) returns returns-2)

@@ -9,56 +9,14 @@ use Rattle.peer_wire.proofs.Writing.{write-long, write-wrong, write-sho
 use Rattle.peer_wire.proofs.write.framed.Statement.{statement}
 use Rattle.peer_wire.proofs.write.framed.Tie as tie
 
-add-head : tie.Need-add-head
-add-head c = search needs
-
-sub-if1 : tie.Need-sub-if1
-sub-if1 c = search needs
-
-refused-requires : tie.Need-refused-requires
-refused-requires c κs = search needs
-
 returns : tie.Need-returns
 returns c = write-long (c .before .before .before .before .before .args .id) (c .before .before .before .before .before .args .numbers .now) (c .before .before .before .before .before .args .rest .now) (c .before .before .before .before .before .args .out .now) (omega arith) (c .refused .ensures)
-
-add-n : tie.Need-add-n
-add-n c = search needs
-
-is-allowed-requires : tie.Need-is-allowed-requires
-is-allowed-requires c κs = search needs
-
-refused-requires-2 : tie.Need-refused-requires-2
-refused-requires-2 c κs = search needs
 
 returns-2 : tie.Need-returns-2
 returns-2 c = write-wrong (c .before .before .before .before .before .before .before .args .id) (c .before .before .before .before .before .before .before .args .numbers .now) (c .before .before .before .before .before .before .before .args .rest .now) (c .before .before .before .before .before .before .before .args .out .now) (1 + length (c .before .before .before .before .before .before .before .args .numbers .now) + length (c .before .before .before .before .before .before .before .args .rest .now)) refl (omega arith) (sym (c .before .before .is-allowed .ensures) ∙ not-true _ (c .before .if2 .taken)) (c .refused2 .ensures)
 
-add-if3 : tie.Need-add-if3
-add-if3 c = search needs
-
-refused-requires-3 : tie.Need-refused-requires-3
-refused-requires-3 c κs = search needs
-
 returns-3 : tie.Need-returns-3
 returns-3 c = write-short (c .before .before .before .before .before .before .before .before .args .id) (c .before .before .before .before .before .before .before .before .args .numbers .now) (c .before .before .before .before .before .before .before .before .args .rest .now) (c .before .before .before .before .before .before .before .before .args .out .now) (1 + length (c .before .before .before .before .before .before .before .before .args .numbers .now) + length (c .before .before .before .before .before .before .before .before .args .rest .now)) refl (omega arith) (sym (c .before .before .before .is-allowed .ensures) ∙ not-false _ (c .before .before .if2 .left)) (omega arith) (c .refused3 .ensures)
-
-cast-write4 : tie.Need-cast-write4
-cast-write4 c = search needs
-
-write4-requires : tie.Need-write4-requires
-write4-requires c κs = search needs
-
-slice-write-out : tie.Need-slice-write-out
-slice-write-out c = search needs
-
-literal-requires : tie.Need-literal-requires
-literal-requires c κs = search needs
-
-add-literal : tie.Need-add-literal
-add-literal c = search needs
-
-literal-requires-2 : tie.Need-literal-requires-2
-literal-requires-2 c κs = search needs
 
 same-length : tie.Need-same-length
 same-length c = write-kept (c .before .before .before .before .before .before .before .before .before .before .before .before .before .before .before .before .before .before .before .args .id) (c .before .before .before .before .before .before .before .before .before .before .before .before .before .before .before .before .before .before .before .args .numbers .now) (c .before .before .before .before .before .before .before .before .before .before .before .before .before .before .before .before .before .before .before .args .rest .now) (c .before .before .before .before .before .before .before .before .before .before .before .before .before .before .before .before .before .before .before .args .out .now) (1 + length (c .before .before .before .before .before .before .before .before .before .before .before .before .before .before .before .before .before .before .before .args .numbers .now) + length (c .before .before .before .before .before .before .before .before .before .before .before .before .before .before .before .before .before .before .before .args .rest .now)) refl (omega arith) (sym (c .before .before .before .before .before .before .before .before .before .before .before .before .before .before .is-allowed .ensures) ∙ not-false _ (c .before .before .before .before .before .before .before .before .before .before .before .before .before .if2 .left)) (omega arith) (4 + (1 + length (c .before .before .before .before .before .before .before .before .before .before .before .before .before .before .before .before .before .before .before .args .numbers .now))) (omega arith) (c .before .before .before .before .before .before .before .before .before .before .write4 .ensures .1) (c .before .before .before .before .before .before .literal .ensures) (c .before .before .literal2 .ensures)
@@ -70,22 +28,22 @@ pub framed-spec : {M : Type 1} → statement M
 framed-spec =
     tie.close
     (tie.spec
-    add-head
-    sub-if1
-    refused-requires
+    (λ c. search needs)
+    (λ c. search needs)
+    (λ c κs. search needs)
     returns
-    add-n
-    is-allowed-requires
-    refused-requires-2
+    (λ c. search needs)
+    (λ c κs. search needs)
+    (λ c κs. search needs)
     returns-2
-    add-if3
-    refused-requires-3
+    (λ c. search needs)
+    (λ c κs. search needs)
     returns-3
-    cast-write4
-    write4-requires
-    slice-write-out
-    literal-requires
-    add-literal
-    literal-requires-2
+    (λ c. search needs)
+    (λ c κs. search needs)
+    (λ c. search needs)
+    (λ c κs. search needs)
+    (λ c. search needs)
+    (λ c κs. search needs)
     same-length
     returns-4)

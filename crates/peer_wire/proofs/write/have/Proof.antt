@@ -8,21 +8,6 @@ use mathlib.Core.Path.{ap, _∙_}
 use Rattle.peer_wire.proofs.write.have.Statement.{statement}
 use Rattle.peer_wire.proofs.write.have.Tie as tie
 
-one-requires : tie.Need-one-requires
-one-requires c κs = search needs
-
-slice-aggregate-framed : tie.Need-slice-aggregate-framed
-slice-aggregate-framed c = search needs
-
-slice-aggregate-framed-2 : tie.Need-slice-aggregate-framed-2
-slice-aggregate-framed-2 c = search needs
-
-framed-requires : tie.Need-framed-requires
-framed-requires c κs = search needs
-
-same-length : tie.Need-same-length
-same-length c = search needs
-
 returns : tie.Need-returns
 returns c = c .before .before .framed .ensures ∙ ap (λ (l : List ℕ). writeOf (4 ∷ l) (c .before .before .before .before .before .before .before .before .args .out .now)) (one-alone (c .before .before .before .before .before .before .before .before .args .index) 0 0 (c .before .before .before .before .before .one .ensures))
 
@@ -30,9 +15,9 @@ pub have-spec : {M : Type 1} → statement M
 have-spec =
     tie.close
     (tie.spec
-    one-requires
-    slice-aggregate-framed
-    slice-aggregate-framed-2
-    framed-requires
-    same-length
+    (λ c κs. search needs)
+    (λ c. search needs)
+    (λ c. search needs)
+    (λ c κs. search needs)
+    (λ c. search needs)
     returns)

@@ -4,14 +4,8 @@ use Rattle.peer_wire.proofs.Writing.{one-written}
 use Rattle.peer_wire.proofs.write.one.Statement.{statement}
 use Rattle.peer_wire.proofs.write.one.Tie as tie
 
-slice-aggregate-write4 : tie.Need-slice-aggregate-write4
-slice-aggregate-write4 c = search needs
-
-write4-requires : tie.Need-write4-requires
-write4-requires c κs = search needs
-
 returns : tie.Need-returns
 returns c = one-written (c .before .before .before .args .a) 0 0 (c .before .write4 .ensures .1)
 
 pub one-spec : {M : Type 1} → statement M
-one-spec = tie.close (tie.spec slice-aggregate-write4 write4-requires returns)
+one-spec = tie.close (tie.spec (λ c. search needs) (λ c κs. search needs) returns)

@@ -8,21 +8,9 @@ use mathlib.Core.Path.{ap, _∙_}
 use Rattle.peer_wire.proofs.write.piece.Statement.{statement}
 use Rattle.peer_wire.proofs.write.piece.Tie as tie
 
-two-requires : tie.Need-two-requires
-two-requires c κs = search needs
-
-slice-aggregate-framed : tie.Need-slice-aggregate-framed
-slice-aggregate-framed c = search needs
-
-framed-requires : tie.Need-framed-requires
-framed-requires c κs = search needs
-
-same-length : tie.Need-same-length
-same-length c = search needs
-
 returns : tie.Need-returns
 returns c = c .before .before .framed .ensures ∙ ap (λ (l : List ℕ). writeOf (7 ∷ l) (c .before .before .before .before .before .before .before .before .args .out .now)) (two-before (c .before .before .before .before .before .before .before .before .args .index) (c .before .before .before .before .before .before .before .before .args .begin) 0 (c .before .before .before .before .before .before .before .before .args .block .now) (c .before .before .before .before .two .ensures))
 
 pub piece-spec : {M : Type 1} → statement M
 piece-spec =
-    tie.close (tie.spec two-requires slice-aggregate-framed framed-requires same-length returns)
+    tie.close (tie.spec (λ c κs. search needs) (λ c. search needs) (λ c κs. search needs) (λ c. search needs) returns)
