@@ -26,54 +26,56 @@ fn keepalive(used: usize, places: bool) {
 
 fn whole(bytes: &[u8], f: Frame, used: usize, places: bool) {
     report::field(report::TAKEN, used as u64);
-    report::number(id(f) as u64);
     if places {
         return fields(f);
     }
     if 5 <= used {
         if used <= bytes.len() {
-            report::next_hex(&bytes[5..used]);
+            message(bytes[4], &bytes[5..used]);
         }
     }
 }
 
-fn id(f: Frame) -> u8 {
-    match f {
-        Frame::Choke => 0,
-        Frame::Unchoke => 1,
-        Frame::Interested => 2,
-        Frame::NotInterested => 3,
-        Frame::Have(_) => 4,
-        Frame::Bitfield(_) => 5,
-        Frame::Request(_, _, _) => 6,
-        Frame::Piece(_, _, _) => 7,
-        Frame::Cancel(_, _, _) => 8,
-        Frame::Other(id, _) => id,
-    }
+fn message(id: u8, payload: &[u8]) {
+    report::number(id as u64);
+    report::next_hex(payload);
 }
 
 fn fields(f: Frame) {
     match f {
-        Frame::Choke => {}
-        Frame::Unchoke => {}
-        Frame::Interested => {}
-        Frame::NotInterested => {}
-        Frame::Have(p) => report::number(p as u64),
-        Frame::Bitfield(bits) => report::next_part(bits),
-        Frame::Request(p, b, l) => three(p, b, l),
+        Frame::Choke => report::number(0),
+        Frame::Unchoke => report::number(1),
+        Frame::Interested => report::number(2),
+        Frame::NotInterested => report::number(3),
+        Frame::Have(p) => have(p),
+        Frame::Bitfield(bits) => some(5, bits),
+        Frame::Request(p, b, l) => three(6, p, b, l),
         Frame::Piece(p, b, block) => piece(p, b, block),
-        Frame::Cancel(p, b, l) => three(p, b, l),
-        Frame::Other(_, rest) => report::next_part(rest),
+        Frame::Cancel(p, b, l) => three(8, p, b, l),
+        Frame::Other(id, rest) => some(id, rest),
     }
 }
 
-fn three(p: u32, b: u32, l: u32) {
+fn have(p: u32) {
+    report::number(4);
+    report::number(p as u64);
+}
+
+// An id and where some bytes stand.
+fn some(id: u8, p: Part) {
+    report::number(id as u64);
+    report::next_part(p);
+}
+
+fn three(id: u8, p: u32, b: u32, l: u32) {
+    report::number(id as u64);
     report::number(p as u64);
     report::number(b as u64);
     report::number(l as u64);
 }
 
 fn piece(p: u32, b: u32, block: Part) {
+    report::number(7);
     report::number(p as u64);
     report::number(b as u64);
     report::next_part(block);

@@ -6,6 +6,7 @@ use crate::wire::twenty;
 use crate::words;
 use bencode_writer::Put;
 use peer_wire::write;
+use refusal::Part;
 use refusal::Refusal;
 use refusal::big_endian;
 use refusal::big_endian::Number;
@@ -123,13 +124,27 @@ fn marks(from: usize, out: &[u8]) {
     }
 }
 
-// The same frame by the writer of its own kind, which has to leave the same.
+// The same frame by the writer of its own kind, where the payload has its shape, which has to leave the same.
 fn again(word: &[u8], payload: &[u8], r: Put, out: &[u8]) {
     if is_keepalive(word) {
         return;
     }
-    let mut space = [MARK; 16500];
-    compare(&mut space, id(word), payload, r, out);
+    let id = id(word);
+    if shaped(id, payload.len()) {
+        let mut space = [MARK; 16500];
+        compare(&mut space, id, payload, r, out);
+    }
+}
+
+fn shaped(id: u8, len: usize) -> bool {
+    match id {
+        4 => len == 4,
+        5 => true,
+        6 => len == 12,
+        7 => 8 <= len,
+        8 => len == 12,
+        _ => len == 0,
+    }
 }
 
 fn compare(space: &mut [u8], id: u8, payload: &[u8], r: Put, out: &[u8]) {
@@ -155,49 +170,22 @@ fn told(r: Put) -> usize {
 }
 
 fn by_kind(out: &mut [u8], id: u8, payload: &[u8]) -> Put {
+    let a = four(payload, 0);
+    let b = four(payload, 4);
+    let c = four(payload, 8);
     match id {
-        4 => have(out, payload),
+        4 => write::have(out, a),
         5 => write::bitfield(out, payload),
-        6 => request(out, payload),
-        7 => piece(out, payload),
-        8 => cancel(out, payload),
-        _ => plain(out, id, payload),
+        6 => write::request(out, a, b, c),
+        7 => write::piece(out, a, b, past_numbers(payload)),
+        8 => write::cancel(out, a, b, c),
+        _ => write::plain(out, id),
     }
 }
 
-fn plain(out: &mut [u8], id: u8, payload: &[u8]) -> Put {
-    if payload.len() == 0 {
-        return write::plain(out, id);
-    }
-    write::raw(out, id, payload)
-}
-
-fn have(out: &mut [u8], payload: &[u8]) -> Put {
-    if payload.len() != 4 {
-        return write::raw(out, 4, payload);
-    }
-    write::have(out, four(payload, 0))
-}
-
-fn request(out: &mut [u8], payload: &[u8]) -> Put {
-    if payload.len() != 12 {
-        return write::raw(out, 6, payload);
-    }
-    write::request(out, four(payload, 0), four(payload, 4), four(payload, 8))
-}
-
-fn cancel(out: &mut [u8], payload: &[u8]) -> Put {
-    if payload.len() != 12 {
-        return write::raw(out, 8, payload);
-    }
-    write::cancel(out, four(payload, 0), four(payload, 4), four(payload, 8))
-}
-
-fn piece(out: &mut [u8], payload: &[u8]) -> Put {
-    if payload.len() < 8 {
-        return write::raw(out, 7, payload);
-    }
-    write::piece(out, four(payload, 0), four(payload, 4), &payload[8..])
+fn past_numbers(payload: &[u8]) -> &[u8] {
+    let len = payload.len();
+    bencode_walk::bytes(payload, Part { from: 8, len })
 }
 
 fn four(bytes: &[u8], at: usize) -> u32 {
