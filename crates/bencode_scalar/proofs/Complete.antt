@@ -4,9 +4,8 @@ use mathlib.Core.Bool.{true, false}
 use mathlib.Core.List.{List, [], _∷_, _++_, append-assoc}
 use Prim.Native.Nat.{ℕ, suc, _+_, _-_, _≤_}
 use native.Mathlib.Omega.{arith}
-use lib.Dec.{leb, eqb}
 use lib.IntN.{ℤ, pos, negsuc}
-use lib.ListN.{length, take, drop, length-append}
+use lib.ListN.{length, length-append}
 use lib.Seq.{drop-append-seam, take-append-seam}
 use borrow.Author.Tests.{le-leb, ne-eqb}
 use Rattle.bencode_scalar.specs.Written.{decimal, writtenString, signed, writtenInt}

@@ -1,5 +1,5 @@
 -- FIPS 180-4, from a message to the hash of its blocks of 64 bytes. A message is a list of bytes. Assumes nothing: these are definitions.
-use Prim.Native.Nat.{ℕ, zero, suc, _+_, _-_, _*_, _/_, _%_}
+use Prim.Native.Nat.{ℕ, zero, suc, _-_, _*_, _/_, _%_}
 use mathlib.Core.List.{List, [], _∷_, _++_}
 use lib.ListN.{length, take, drop, replicate}
 use Rattle.refusal.specs.BigEndian.{bytesOf}

@@ -1,9 +1,9 @@
 -- `bencode_scalar::below_zero` meets its contract. Assumes nothing.
 use borrow.Author.Needs.{needs}
 use Rattle.bencode_scalar.proofs.Forms.{minus-fits, minus-large, one-less}
-use lib.IntN.{ℤ, pos, negsuc, _-ℤ_}
+use lib.IntN.{ℤ, negsuc, _-ℤ_}
 use Prim.Native.Nat.{_-_}
-use mir.Val.{SFits, toZ, ofZ}
+use mir.Val.{SFits}
 use mir.Syntax.{w64}
 use mir.ValLaws.{toZ-pos, toZ-ofZ}
 use mathlib.Core.Path.{sym, subst}

@@ -17,17 +17,8 @@ abbrev μ-loop : tie.MeasureT-loop
 loop-holds : tie.Need-loop-holds Inv-loop μ-loop
 loop-holds c = reading-start _ _ _ (c .before .pre .0) (c .before .pre .1)
 
-shared-slice-read-b : tie.Need-shared-slice-read-b Inv-loop μ-loop
-shared-slice-read-b c = omega arith
-
 push-requires : tie.Need-push-requires Inv-loop μ-loop
 push-requires c κs = digit-range _ (sym (c .before .digit .ensures) ∙ c .if1 .taken)
-
-add-i : tie.Need-add-i Inv-loop μ-loop
-add-i c = omega arith
-
-loop-less : tie.Need-loop-less Inv-loop μ-loop
-loop-less c = omega arith
 
 loop-again : tie.Need-loop-again Inv-loop μ-loop
 loop-again c = reading-more _ _ _ (c .before .before .before .before .before .loop .inv) (omega arith) (sym (c .before .before .digit .ensures) ∙ c .before .if1 .taken) (c .push .ensures)
@@ -42,14 +33,4 @@ pub digits-spec : {M : Type 1} → statement M
 digits-spec =
     tie.close
     (tie.spec
-    Inv-loop
-    μ-loop
-    loop-holds
-    shared-slice-read-b
-    (λ c κs. search needs)
-    push-requires
-    add-i
-    loop-less
-    loop-again
-    returns
-    returns-2)
+    Inv-loop μ-loop loop-holds (λ c. omega arith) (λ c κs. search needs) push-requires (λ c. omega arith) (λ c. omega arith) loop-again returns returns-2)

@@ -33,21 +33,5 @@ pub integer-spec : {M : Type 1} → statement M
 integer-spec =
     tie.close
     (tie.spec
-    (λ c κs. search needs)
-    returns
-    (λ c. search needs)
-    (λ c κs. search needs)
-    returns-2
-    (λ c. search needs)
-    (λ c κs. search needs)
-    returns-3
-    (λ c. search needs)
-    (λ c. search needs)
-    (λ c κs. search needs)
-    returns-4
-    (λ c κs. search needs)
-    (λ c. search needs)
-    closed-requires
-    returns-5
-    (λ c κs. search needs)
-    returns-6)
+    (λ c κs. search needs) returns (λ c. search needs) (λ c κs. search needs) returns-2 (λ c. search needs) (λ c κs. search needs) returns-3 (λ c. search needs)
+    (λ c. search needs) (λ c κs. search needs) returns-4 (λ c κs. search needs) (λ c. search needs) closed-requires returns-5 (λ c κs. search needs) returns-6)

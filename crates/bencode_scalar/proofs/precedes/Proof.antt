@@ -18,23 +18,11 @@ loop-holds c = comparing-start _ _
 returns : tie.Need-returns Inv-loop μ-loop
 returns c = comparing-long _ _ (c .before .before .loop .inv) (omega arith) (omega arith)
 
-shared-slice-read-x : tie.Need-shared-slice-read-x Inv-loop μ-loop
-shared-slice-read-x c = omega arith
-
-shared-slice-read-y : tie.Need-shared-slice-read-y Inv-loop μ-loop
-shared-slice-read-y c = omega arith
-
 returns-2 : tie.Need-returns-2 Inv-loop μ-loop
 returns-2 c = comparing-less _ _ (c .before .before .before .before .before .loop .inv) (omega arith) (omega arith) (c .if2 .taken)
 
 returns-3 : tie.Need-returns-3 Inv-loop μ-loop
 returns-3 c = comparing-greater _ _ (c .before .before .before .before .before .before .loop .inv) (omega arith) (omega arith) (omega arith) (c .if3 .taken)
-
-add-i : tie.Need-add-i Inv-loop μ-loop
-add-i c = omega arith
-
-loop-less : tie.Need-loop-less Inv-loop μ-loop
-loop-less c = omega arith
 
 loop-again : tie.Need-loop-again Inv-loop μ-loop
 loop-again c = comparing-more _ _ (c .before .before .before .before .before .before .loop .inv) (omega arith) (omega arith) (omega arith) (omega arith)
@@ -46,15 +34,4 @@ pub precedes-spec : {M : Type 1} → statement M
 precedes-spec =
     tie.close
     (tie.spec
-    Inv-loop
-    μ-loop
-    loop-holds
-    returns
-    shared-slice-read-x
-    shared-slice-read-y
-    returns-2
-    returns-3
-    add-i
-    loop-less
-    loop-again
-    returns-4)
+    Inv-loop μ-loop loop-holds returns (λ c. omega arith) (λ c. omega arith) returns-2 returns-3 (λ c. omega arith) (λ c. omega arith) loop-again returns-4)

@@ -23,11 +23,4 @@ pub string-spec : {M : Type 1} → statement M
 string-spec =
     tie.close
     (tie.spec
-    (λ c κs. search needs)
-    returns
-    (λ c. search needs)
-    (λ c κs. search needs)
-    string-from-requires
-    returns-2
-    (λ c κs. search needs)
-    returns-3)
+    (λ c κs. search needs) returns (λ c. search needs) (λ c κs. search needs) string-from-requires returns-2 (λ c κs. search needs) returns-3)

@@ -6,23 +6,11 @@ use Rattle.bencode_writer.proofs.Laws.{put-done, put-nothing}
 use Rattle.bencode_writer.proofs.decimal.Statement.{statement}
 use Rattle.bencode_writer.proofs.decimal.Tie as tie
 
-digits-requires : tie.Need-digits-requires
-digits-requires c κs = search needs
-
-has-room-requires : tie.Need-has-room-requires
-has-room-requires c κs = search needs
-
-no-room-requires : tie.Need-no-room-requires
-no-room-requires c κs = search needs
-
 returns : tie.Need-returns
 returns c = put-nothing _ _ _ (omega (arith, c .before .before .has-room .ensures .1 (not-true _ (c .before .if1 .taken)))) (c .no-room .ensures)
 
 store-decimal-requires : tie.Need-store-decimal-requires
 store-decimal-requires c κs = (c .before .before .before .digits .ensures .0, c .before .before .has-room .ensures .0 (not-false _ (c .before .if1 .left)))
-
-same-length : tie.Need-same-length
-same-length c = search needs
 
 returns-2 : tie.Need-returns-2
 returns-2 c =
@@ -33,10 +21,4 @@ pub decimal-spec : {M : Type 1} → statement M
 decimal-spec =
     tie.close
     (tie.spec
-    digits-requires
-    has-room-requires
-    no-room-requires
-    returns
-    store-decimal-requires
-    same-length
-    returns-2)
+    (λ c κs. search needs) (λ c κs. search needs) (λ c κs. search needs) returns store-decimal-requires (λ c. search needs) returns-2)

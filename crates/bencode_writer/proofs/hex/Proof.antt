@@ -5,15 +5,6 @@ use Rattle.bencode_writer.proofs.Escapes.{hex-low, hex-high}
 use Rattle.bencode_writer.proofs.hex.Statement.{statement}
 use Rattle.bencode_writer.proofs.hex.Tie as tie
 
-add-result : tie.Need-add-result
-add-result c = search needs
-
-sub-result : tie.Need-sub-result
-sub-result c = search needs
-
-add-result-2 : tie.Need-add-result-2
-add-result-2 c = search needs
-
 returns : tie.Need-returns
 returns c = hex-low _ (omega arith)
 
@@ -21,4 +12,4 @@ returns-2 : tie.Need-returns-2
 returns-2 c = omega (arith, hex-high (c .before .args .n) (omega arith))
 
 pub hex-spec : {M : Type 1} → statement M
-hex-spec = tie.close (tie.spec add-result sub-result add-result-2 returns returns-2)
+hex-spec = tie.close (tie.spec (λ c. search needs) (λ c. search needs) (λ c. search needs) returns returns-2)

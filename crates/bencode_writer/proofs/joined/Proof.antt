@@ -13,21 +13,6 @@ use Rattle.bencode_writer.proofs.Stores.{length-joined, joined-stores}
 use Rattle.bencode_writer.proofs.joined.Statement.{statement}
 use Rattle.bencode_writer.proofs.joined.Tie as tie
 
-digits-requires : tie.Need-digits-requires
-digits-requires c κs = search needs
-
-add-head : tie.Need-add-head
-add-head c = search needs
-
-add-head-2 : tie.Need-add-head-2
-add-head-2 c = search needs
-
-has-room-requires : tie.Need-has-room-requires
-has-room-requires c κs = search needs
-
-no-room-requires : tie.Need-no-room-requires
-no-room-requires c κs = search needs
-
 returns : tie.Need-returns
 returns c =
     let a = c .before .before .before .before .before .before .before .args in
@@ -36,12 +21,6 @@ returns c =
 
 add-has-room : tie.Need-add-has-room
 add-has-room c = omega (arith, c .before .has-room .ensures .0 (not-false _ (c .if1 .left)))
-
-has-room-requires-2 : tie.Need-has-room-requires-2
-has-room-requires-2 c κs = search needs
-
-no-room-requires-2 : tie.Need-no-room-requires-2
-no-room-requires-2 c κs = search needs
 
 returns-2 : tie.Need-returns-2
 returns-2 c =
@@ -100,20 +79,5 @@ pub joined-spec : {M : Type 1} → statement M
 joined-spec =
     tie.close
     (tie.spec
-    digits-requires
-    add-head
-    add-head-2
-    has-room-requires
-    no-room-requires
-    returns
-    add-has-room
-    has-room-requires-2
-    no-room-requires-2
-    returns-2
-    store-requires
-    store-decimal-requires
-    slice-write-out
-    add-store
-    store-requires-2
-    same-length
-    returns-3)
+    (λ c κs. search needs) (λ c. search needs) (λ c. search needs) (λ c κs. search needs) (λ c κs. search needs) returns add-has-room (λ c κs. search needs)
+    (λ c κs. search needs) returns-2 store-requires store-decimal-requires slice-write-out add-store store-requires-2 same-length returns-3)

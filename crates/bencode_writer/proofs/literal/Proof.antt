@@ -5,20 +5,11 @@ use Rattle.bencode_writer.proofs.Laws.{put-done, put-nothing}
 use Rattle.bencode_writer.proofs.literal.Statement.{statement}
 use Rattle.bencode_writer.proofs.literal.Tie as tie
 
-has-room-requires : tie.Need-has-room-requires
-has-room-requires c κs = search needs
-
-no-room-requires : tie.Need-no-room-requires
-no-room-requires c κs = search needs
-
 returns : tie.Need-returns
 returns c = put-nothing _ _ _ (c .before .before .has-room .ensures .1 (not-true _ (c .before .if1 .taken))) (c .no-room .ensures)
 
 store-requires : tie.Need-store-requires
 store-requires c κs = c .before .before .has-room .ensures .0 (not-false _ (c .before .if1 .left))
-
-same-length : tie.Need-same-length
-same-length c = search needs
 
 returns-2 : tie.Need-returns-2
 returns-2 c =
@@ -26,6 +17,4 @@ returns-2 c =
     put-done _ _ _ (c .before .before .before .before .before .has-room .ensures .0 (not-false _ (c .before .before .before .before .if1 .left))) (stored .place) (stored .out)
 
 pub literal-spec : {M : Type 1} → statement M
-literal-spec =
-    tie.close
-    (tie.spec has-room-requires no-room-requires returns store-requires same-length returns-2)
+literal-spec = tie.close (tie.spec (λ c κs. search needs) (λ c κs. search needs) returns store-requires (λ c. search needs) returns-2)

@@ -33,9 +33,5 @@ cast-result-2 c =
 returns : tie.Need-returns
 returns c = let b = negative c in rw (turned-is (c .before .fits .z) b) (omega (arith, b .some))
 
-returns-2 : tie.Need-returns-2
-returns-2 c = search needs
-
 pub magnitude-spec : {M : Type 1} → statement M
-magnitude-spec =
-    tie.close (tie.spec sub-result cast-result add-result cast-result-2 returns returns-2)
+magnitude-spec = tie.close (tie.spec sub-result cast-result add-result cast-result-2 returns (λ c. search needs))

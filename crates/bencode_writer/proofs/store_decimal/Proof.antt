@@ -14,35 +14,20 @@ Inv-loop out₀ at count n left₀ place₀ out left place = Printing n at out�
 abbrev μ-loop : tie.MeasureT-loop
 μ-loop out₀ at count n left₀ place₀ out left place = left
 
-add-place : tie.Need-add-place Inv-loop μ-loop
-add-place c = omega arith
-
 loop-holds : tie.Need-loop-holds Inv-loop μ-loop
 loop-holds c = rw (c .before .pre .0) (printing-start _ _ _ (omega arith))
 
 sub-place : tie.Need-sub-place Inv-loop μ-loop
 sub-place c = omega (arith, length-last (c .before .loop .left) (omega arith))
 
-digit-requires : tie.Need-digit-requires Inv-loop μ-loop
-digit-requires c κs = omega arith
-
 slice-write-out : tie.Need-slice-write-out Inv-loop μ-loop
 slice-write-out c = omega (arith, c .before .before .loop .inv .room, length-last (c .before .before .loop .left) (omega arith))
-
-loop-less : tie.Need-loop-less Inv-loop μ-loop
-loop-less c = omega arith
 
 loop-again : tie.Need-loop-again Inv-loop μ-loop
 loop-again c = rw (c .digit .ensures) (printing-more _ _ _ (c .before .before .loop .inv) (omega arith))
 
-digit-requires-2 : tie.Need-digit-requires-2 Inv-loop μ-loop
-digit-requires-2 c κs = omega arith
-
 slice-write-out-2 : tie.Need-slice-write-out-2 Inv-loop μ-loop
 slice-write-out-2 c = omega (arith, c .before .before .loop .inv .room, length-one (c .before .before .loop .left) (omega arith))
-
-add-result : tie.Need-add-result Inv-loop μ-loop
-add-result c = omega arith
 
 returns : tie.Need-returns Inv-loop μ-loop
 returns c = record { place = omega arith; out = rw (c .digit2 .ensures) (printing-end _ _ _ (c .before .before .loop .inv) (omega arith)) }
@@ -54,17 +39,5 @@ pub store-decimal-spec : {M : Type 1} → statement M
 store-decimal-spec =
     tie.close
     (tie.spec
-    Inv-loop
-    μ-loop
-    add-place
-    loop-holds
-    sub-place
-    digit-requires
-    slice-write-out
-    loop-less
-    loop-again
-    digit-requires-2
-    slice-write-out-2
-    add-result
-    same-length
-    returns)
+    Inv-loop μ-loop (λ c. omega arith) loop-holds sub-place (λ c κs. omega arith) slice-write-out (λ c. omega arith) loop-again (λ c κs. omega arith)
+    slice-write-out-2 (λ c. omega arith) same-length returns)

@@ -8,41 +8,14 @@ use native.Mathlib.Omega.{arith}
 use Rattle.hash_digest.proofs.message.ended.Statement.{statement}
 use Rattle.hash_digest.proofs.message.ended.Tie as tie
 
-cast-held : tie.Need-cast-held
-cast-held c = search needs
-
-mul-bits : tie.Need-mul-bits
-mul-bits c = search needs
-
-slice-aggregate-store : tie.Need-slice-aggregate-store
-slice-aggregate-store c = search needs
-
-array-share-prefix-tail : tie.Need-array-share-prefix-tail
-array-share-prefix-tail c = search needs
-
 slice-aggregate-store-2 : tie.Need-slice-aggregate-store-2
 slice-aggregate-store-2 c = rw length-take (omega arith)
 
 store-requires : tie.Need-store-requires
 store-requires c κs = rw length-take (omega arith)
 
-array-write-blocks : tie.Need-array-write-blocks
-array-write-blocks c = search needs
-
-slice-aggregate-write8 : tie.Need-slice-aggregate-write8
-slice-aggregate-write8 c = search needs
-
-write8-requires : tie.Need-write8-requires
-write8-requires c κs = search needs
-
 returns : tie.Need-returns
 returns c = ends-written (take (c .before .before .before .before .before .before .before .before .args .length % 64) (c .before .before .before .before .before .before .before .before .args .t1)) (c .before .before .before .before .before .store .last .0) (c .before .write8 .last .0) (c .before .before .before .before .before .before .before .before .args .length) 56 _ (rw length-take (omega arith)) (omega arith) (omega arith) (omega arith) refl (c .before .before .before .before .before .store .ensures) (c .before .write8 .ensures .1)
-
-slice-aggregate-write8-2 : tie.Need-slice-aggregate-write8-2
-slice-aggregate-write8-2 c = search needs
-
-write8-requires-2 : tie.Need-write8-requires-2
-write8-requires-2 c κs = search needs
 
 returns-2 : tie.Need-returns-2
 returns-2 c = ends-written (take (c .before .before .before .before .before .before .before .before .args .length % 64) (c .before .before .before .before .before .before .before .before .args .t1)) (c .before .before .before .before .before .store .last .0) (c .before .write82 .last .0) (c .before .before .before .before .before .before .before .before .args .length) 120 _ (rw length-take (omega arith)) (omega arith) (omega arith) (omega arith) refl (c .before .before .before .before .before .store .ensures) (c .before .write82 .ensures .1)
@@ -51,16 +24,5 @@ pub ended-spec : {M : Type 1} → statement M
 ended-spec =
     tie.close
     (tie.spec
-    cast-held
-    mul-bits
-    slice-aggregate-store
-    array-share-prefix-tail
-    slice-aggregate-store-2
-    store-requires
-    array-write-blocks
-    slice-aggregate-write8
-    write8-requires
-    returns
-    slice-aggregate-write8-2
-    write8-requires-2
-    returns-2)
+    (λ c. search needs) (λ c. search needs) (λ c. search needs) (λ c. search needs) slice-aggregate-store-2 store-requires (λ c. search needs)
+    (λ c. search needs) (λ c κs. search needs) returns (λ c. search needs) (λ c κs. search needs) returns-2)

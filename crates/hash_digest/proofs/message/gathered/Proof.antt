@@ -8,26 +8,11 @@ use native.Mathlib.Omega.{arith}
 use Rattle.hash_digest.proofs.message.gathered.Statement.{statement}
 use Rattle.hash_digest.proofs.message.gathered.Tie as tie
 
-least-requires : tie.Need-least-requires
-least-requires c κs = search needs
-
-slice-aggregate-store : tie.Need-slice-aggregate-store
-slice-aggregate-store c = search needs
-
 slice-aggregate-store-2 : tie.Need-slice-aggregate-store-2
 slice-aggregate-store-2 c = rw length-take (omega arith)
 
 store-requires : tie.Need-store-requires
 store-requires c κs = rw length-take (omega arith)
-
-sub-least : tie.Need-sub-least
-sub-least c = search needs
-
-least-requires-2 : tie.Need-least-requires-2
-least-requires-2 c κs = search needs
-
-slice-aggregate-store-3 : tie.Need-slice-aggregate-store-3
-slice-aggregate-store-3 c = search needs
 
 slice-aggregate-store-4 : tie.Need-slice-aggregate-store-4
 slice-aggregate-store-4 c = rw length-take (omega arith)
@@ -42,13 +27,5 @@ pub gathered-spec : {M : Type 1} → statement M
 gathered-spec =
     tie.close
     (tie.spec
-    least-requires
-    slice-aggregate-store
-    slice-aggregate-store-2
-    store-requires
-    sub-least
-    least-requires-2
-    slice-aggregate-store-3
-    slice-aggregate-store-4
-    store-requires-2
-    returns)
+    (λ c κs. search needs) (λ c. search needs) slice-aggregate-store-2 store-requires (λ c. search needs) (λ c κs. search needs) (λ c. search needs)
+    slice-aggregate-store-4 store-requires-2 returns)
