@@ -25,6 +25,8 @@ pub const WRITE_HANDSHAKE: usize = 20;
 
 pub const WRITE_FRAME: usize = 21;
 
+const NO_CALL: usize = 22;
+
 pub fn each(script: &[u8], space: &mut [u8]) {
     let mut from = 0;
     while from < script.len() {
@@ -34,7 +36,7 @@ pub fn each(script: &[u8], space: &mut [u8]) {
     }
 }
 
-// A line: a remark, or a call, whose answer may be told by its sum.
+// A line: a remark, or a call, or `sum` and a call: no other call has a u second.
 fn one(line: &[u8], space: &mut [u8]) {
     if line.len() < 4 {
         return;
@@ -96,6 +98,7 @@ fn other(call: usize, line: &[u8], brief: bool, x: &[u8], y: &[u8], z: &[u8]) {
         BLOCK => blocks::ask(call, line),
         BYTE => blocks::ask(call, line),
         SIZE => blocks::ask(call, line),
+        NO_CALL => report::name(report::NO_CALL),
         _ => writers::ask(call, line, brief, x, y, z),
     }
 }

@@ -55,10 +55,12 @@ pub const DICTIONARY: usize = 23;
 
 pub const END: usize = 24;
 
+pub const NO_CALL: usize = 25;
+
 // Word k. One text has them all, since each literal costs the check.
 pub fn name(k: usize) {
     nth(
-        b"refused | at |taken | |-|:|\n|/|yes|no|failure |none |wait| keepalive| single | files |compact |list | output changed| otherwise by its own writer|s|n|l|d|e|",
+        b"refused | at |taken | |-|:|\n|/|yes|no|failure |none |wait| keepalive| single | files |compact |list | output changed| otherwise by its own writer|s|n|l|d|e|no call|",
         k,
     );
 }
