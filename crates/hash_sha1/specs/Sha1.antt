@@ -1,5 +1,5 @@
 -- SHA-1 as FIPS 180-4 defines it. A word is a number below 2 ^ 32, a message a list of bytes. Assumes nothing: these are definitions.
-use Prim.Native.Nat.{ℕ, zero, suc, _+_, _-_}
+use Prim.Native.Nat.{ℕ, zero, suc, _-_}
 use mathlib.Core.Bool.{cond}
 use mathlib.Core.List.{List, [], _∷_, _++_}
 use lib.Bits.{bitXor}

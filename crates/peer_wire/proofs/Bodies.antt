@@ -5,7 +5,7 @@ use Prim.Native.Nat.{ℕ, suc, _+_, _≤_, _<_}
 use native.Mathlib.Omega.{arith}
 use lib.ListN.{length, take, drop, length-drop, take-append-drop}
 use lib.Seq.{take-all, drop-drop, length-take-le}
-use Rattle.refusal.specs.BigEndian.{Bytes, bigEndian, bytesOf}
+use Rattle.refusal.specs.BigEndian.{Bytes, bytesOf}
 use Rattle.refusal.proofs.Bytes.{bigEndian-bytesOf, bytesOf-bigEndian}
 use Rattle.refusal.proofs.Places.{below, bytes-drop, bytes-take}
 use Rattle.peer_wire.specs.Message.{Message, keepalive, choke, unchoke, interested, notInterested, have, bitfield, request, piece, cancel, other, word, Word, body, FieldsFit}

@@ -6,14 +6,14 @@ use Prim.Native.Nat.{ℕ, zero, suc, _+_, _-_, _≤_, _<_}
 use native.Mathlib.Omega.{arith}
 use lib.ListN.{length, getD, take, drop, length-drop, length-append, take-append-drop}
 use lib.Seq.{take-nil, take-add, take-at, take-take, drop-drop, drop-cons, length-take-le, drop-append-seam}
-use Rattle.refusal.specs.BigEndian.{Bytes, bigEndian, bytesOf}
+use Rattle.refusal.specs.BigEndian.{Bytes, bytesOf}
 use Rattle.refusal.specs.Paper.{Outcome, taken, refused}
 use Rattle.refusal.specs.Parts.{bytesAt}
 use Rattle.refusal.specs.declared.Part.{Part}
 use Rattle.refusal.proofs.Bytes.{bigEndian-bytesOf, bytesOf-bigEndian}
 use Rattle.refusal.proofs.Places.{bytes-drop, bytes-take}
 use Rattle.peer_wire.specs.Message.{Message, keepalive, word, body, framed, encode}
-use Rattle.peer_wire.specs.Frames.{least, most, Allowed, Lengths, Keeps, Found, wait, found, numberIn, messageIn, readOf, meant, Stream, onward, streamOf, encodeAll, KeepAll}
+use Rattle.peer_wire.specs.Frames.{least, Allowed, Lengths, Keeps, Found, wait, found, numberIn, messageIn, readOf, meant, Stream, onward, streamOf, encodeAll, KeepAll}
 use Rattle.peer_wire.specs.Causes.{named, All, Right, Zero, Cause}
 use Rattle.peer_wire.proofs.Steps.{most-most, message-map, message-same}
 use Rattle.peer_wire.proofs.Bodies.{parse, Laid, laid, written}

@@ -5,7 +5,7 @@ use mathlib.Core.List.{List}
 use Prim.Native.Nat.{ℕ, zero, suc, _+_, _-_, _≤_, _<_, _^_}
 use native.Mathlib.Omega.{arith}
 use borrow.Author.Tests.{lt-ltb, le-ltb, le-leb, lt-leb, leb-true, ne-eqb}
-use lib.Dec.{leb, ltb, eqb}
+use lib.Dec.{leb}
 use lib.ListN.{length, getD, List·getD-eq-default}
 use Rattle.refusal.specs.BigEndian.{Bytes, numberAt}
 use Rattle.refusal.specs.declared.big_endian.Number.the-variants.{Is, Cut}

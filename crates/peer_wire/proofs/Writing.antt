@@ -5,7 +5,6 @@ use mathlib.Core.List.{List, [], _∷_, _++_, append-assoc}
 use Prim.Native.Nat.{ℕ, _+_, _≤_, _<_}
 use native.Mathlib.Omega.{arith}
 use borrow.Author.Tests.{lt-ltb, le-ltb, le-leb}
-use lib.Dec.{leb, ltb}
 use lib.ListN.{length, set, length-append, replicate}
 use lib.Seq.{sets, length-sets}
 use Rattle.refusal.specs.BigEndian.{bytesOf, numberWritten}
