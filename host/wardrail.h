@@ -268,11 +268,11 @@ struct wardrail_span {
 };
 WARDRAIL_ROW(wardrail_span, 3, length);
 
-/* The parts of files that `length` bytes at an offset of a piece fall into: 11, 31, 34, 37. On 0 `detail` is how many parts
+/* The parts of files that `count` bytes at an offset of a piece fall into: 11, 31, 34, 37. On 0 `detail` is how many parts
  * there are, and `out` has three numbers for each, those of a wardrail_span: N of them are lent as `&spans[0].file, 3 * N`.
  * The rest of `out` stays. `lengths` are the files' lengths in the torrent's order. */
 uint64_t wardrail_block(const uint64_t *lengths, size_t lengths_count, uint64_t piece_length, uint32_t piece, uint32_t offset,
-                        uint32_t length, uint64_t *out, size_t out_count, uint64_t *detail);
+                        uint32_t count, uint64_t *out, size_t out_count, uint64_t *detail);
 
 struct wardrail_byte {
     union {
