@@ -10,45 +10,9 @@ Inv-loop out i₀ t3 i = i ≤ 20
 abbrev μ-loop : tie.MeasureT-loop
 μ-loop out i₀ t3 i = 20 - i
 
-loop-holds : tie.Need-loop-holds Inv-loop μ-loop
-loop-holds c = search needs
-
-element-copy-out-hex-byte : tie.Need-element-copy-out-hex-byte Inv-loop μ-loop
-element-copy-out-hex-byte c = search needs
-
-hex-byte-requires : tie.Need-hex-byte-requires Inv-loop μ-loop
-hex-byte-requires c κs = search needs
-
-add-i : tie.Need-add-i Inv-loop μ-loop
-add-i c = search needs
-
-loop-less : tie.Need-loop-less Inv-loop μ-loop
-loop-less c = search needs
-
-loop-again : tie.Need-loop-again Inv-loop μ-loop
-loop-again c = search needs
-
-slice-aggregate-write-all : tie.Need-slice-aggregate-write-all Inv-loop μ-loop
-slice-aggregate-write-all c = search needs
-
-write-all-requires : tie.Need-write-all-requires Inv-loop μ-loop
-write-all-requires c κs = search needs
-
-returns : tie.Need-returns Inv-loop μ-loop
-returns c = search needs
-
 pub hex-spec : {M : Type 1} → statement M
 hex-spec =
     tie.close
     (tie.spec
-    Inv-loop
-    μ-loop
-    loop-holds
-    element-copy-out-hex-byte
-    hex-byte-requires
-    add-i
-    loop-less
-    loop-again
-    slice-aggregate-write-all
-    write-all-requires
-    returns)
+    Inv-loop μ-loop (λ c. search needs) (λ c. search needs) (λ c κs. search needs) (λ c. search needs) (λ c. search needs) (λ c. search needs)
+    (λ c. search needs) (λ c κs. search needs) (λ c. search needs))
