@@ -27,6 +27,7 @@ use Rattle.yard_laws.specs.Causes.{Cause, WaitCause, Serves, Drops}
 use Rattle.yard_laws.specs.Run.{SizesFit, after}
 use Rattle.yard_laws.proofs.Theorem as theorem
 use Rattle.yard_laws.proofs.Demand as demand
+use Rattle.yard_laws.proofs.Pages as pages
 use Rattle.yard_telling.specs.Telling.{codeOf, toldOf, shownOf, Looks}
 use Rattle.yard_telling.specs.declared.Told.{Told}
 use Rattle.demands_laws.specs.Program.{Made}
@@ -41,6 +42,10 @@ use Rattle.demands_laws.proofs.Loaded.{nobody-lacks}
 -- a start is accepted exactly when the sizes are legal and the lent tables have them, whatever stands in the tables
 pub start-exact : (p l k : ℕ) (lent : Yard) (r : ℕ) → r ≡ codeOf (step (start p l k) lent .answer) → r ≡ 0 ↔ SizesFit p l k lent
 start-exact p l k lent r c = let x = theorem.accepted-exactly p l k lent in (λ e. x .0 (start-taken p l k lent (sym c ∙ e)), λ s. c ∙ ap codeOf (x .1 s))
+
+-- a page's list (13) is one: ascending lists with the same members are equal
+pub ascending-unique : (first : ℕ) (l m : List ℕ) → Ascending first l → Ascending first m → ((j : ℕ) → In j l ↔ In j m) → l ≡ m
+ascending-unique first l m = pages.ascending-unique l m
 
 -- `lent` are the tables as they were lent first; after any calls h is the history, and y are the tables
 module _ (lent : Yard) (h : History) (y : Yard) (made : Made lent h y) where

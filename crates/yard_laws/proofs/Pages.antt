@@ -1,6 +1,6 @@
 -- The missing list by the history: who stands on it, in which order, and how a page goes on. Assumes nothing.
-use mathlib.Core.Path.{_≡_, refl, sym, ap, _∙_}
-use mathlib.Core.Logic.{_⊎_, inl, inr}
+use mathlib.Core.Path.{_≡_, refl, sym, ap, ap₂, _∙_}
+use mathlib.Core.Logic.{_⊎_, inl, inr, _↔_}
 use mathlib.Core.Bool.{Bool, true, false, cond}
 use mathlib.Core.List.{List, [], _∷_, _++_, List·Memᴰ, List·Memᴰ·head, List·Memᴰ·tail, List·Memᴰ·not-nil, List·Memᴰ·cases-cons}
 use Prim.Native.Nat.{ℕ, zero, suc, _+_, _-_, _≤_, _<_, min}
@@ -10,6 +10,47 @@ use Rattle.refusal.proofs.Cases.{by-test, same-or, cannot}
 use Rattle.yard_tables.specs.Looks.{firstOr}
 use Rattle.yard_laws.specs.History.{History}
 use Rattle.yard_laws.specs.Says.{lacking, those, missingFrom, pageLines, pageOf, Ascending, none, one}
+
+-- ---- an ascending list is known by its members
+
+-- who stands on one that begins at k or later is not before k
+not-before : {k : ℕ} {l : List ℕ} → Ascending k l → (j : ℕ) → List·Memᴰ j l → k ≤ j
+not-before (none k) j i = absurd (List·Memᴰ·not-nil i)
+not-before (one k a l h s) j i = go (List·Memᴰ·cases-cons i) (λ d. let y = not-before s j d in omega arith)
+  where
+    go : (j ≡ a) ⊎ List·Memᴰ j l → (List·Memᴰ j l → a ≤ j) → k ≤ j
+    go (inl e) x = omega arith
+    go (inr d) x = let y = x d in omega arith
+
+module _ (a b : ℕ) (l m : List ℕ) (later : (j : ℕ) → List·Memᴰ j l → a < j) (same : (j : ℕ) → List·Memᴰ j (a ∷ l) → List·Memᴰ j (b ∷ m)) where
+  -- the first of one list is not after the first of the other
+  firsts : (afterwards : (j : ℕ) → List·Memᴰ j m → b < j) → b ≤ a
+  firsts afterwards = go (List·Memᴰ·cases-cons (same a (List·Memᴰ·head refl)))
+    where
+      go : (a ≡ b) ⊎ List·Memᴰ a m → b ≤ a
+      go (inl e) = omega arith
+      go (inr d) = let x = afterwards a d in omega arith
+
+  -- and so those after the firsts are on both
+  rests : b ≤ a → (j : ℕ) → List·Memᴰ j l → List·Memᴰ j m
+  rests h j d = go (List·Memᴰ·cases-cons (same j (List·Memᴰ·tail d)))
+    where
+      go : (j ≡ b) ⊎ List·Memᴰ j m → List·Memᴰ j m
+      go (inl e) = absurd (let x = later j d in omega arith)
+      go (inr i) = i
+
+pub ascending-unique : {k n : ℕ} (l m : List ℕ) → Ascending k l → Ascending n m → ((j : ℕ) → List·Memᴰ j l ↔ List·Memᴰ j m) → l ≡ m
+ascending-unique [] [] x y same = refl
+ascending-unique [] (b ∷ m) x y same = absurd (List·Memᴰ·not-nil (same b .1 (List·Memᴰ·head refl)))
+ascending-unique (a ∷ l) [] x y same = absurd (List·Memᴰ·not-nil (same a .0 (List·Memᴰ·head refl)))
+ascending-unique (a ∷ l) (b ∷ m) (one _ _ _ g x) (one _ _ _ h y) same =
+    let u : (j : ℕ) → List·Memᴰ j l → a < j = λ j d. let z = not-before x j d in omega arith in
+    let v : (j : ℕ) → List·Memᴰ j m → b < j = λ j d. let z = not-before y j d in omega arith in
+    let p = firsts a b l m u (λ j. same j .0) v in
+    let q = firsts b a m l v (λ j. same j .1) u in
+    let e : a ≡ b = omega arith in
+    ap₂ (λ (c : ℕ) (r : List ℕ). c ∷ r) e
+    (ascending-unique l m x y (λ j. (rests a b l m u (λ i. same i .0) p j, rests b a m l v (λ i. same i .1) q j)))
 
 -- ---- those of some numbers that have f
 
