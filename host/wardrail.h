@@ -120,7 +120,7 @@ struct wardrail_torrent {
 };
 WARDRAIL_ROW(wardrail_torrent, 14, total);
 
-/* Reads a torrent: 1 to 13. */
+/* Reads a torrent: 1 to 8, 10 to 13. */
 uint64_t wardrail_torrent(const uint8_t *text, size_t text_count, struct wardrail_torrent *torrent);
 
 /* Writes the info hash, SHA-1 of the bytes of info. Refuses as wardrail_torrent does, which tells the place. */
@@ -151,7 +151,7 @@ struct wardrail_file_at {
 WARDRAIL_ROW(wardrail_file_at, 3, next_at);
 
 /* The file of many at an offset, to walk all files in one pass: first content_at of wardrail_torrent and 1, then next_at of
- * the answer before, as many times as there are files. Any text and offset is answered: 1 to 7, 10, 11, 13. */
+ * the answer before, as many times as there are files. Any text and offset is answered: 1 to 6, 10, 11, 13. */
 uint64_t wardrail_file_at(const uint8_t *text, size_t text_count, size_t at, struct wardrail_file_at *file);
 
 struct wardrail_element_at {
@@ -165,7 +165,7 @@ struct wardrail_element_at {
 WARDRAIL_ROW(wardrail_element_at, 4, next_at);
 
 /* The element of a path at an offset: first path_at of wardrail_file, then next_at of the answer before, until none is found.
- * Any text and offset is answered: 1 to 7, 10 for another kind, 13 for what may not be a name. */
+ * Any text and offset is answered: 1, 2, 10 for another kind, 13 for what may not be a name. */
 uint64_t wardrail_element_at(const uint8_t *text, size_t text_count, size_t at, struct wardrail_element_at *element);
 
 struct wardrail_piece_hash {
@@ -244,7 +244,7 @@ struct wardrail_listed_at {
 WARDRAIL_ROW(wardrail_listed_at, 6, next_at);
 
 /* The entry of a list at an offset: first first_at of wardrail_reply, then next_at of the answer before, as many times as there
- * are entries. Any text and offset is answered: 1 to 7, 10, 11, 15. */
+ * are entries. Any text and offset is answered: 1 to 6, 10, 11, 15. */
 uint64_t wardrail_listed_at(const uint8_t *text, size_t text_count, size_t at, struct wardrail_listed_at *peer);
 
 struct wardrail_packed_at {

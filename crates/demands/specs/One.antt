@@ -3,7 +3,7 @@
 -- 2, 3. The words of these statements are below. The functions stand under their paths, those that a user calls in One/Doors and those that only crates
 -- need in One/Inner: a function's contract as `src/` has it (-ensures), that it permits one outcome (-determined), and that a refusal leaves what is
 -- lent (-keeps). None is left out: tests/determined.
--- 4. One/Numbers.antt, and One/Only.antt: no other number is given. One/AnyTables.antt: the yard's numbers on tables that no start made.
+-- 4. One/Numbers.antt, and One/Only.antt: no other number is given, nor by a look at a place: One/Looks.antt. One/AnyTables.antt: the yard's numbers on tables that no start made.
 use mathlib.Core.Path.{_≡_}
 use mathlib.Core.Logic.{_⊎_}
 use Prim.Native.Nat.{ℕ}
@@ -13,6 +13,7 @@ pub mod Doors
 pub mod Inner
 pub mod Numbers
 pub mod Only
+pub mod Looks
 pub mod AnyTables
 
 -- ---- what is lent

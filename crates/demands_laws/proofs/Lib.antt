@@ -8,6 +8,7 @@ pub mod Contents
 pub mod Readers
 pub mod Writers
 pub mod Only
+pub mod Looks
 pub mod Texts
 pub mod Pieces
 pub mod Files

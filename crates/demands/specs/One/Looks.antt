@@ -1,0 +1,50 @@
+-- Statement 4 of demand 1, of the looks at a place of any text: a look refuses by no number but those listed here. Assumes nothing.
+use mathlib.Core.Path.{_≡_, sym, _∙_}
+use mathlib.Core.List.{List, [], _∷_, List·Memᴰ as In}
+use Prim.Native.Nat.{ℕ}
+use Rattle.refusal.specs.Paper.{refused}
+use Rattle.bencode_walk.specs.Walk.{paper as lookPaper, entryPaper, pastPaper}
+use Rattle.bencode_walk.specs.declared.Seen.{Seen}
+use Rattle.bencode_walk.specs.declared.Next.{Next}
+use Rattle.bencode_walk.specs.declared.Past.{Past}
+use Rattle.torrent_metainfo.specs.Reading.{filePaper}
+use Rattle.torrent_metainfo.specs.declared.Filed.{Filed}
+use Rattle.torrent_contents.specs.Paths.{elementPaper}
+use Rattle.torrent_contents.specs.declared.Element.{Element}
+use Rattle.tracker.specs.Entries.{packedPaper, listedPaper}
+use Rattle.tracker.specs.declared.compact.Packing.{Packing}
+use Rattle.tracker.specs.declared.listed.Listing.{Listing}
+use Rattle.demands_laws.proofs.Looks as looks
+use Rattle.demands.specs.One.{Lent, now}
+use Rattle.demands.specs.One.Doors.Walk as walk
+use Rattle.demands.specs.One.Doors.Metainfo as metainfo
+use Rattle.demands.specs.One.Doors.Contents as contents
+use Rattle.demands.specs.One.Doors.Tracker as tracker
+
+-- of bencode_walk::look
+pub look-no-other : (text : Lent (List ℕ)) (at : ℕ) (r : Seen) → walk.look-ensures text at r → (k p : ℕ) → lookPaper r ≡ refused k p → In k (1 ∷ 2 ∷ [])
+look-no-other text at r e k p x = looks.look (now (text .entry)) at k p (sym e ∙ x)
+
+-- of bencode_walk::entry
+pub entry-no-other : (text : Lent (List ℕ)) (at : ℕ) (r : Next) → walk.entry-ensures text at r → (k p : ℕ) → entryPaper r ≡ refused k p → In k (1 ∷ 2 ∷ [])
+entry-no-other text at r e k p x = looks.entry-look (now (text .entry)) at k p (sym e ∙ x)
+
+-- of bencode_walk::skip
+pub skip-no-other : (text : Lent (List ℕ)) (at : ℕ) (r : Past) → walk.skip-ensures text at r → (k p : ℕ) → pastPaper r ≡ refused k p → In k (1 ∷ 2 ∷ 3 ∷ 4 ∷ 5 ∷ 6 ∷ [])
+skip-no-other text at r e k p x = looks.skip (now (text .entry)) at k p (sym e ∙ x)
+
+-- of torrent_metainfo::file_at
+pub file-at-no-other : (text : Lent (List ℕ)) (at : ℕ) (r : Filed) → metainfo.file-at-ensures text at r → (k p : ℕ) → filePaper r ≡ refused k p → In k (1 ∷ 2 ∷ 3 ∷ 4 ∷ 5 ∷ 6 ∷ 10 ∷ 11 ∷ 13 ∷ [])
+file-at-no-other text at r e k p x = looks.file-at (now (text .entry)) at k p (sym e ∙ x)
+
+-- of torrent_contents::element_at
+pub element-at-no-other : (text : Lent (List ℕ)) (at : ℕ) (r : Element) → contents.element-at-ensures text at r → (k p : ℕ) → elementPaper r ≡ refused k p → In k (1 ∷ 2 ∷ 10 ∷ 13 ∷ [])
+element-at-no-other text at r e k p x = looks.element-at (now (text .entry)) at k p (sym e ∙ x)
+
+-- of tracker::compact::packed_at
+pub packed-at-no-other : (text : Lent (List ℕ)) (at : ℕ) (r : Packing) → tracker.packed-at-ensures text at r → (k p : ℕ) → packedPaper r ≡ refused k p → In k (1 ∷ [])
+packed-at-no-other text at r e k p x = looks.packed-at (now (text .entry)) at k p (sym e ∙ x)
+
+-- of tracker::listed::listed_at
+pub listed-at-no-other : (text : Lent (List ℕ)) (at : ℕ) (r : Listing) → tracker.listed-at-ensures text at r → (k p : ℕ) → listedPaper r ≡ refused k p → In k (1 ∷ 2 ∷ 3 ∷ 4 ∷ 5 ∷ 6 ∷ 10 ∷ 11 ∷ 15 ∷ [])
+listed-at-no-other text at r e k p x = looks.listed-at (now (text .entry)) at k p (sym e ∙ x)
