@@ -14,7 +14,8 @@ NAME = r"[^\s(){}.;,@\"«»]+"
 
 def function_head(name, public=True):
     """A function of that name, or of any: `pub`, `extern "C"`, the name, the parameters, the answer and the contract."""
-    return re.compile(rf'^{"(pub )" if public else "(pub )?"}(extern "C" )?fn ({name})(?:<[^>]*>)?\((.*?)\)(?: -> ([^\n{{]+))?\n(.*?)^\{{', re.S | re.M)
+    seen = "(pub )" if public else r"(pub |pub\(crate\) )?"
+    return re.compile(rf'^{seen}(extern "C" )?fn ({name})(?:<[^>]*>)?\((.*?)\)(?: -> ([^\n{{]+))?\n(.*?)^\{{', re.S | re.M)
 
 
 FUNCTION = function_head(r"\w+")

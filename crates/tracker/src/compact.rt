@@ -35,7 +35,7 @@ pub fn packed_at(text: &[u8], at: usize) -> Packing
 }
 
 // Entry number n of those from a place on.
-pub fn nth(text: &[u8], first: usize, n: usize) -> Packing
+pub(crate) fn nth(text: &[u8], first: usize, n: usize) -> Packing
     ensures { λ r. ⌜ packedPaper r ≡ packedAt (now (text .entry)) (first + n * 6) ⌝ }
 {
     if text.len() / 6 <= n {

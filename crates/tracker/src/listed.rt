@@ -67,7 +67,7 @@ pub fn count(text: &[u8], first: usize) -> Counted
 }
 
 // Entry number n of those from a place on.
-pub fn nth(text: &[u8], first: usize, n: usize) -> Listing
+pub(crate) fn nth(text: &[u8], first: usize, n: usize) -> Listing
     ensures { λ r. ⌜ listedPaper r ≡ nthAt n (now (text .entry)) first ⌝ }
 {
     let mut at = first;
