@@ -9,6 +9,8 @@ from pathlib import Path
 ROOT = Path(__file__).resolve().parent.parent
 ENSURES = re.compile(r"ensures\s+(?:\w+\s+)?\{ λ ([^.]*)\. ⌜ (.*?) ⌝ \}", re.S)
 REQUIRES = re.compile(r"requires\s+(?:\w+\s+)?\{ ⌜ (.*?) ⌝ \}", re.S)
+# what is lent to be written, with or without a lifetime
+LENT = re.compile(r"&\s*(?:'\w+\s+)?mut\b")
 NAME = r"[^\s(){}.;,@\"«»]+"
 
 
@@ -30,8 +32,8 @@ class Function:
         self.source = source
         self.uses = uses_of(source, "ghost use", ";")
         self.given = [(n.strip(), t.strip()) for n, t in (p.split(":", 1) for p in split(parameters, ","))]
-        self.owned = [antt(n) for n, t in self.given if not t.startswith("&mut")]
-        self.lent = [antt(n) for n, t in self.given if t.startswith("&mut")]
+        self.owned = [antt(n) for n, t in self.given if not LENT.match(t)]
+        self.lent = [antt(n) for n, t in self.given if LENT.match(t)]
         self.answer = answer and answer.strip()
         self.answers = answer is not None
         self.clauses = [words(text) for _, text in ENSURES.findall(self.contract)]

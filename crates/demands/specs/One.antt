@@ -11,6 +11,7 @@ use Rattle.refusal.specs.Paper.{Outcome, taken, refused}
 use Rattle.yard_tables.specs.Tables.{Said, wait}
 pub mod Doors
 pub mod Inner
+pub mod Alike
 pub mod Numbers
 pub mod Only
 pub mod Looks
@@ -36,6 +37,13 @@ pub record Lent (A : Type 0) : Type 0 where
 
 abbrev pub lent : {A : Type 0} → Ref A → Ref A → Lent A
 lent a x = record { entry = a; exit = x }
+
+-- what it holds then
+abbrev pub before : {A : Type 0} → Lent A → A
+before x = now (x .entry)
+
+abbrev pub after : {A : Type 0} → Lent A → A
+after x = now (x .exit)
 
 -- ---- 2: "For every input, each public function's contract determines the complete answer and the final content of everything lent, refusals too;
 -- from any two permitted answers equality is proved": two outcomes that a contract C permits for one entry are the same
@@ -115,3 +123,7 @@ abbrev pub Keeps5 : {R A₁ A₂ A₃ A₄ A₅ : Type 0} → (R → Lent A₁ �
 Keeps5 {R} {A₁} {A₂} {A₃} {A₄} {A₅} C Refuses =
     (r : R) (x₁ : Lent A₁) (x₂ : Lent A₂) (x₃ : Lent A₃) (x₄ : Lent A₄) (x₅ : Lent A₅) → C r x₁ x₂ x₃ x₄ x₅ → Refuses r
     → (now (x₁ .exit) ≡ now (x₁ .entry)) × (now (x₂ .exit) ≡ now (x₂ .entry)) × (now (x₃ .exit) ≡ now (x₃ .entry)) × (now (x₄ .exit) ≡ now (x₄ .entry)) × (now (x₅ .exit) ≡ now (x₅ .entry))
+
+-- or it refuses nothing: whatever the contract permits, the answer, as `said` tells it, is no refusal
+abbrev pub Takes1 : {R A₁ B : Type 0} → (R → Lent A₁ → Type 0) → (R → Outcome B) → Type 0
+Takes1 {R} {A₁} C said = (r : R) (x₁ : Lent A₁) → C r x₁ → Refused (said r) → ⊥

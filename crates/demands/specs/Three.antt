@@ -7,7 +7,6 @@ use mathlib.Core.Logic.{_↔_, Iff·trans}
 use mathlib.Core.Bool.{true, false, not, _&&_}
 use mathlib.Core.List.{List, _++_, List·Memᴰ as In}
 use Prim.Native.Nat.{ℕ, _*_, _≤_, _<_, min}
-use native.Mathlib.Omega.{arith}
 use lib.Dec.{eqb}
 use lib.ListN.{length, getD, take, drop}
 use lib.Seq.{sets}
@@ -17,31 +16,32 @@ use Rattle.yard_tables.specs.Rows.{width, hasIn}
 use Rattle.yard_tables.specs.Seats.{cleared}
 use Rattle.yard_tables.specs.Looks.{firstOr}
 use Rattle.yard_tables.specs.Tables.{Yard, Said, wait, done, serve, dropped, listed, scarce, seated as givesSeat}
-use Rattle.yard_tables.specs.Step.{Call, start, sit, missing, scarcest, step, written}
+use Rattle.yard_tables.specs.Step.{Call, start, sit, missing, scarcest, look, step, written}
 use Rattle.yard_tables.specs.declared.Seat.{Seat}
 use Rattle.yard_tables.specs.declared.Page.{Page}
 use Rattle.yard_laws.specs.History.{History, seated, announced, fresh, weAreChoking, weAreInterested, theyAreChoking, theyAreInterested, pieces, sizesSet}
 use Rattle.yard_laws.specs.Says.{Ascending, recordOf, holders, Lowest}
 use Rattle.yard_laws.specs.Expected.{answer, output}
 use Rattle.yard_laws.specs.Causes.{Cause, WaitCause, Serves, Drops}
-use Rattle.yard_laws.specs.Run.{SizesFit, after}
+use Rattle.yard_laws.specs.Run.{SizesFit, after as afterwards}
 use Rattle.yard_laws.proofs.Theorem as theorem
 use Rattle.yard_laws.proofs.Demand as demand
 use Rattle.yard_laws.proofs.Pages as pages
-use Rattle.yard_telling.specs.Telling.{codeOf, toldOf, shownOf, Looks}
+use Rattle.yard_telling.specs.Telling.{codeOf, toldOf, shownOf}
 use Rattle.yard_telling.specs.declared.Told.{Told}
-use Rattle.demands_laws.specs.Program.{Made}
 use Rattle.demands_laws.proofs.Refusals.{same-answer}
-use Rattle.demands_laws.proofs.Reasons.{few}
 use Rattle.demands_laws.proofs.Runs as runs
 use Rattle.demands_laws.proofs.Runs.{start-taken, tables-fit}
 use Rattle.demands_laws.proofs.Numbered.{number-refuses, number-waits, at-any-place, page-told}
 use Rattle.demands_laws.proofs.Paging.{page-total, page-listed}
 use Rattle.demands_laws.proofs.Loaded.{nobody-lacks}
+use Rattle.demands.specs.One.{Lent, before, after}
+use Rattle.demands.specs.One.Doors.Yard as yard
+use Rattle.demands.specs.Program.{Tables, found, Permits, Telling, Made, permits-step, telling-step, made-run}
 
 -- a start is accepted exactly when the sizes are legal and the lent tables have them, whatever stands in the tables
-pub start-exact : (p l k : ℕ) (lent : Yard) (r : ℕ) → r ≡ codeOf (step (start p l k) lent .answer) → r ≡ 0 ↔ SizesFit p l k lent
-start-exact p l k lent r c = let x = theorem.accepted-exactly p l k lent in (λ e. x .0 (start-taken p l k lent (sym c ∙ e)), λ s. c ∙ ap codeOf (x .1 s))
+pub start-exact : (p l k : ℕ) (t : Tables) (r : ℕ) → yard.start-ensures p l k r (t .head) (t .seats) (t .rows) (t .holders) → r ≡ 0 ↔ SizesFit p l k (found t)
+start-exact p l k t r c = let x = theorem.accepted-exactly p l k (found t) in (λ e. x .0 (start-taken p l k (found t) (sym (c .0) ∙ e)), λ s. c .0 ∙ ap codeOf (x .1 s))
 
 -- a page's list (13) is one: ascending lists with the same members are equal
 pub ascending-unique : (first : ℕ) (l m : List ℕ) → Ascending first l → Ascending first m → ((j : ℕ) → In j l ↔ In j m) → l ≡ m
@@ -53,9 +53,9 @@ module _ (lent : Yard) (h : History) (y : Yard) (made : Made lent h y) where
   abbrev seats : ℕ
   seats = length (lent .seats)
 
-  -- what is so of every run is so of this one (`Made`: demands_laws/specs/Program.antt)
-  here : (P : History → Yard → Type 0) → ((p l k : ℕ) → step (start p l k) lent .answer ≡ taken done → (cs : List Call) → P (after p l k lent cs .past) (after p l k lent cs .yard)) → P h y
-  here = runs.here lent h y made
+  -- what is so of every run is so of this one (`Made`: Program.antt)
+  here : (P : History → Yard → Type 0) → ((p l k : ℕ) → step (start p l k) lent .answer ≡ taken done → (cs : List Call) → P (afterwards p l k lent cs .past) (afterwards p l k lent cs .yard)) → P h y
+  here = runs.here lent h y (made-run lent h y made)
 
   -- ---- 10. "The yard's counts are what the history of calls says."
 
@@ -94,7 +94,7 @@ module _ (lent : Yard) (h : History) (y : Yard) (made : Made lent h y) where
 
   pub tables-right : (length (y .rows) ≡ seats * width (pieces h)) × (length (y .holders) ≡ pieces h)
   tables-right =
-      let f = tables-fit lent h y made in
+      let f = tables-fit lent h y (made-run lent h y made) in
       let z = sizes-right in
       (f .row ∙ ap₂ (λ (n p : ℕ). n * width p) (z .0) (z .1), f .counts ∙ z .1)
 
@@ -102,15 +102,16 @@ module _ (lent : Yard) (h : History) (y : Yard) (made : Made lent h y) where
   pub answer-right : (c : Call) → step c y .answer ≡ answer seats h c
   answer-right c = here (λ g z. step c z .answer ≡ answer seats g c) (λ p l k ok cs. theorem.answered p l k lent ok cs c)
 
-  -- and so are the number that C gets of it, the record and the seat: r and t are what the contracts permit (One/Doors/Yard.antt)
-  pub number-right : (c : Call) (r : ℕ) → r ≡ codeOf (step c y .answer) → r ≡ codeOf (answer seats h c)
-  number-right c r e = e ∙ ap codeOf (answer-right c)
+  -- and so are the number that C gets of it, the record and the seat. `Permits t c r z`: the contract of the call c on the tables t permits the number r
+  pub number-right : (t : Tables) → found t ≡ y → (c : Call) (r : ℕ) (z : Yard) → Permits t c r z → r ≡ codeOf (answer seats h c)
+  number-right t f c r z e = permits-step t c r z e .0 ∙ ap (λ (x : Yard). codeOf (step c x .answer)) f ∙ ap codeOf (answer-right c)
 
-  pub told-right : (c : Call) (was t : Told) → t ≡ toldOf (step c y .answer) was → t ≡ toldOf (answer seats h c) was
-  told-right c was t e = e ∙ ap (λ (a : Outcome Said). toldOf a was) (answer-right c)
+  pub told-right : (t : Tables) → found t ≡ y → (c : Call) (r : ℕ) (told : Lent Told) → Telling t c r told → after told ≡ toldOf (answer seats h c) (before told)
+  told-right t f c r told e = telling-step t c r told e .1 ∙ ap (λ (x : Yard). toldOf (step c x .answer) (before told)) f ∙ ap (λ (a : Outcome Said). toldOf a (before told)) (answer-right c)
 
-  pub shown-right : (c : Call) (was t : Seat) → t ≡ shownOf (step c y .answer) was → t ≡ shownOf (answer seats h c) was
-  shown-right c was t e = e ∙ ap (λ (a : Outcome Said). shownOf a was) (answer-right c)
+  pub shown-right : (t : Tables) → found t ≡ y → (i r : ℕ) (seen : Lent Seat) → yard.look-ensures (t .seats) (t .rows) (t .holders) i r (t .head) seen
+      → after seen ≡ shownOf (answer seats h (look i)) (before seen)
+  shown-right t f i r seen e = e .0 .1 ∙ ap (λ (x : Yard). shownOf (step (look i) x .answer) (before seen)) f ∙ ap (λ (a : Outcome Said). shownOf a (before seen)) (answer-right (look i))
 
   pub written-right : (c : Call) → written c y ≡ output seats h c
   written-right c = here (λ g z. written c z ≡ output seats g c) (λ p l k ok cs. theorem.wrote p l k lent ok cs c)
@@ -145,12 +146,15 @@ module _ (lent : Yard) (h : History) (y : Yard) (made : Made lent h y) where
     never-damaged = here (λ g z. (place : ℕ) → step c z .answer ≡ refused 39 place → ⊥) (λ p l k ok cs. demand.never-damaged p l k lent ok cs c)
 
     -- as C sees it, r being the number that it gets: 255 is a wait, and any other but 0 a refusal
-    module _ (r : ℕ) (e : r ≡ codeOf (step c y .answer)) where
+    module _ (t : Tables) (f : found t ≡ y) (r : ℕ) (z : Yard) (e : Permits t c r z) where
+      permitted : r ≡ codeOf (step c y .answer)
+      permitted = permits-step t c r z e .0 ∙ ap (λ (x : Yard). codeOf (step c x .answer)) f
+
       pub number-fair : (number : ℕ) → (number ≡ 0 → ⊥) → (number ≡ 255 → ⊥) → r ≡ number ↔ Cause seats h c number
-      number-fair number z w = Iff·trans (number-refuses e number z w) (at-any-place (fair number))
+      number-fair number z w = Iff·trans (number-refuses permitted number z w) (at-any-place (fair number))
 
       pub number-wait : r ≡ 255 ↔ WaitCause seats h c
-      number-wait = Iff·trans (number-waits e (λ p d. absurd (let l = few seats h c 255 (fair 255 p .0 d .0) in omega arith))) fair-wait
+      number-wait = Iff·trans (number-waits permitted (runs.no-wait lent h y (made-run lent h y made) c)) fair-wait
 
     -- "A request is answered "serve" exactly if we don't choke and they are interested, else "drop"."
     pub serves-right : (bytes : ℕ) → step c y .answer ≡ taken (serve bytes) ↔ Serves seats h c bytes
@@ -168,16 +172,17 @@ module _ (lent : Yard) (h : History) (y : Yard) (made : Made lent h y) where
   -- ---- 13. "As many as fit; with it how many were written, the yard's whole missing total from seat 0, and the next unlisted missing seat at or after the first, or S."
 
   -- a page of any room from a first seat on; l is the missing list from there: ascending, with every seat whose truck lacks a piece and no other
-  pub missing-total : (first : ℕ) (page out : List ℕ) → out ≡ sets page 0 (written (missing first (length page)) y)
-      → (x : Page) → step (missing first (length page)) y .answer ≡ taken (listed x)
+  pub missing-total : (t : Tables) → found t ≡ y → (first r : ℕ) (page : Lent (List ℕ)) (told : Lent Told) → yard.missing-ensures (t .seats) (t .rows) (t .holders) first r (t .head) page told
+      → (x : Page) → step (missing first (length (before page))) y .answer ≡ taken (listed x)
       → (x .total ≡ count seats (λ i. seated h i && not (eqb (count (pieces h) (λ p. seated h i && announced h i p)) (pieces h))))
       × ((l : List ℕ) × Ascending first l
       × ((j : ℕ) → In j l ↔ ((first ≤ j) × (j < seats) × ((seated h j && not (eqb (count (pieces h) (λ p. seated h j && announced h j p)) (pieces h))) ≡ true)))
-      × (x .written ≡ min (length page) (length l))
-      × (out ≡ take (length page) l ++ drop (x .written) page)
-      × (x .next ≡ firstOr seats (drop (length page) l)))
-  missing-total first page out w x q =
-      page-listed seats h first page out x (sym (answer-right (missing first (length page))) ∙ q) (w ∙ ap (sets page 0) (written-right (missing first (length page))))
+      × (x .written ≡ min (length (before page)) (length l))
+      × (after page ≡ take (length (before page)) l ++ drop (x .written) (before page))
+      × (x .next ≡ firstOr seats (drop (length (before page)) l)))
+  missing-total t f first r page told e x q =
+      let c = missing first (length (before page)) in
+      page-listed seats h first (before page) (after page) x (sym (answer-right c) ∙ q) (e .1 ∙ ap (λ (z : Yard). sets (before page) 0 (written c z)) f ∙ ap (sets (before page) 0) (written-right c))
 
   -- "All loaded": the total is 0 exactly when every truck now seated has announced every piece since it sat down
   pub all-loaded : (first space : ℕ) (x : Page) → step (missing first space) y .answer ≡ taken (listed x)
@@ -187,11 +192,12 @@ module _ (lent : Yard) (h : History) (y : Yard) (made : Made lent h y) where
       Iff·trans (same-answer t) (nobody-lacks seats (pieces h) (seated h) (announced h))
 
   -- as C sees it: where a page's number is 0, `total` of its record is 0 exactly then
-  pub board-right : (first space : ℕ) (was t : Told) → Looks (step (missing first space) y .answer) was 0 t
-      → t .total ≡ 0 ↔ ((i p : ℕ) → i < seats → seated h i ≡ true → p < pieces h → announced h i p ≡ true)
-  board-right first space was t e =
-      let (x, q, g) = page-told seats h first space (answer-right (missing first space)) was t e in
-      Iff·trans (same-answer g) (all-loaded first space x q)
+  pub board-right : (t : Tables) → found t ≡ y → (first : ℕ) (page : Lent (List ℕ)) (told : Lent Told) → yard.missing-ensures (t .seats) (t .rows) (t .holders) first 0 (t .head) page told
+      → after told .total ≡ 0 ↔ ((i p : ℕ) → i < seats → seated h i ≡ true → p < pieces h → announced h i p ≡ true)
+  board-right t f first page told e =
+      let space = length (before page) in
+      let (x, q, g) = page-told seats h first space (ap (λ (z : Yard). step (missing first space) z .answer) f ∙ answer-right (missing first space)) (before told) (after told) (e .0) in
+      Iff·trans (same-answer g) (all-loaded first space x (sym (ap (λ (z : Yard). step (missing first space) z .answer) f) ∙ q))
 
   -- ---- 14. "The scarcest piece is the smallest number among those with fewest holders."
 

@@ -1,7 +1,7 @@
 -- Frames and handshakes: when each of 20 to 23 and 37 is given, and when a frame is read. Assumes nothing.
 use mathlib.Core.Path.{_≡_, refl, sym, ap, subst, _∙_}
 use mathlib.Core.Logic.{inl, inr, _↔_, Iff·trans}
-use mathlib.Core.List.{List, _++_}
+use mathlib.Core.List.{List, _∷_, _++_}
 use Prim.Native.Nat.{ℕ, _+_, _≤_, _<_}
 use native.Mathlib.Omega.{arith}
 use lib.ListN.{length, getD, take, drop, take-append-drop}
@@ -9,13 +9,16 @@ use Rattle.refusal.specs.Paper.{taken, refused}
 use Rattle.refusal.specs.Limits.{longestFrame}
 use Rattle.refusal.specs.declared.Part.{Part}
 use Rattle.peer_wire.specs.Handshake.{shakeOf}
-use Rattle.peer_wire.proofs.Written.{write-exactly}
+use Rattle.peer_wire.proofs.Written.{write-exactly, write-taken, put-at-start}
+use Rattle.peer_wire.proofs.Bodies.{written}
+use Rattle.bencode_writer.specs.Put.{left, paper as putPaper}
+use Rattle.bencode_writer.specs.declared.Put.{Put}
 use Rattle.peer_wire.specs.Causes.{TooLong, All, Right, Named, Misnamed, infoIn, ShakeCause, WriteCause, Cause}
 use Rattle.peer_wire.proofs.Decided.{exactly}
 use Rattle.peer_wire.proofs.Shaking.{shake-exactly}
 use lib.Seq.{length-take-le}
 use Rattle.refusal.specs.BigEndian.{Bytes}
-use Rattle.peer_wire.specs.Message.{Message, FieldsFit, body, encode as frameOf}
+use Rattle.peer_wire.specs.Message.{Message, FieldsFit, body, framed, encode as frameOf}
 use Rattle.peer_wire.specs.Frames.{found, meant, Lengths, readOf, Allowed, writeOf}
 use Rattle.peer_wire.proofs.Exact as frames
 
@@ -98,3 +101,19 @@ module _ (s : List ℕ) (bytes : Bytes s) (m : Message (List ℕ)) (q : ℕ) whe
         let r = frames.reads-back m (f, k) (drop q s) in
         (r .at, ap readOf e ∙ r .answer ∙ ap (λ (n : ℕ). taken (found (r .at) n)) (sym l), ap (λ (t : List ℕ). meant t (r .at)) e ∙ r .means),
   )
+
+-- ---- a frame of any id that was written reads back
+
+pub raw-reads-back : (id : ℕ) (p o : List ℕ) → id < 256 → Bytes p → (r : Put) {out : List ℕ} {q : ℕ} → left (putPaper r) out ≡ writeOf (id ∷ p) o → putPaper r ≡ taken q
+    → (out ≡ framed (id ∷ p) ++ drop q o) × ((at : Message Part) × (readOf out ≡ taken (found at q)) × (body (meant out at) ≡ id ∷ p))
+raw-reads-back id p o small bytes r {out} {q} e t =
+    let w = write-taken (id ∷ p) o r e t in
+    let s = put-at-start (framed (id ∷ p)) o r (w .1) t in
+    let b = frames.framed-reads id p (drop q o) (w .0) in (
+      s .1,
+      (
+        b .at,
+        ap readOf (s .1) ∙ b .answer ∙ ap (λ (n : ℕ). taken (found (b .at) n)) (sym (s .0)),
+        ap (λ (l : List ℕ). body (meant l (b .at))) (s .1) ∙ ap body (b .means) ∙ written p bytes id small (w .0) .0,
+      ),
+    )

@@ -13,6 +13,7 @@ pub mod Texts
 pub mod Pieces
 pub mod Files
 pub mod Places
+pub mod Paths
 pub mod Rewriting
 pub mod Keeping
 pub mod Reasons

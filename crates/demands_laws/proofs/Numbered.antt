@@ -1,7 +1,7 @@
 -- What the number that C gets tells of a call's answer. Assumes nothing.
 use mathlib.Core.Path.{_≡_, refl, sym, ap, _∙_}
 use mathlib.Core.Bool.{Bool, true, false, cond}
-use Prim.Native.Nat.{ℕ}
+use Prim.Native.Nat.{ℕ, _≤_, _<_}
 use native.Mathlib.Omega.{arith}
 use lib.Dec.{leb}
 use Rattle.refusal.specs.Paper.{Outcome, taken, refused}
@@ -11,7 +11,7 @@ use Rattle.yard_tables.specs.declared.Page.{Page}
 use Rattle.yard_laws.specs.History.{History}
 use Rattle.yard_laws.specs.Says.{pageOf}
 use Rattle.yard_laws.specs.Expected.{answer}
-use mathlib.Core.Logic.{_⊎_, inl, inr, _↔_}
+use mathlib.Core.Logic.{_⊎_, inl, inr, _↔_, Iff·trans}
 use Rattle.yard_telling.specs.Telling.{codeOfSaid, codeOf, toldOf, Looks}
 use Rattle.yard_telling.specs.declared.Told.{Told}
 
@@ -51,6 +51,17 @@ module _ {a : Outcome Said} {r : ℕ} (e : r ≡ codeOf a) where
 -- a refusal is at place 0
 pub at-any-place : {A : ℕ → Type 0} {B : Type 0} → ((place : ℕ) → A place ↔ (B × (place ≡ 0))) → ((place : ℕ) × A place) ↔ B
 at-any-place f = (λ (p, a). f p .0 a .0, λ b. (0, f 0 .1 (b, refl)))
+
+-- so a number is given exactly for the cause of its refusal
+module _ {a : Outcome Said} {r : ℕ} (e : r ≡ codeOf a) (number : ℕ) (some : 1 ≤ number) (few : number < 255) where
+  refuses-by : r ≡ number ↔ ((place : ℕ) × (a ≡ refused number place))
+  refuses-by = number-refuses e number (λ z. omega arith) (λ w. omega arith)
+
+  pub number-given : {B : Type 0} → ((place : ℕ) → a ≡ refused number place ↔ (B × (place ≡ 0))) → r ≡ number ↔ B
+  number-given f = Iff·trans refuses-by (at-any-place f)
+
+  pub number-never : ((place : ℕ) → a ≡ refused number place → ⊥) → r ≡ number → ⊥
+  number-never f q = let x = refuses-by .0 q in f (x .0) (x .1)
 
 -- a page whose number is 0 is there
 page-there : (n : ℕ) (h : History) (first space : ℕ) → codeOf (answer n h (missing first space)) ≡ 0 → (x : Page) × (answer n h (missing first space) ≡ taken (listed x))

@@ -1,8 +1,9 @@
 -- A refusal of one outcome told as that of another, both ways at once. Assumes nothing.
 use mathlib.Core.Path.{_≡_, refl, sym, ap, subst, _∙_}
 use mathlib.Core.Logic.{_⊎_, inl, inr, ⊎-elim, _↔_}
+use mathlib.Core.List.{List}
 use Prim.Native.Nat.{ℕ}
-use Rattle.refusal.specs.Paper.{Outcome, taken, refused, map, then}
+use Rattle.refusal.specs.Paper.{Outcome, taken, refused, map, then, Left, left}
 use Rattle.refusal.proofs.Outcomes as outcomes
 
 -- one of two reasons, where the other cannot be
@@ -19,6 +20,10 @@ given f = (λ a. let x = f .0 a in (x .1, x .2), λ (b, c). f .1 (refl, b, c))
 -- what a contract says an answer is, in its place
 pub same-answer : {A : Type 0} {r o x : A} → r ≡ o → r ≡ x ↔ o ≡ x
 same-answer c = (λ e. sym c ∙ e, λ e. c ∙ e)
+
+-- and of a call that leaves something beside it
+pub left-answer : {A : Type 0} {r x : Outcome A} {out : List ℕ} {l : Left A} → left r out ≡ l → r ≡ x ↔ l .answer ≡ x
+left-answer {A} c = same-answer (ap (λ (y : Left A). y .answer) c)
 
 pub some-answer : {A : Type 0} {r o : Outcome A} → r ≡ o → ((x : A) × (r ≡ taken x)) ↔ ((x : A) × (o ≡ taken x))
 some-answer c = (λ (x, e). (x, sym c ∙ e), λ (x, e). (x, c ∙ e))

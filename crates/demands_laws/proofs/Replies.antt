@@ -1,5 +1,5 @@
 -- Tracker replies: when each number is given. Assumes nothing.
-use mathlib.Core.Path.{_≡_, refl, sym, _∙_}
+use mathlib.Core.Path.{_≡_, refl, sym, ap, subst, _∙_}
 use mathlib.Core.Logic.{_⊎_, inl, inr, ⊎-elim, _↔_, Iff·trans}
 use mathlib.Core.List.{List, [], _∷_, List·Memᴰ·head, List·Memᴰ·tail, List·Memᴰ·cases-cons, List·Memᴰ·not-nil, List·Memᴰ as In}
 use Prim.Native.Nat.{ℕ, _≤_}
@@ -17,7 +17,7 @@ use Rattle.tracker.specs.Causes.{NoId, no-id, other-length, NoPeer, no-dictiona
 use Rattle.tracker.proofs.Causes.{reply-causes, reply-refused}
 use Rattle.tracker.proofs.Numbering.{entry-within, entry-beyond}
 use Rattle.refusal.proofs.Cases.{less-or}
-use Rattle.refusal.proofs.Outcomes.{not-refused, same-refusal}
+use Rattle.refusal.proofs.Outcomes.{not-refused, same-refusal, map-taken}
 use Rattle.demands_laws.proofs.Refusals.{first-of, second-of, refusal-is, map-refused, then-refused}
 use Rattle.demands_laws.specs.Causes.{NoReplyText}
 
@@ -121,9 +121,16 @@ numbered n k p x = (
   λ h. entry-beyond n x (h .1) ∙ refusal-is (sym (h .0)) (sym (h .2)),
 )
 
-pub peer-exactly : (s : List ℕ) (n p : ℕ) → then (replyOf s) (nthOf n) ≡ refused 31 p ↔ ((x : Answer (List PeerEntry)) × (replyOf s ≡ taken x) × (entriesIn (counted x) ≤ n) × (p ≡ 0))
+peer-exactly : (s : List ℕ) (n p : ℕ) → then (replyOf s) (nthOf n) ≡ refused 31 p ↔ ((x : Answer (List PeerEntry)) × (replyOf s ≡ taken x) × (entriesIn (counted x) ≤ n) × (p ≡ 0))
 peer-exactly s n p = Iff·trans (second-of (then-refused (replyOf s) (nthOf n) 31 p) (λ h. let l = reply-numbers s 31 p h in omega arith))
     (λ (x, e, h). let c = numbered n 31 p x .0 h in (x, e, c .1, c .2), λ (x, e, l, z). (x, e, numbered n 31 p x .1 (refl, l, z)))
+
+-- by what the reply's own answer counts
+pub peer-counted : (s : List ℕ) (n p : ℕ) → then (replyOf s) (nthOf n) ≡ refused 31 p ↔ ((x : Answer ℕ) × (map counted (replyOf s) ≡ taken x) × (entriesIn x ≤ n) × (p ≡ 0))
+peer-counted s n p = Iff·trans (peer-exactly s n p) (
+  λ (x, e, l, z). (counted x, ap (map counted) e, l, z),
+  λ (x, e, l, z). let y = map-taken counted (replyOf s) x e in (y .0, y .1, subst (λ (a : Answer ℕ). entriesIn a ≤ n) (sym (y .2)) l, z),
+)
 
 pub peer-alike : (s : List ℕ) (n k p : ℕ) → (k ≡ 31 → ⊥) → then (replyOf s) (nthOf n) ≡ refused k p ↔ map counted (replyOf s) ≡ refused k p
 peer-alike s n k p l = let m = map-refused counted (replyOf s) k p in Iff·trans (first-of (then-refused (replyOf s) (nthOf n) k p) (λ h. l (numbered n k p (h .0) .0 (h .2) .0))) (m .1, m .0)

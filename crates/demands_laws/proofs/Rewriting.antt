@@ -7,7 +7,7 @@ use native.Mathlib.Omega.{arith}
 use borrow.Author.Tests.{eqb-true, lt-ltb, le-ltb}
 use lib.Dec.{leb, eqb}
 use lib.ListN.{length, take, drop}
-use Rattle.refusal.specs.Paper.{Outcome, taken, refused, then}
+use Rattle.refusal.specs.Paper.{Outcome, taken, refused, map, then}
 use Rattle.bencode_scalar.specs.Written.{keyLt}
 use Rattle.bencode.specs.Value.{Value, dict, empty, entry, count, Keeps}
 use Rattle.bencode.specs.Exact.{Fine}
@@ -18,7 +18,7 @@ use Rattle.bencode_writer.specs.Put.{putOf, left, paper as putPaper}
 use Rattle.torrent_blocks.specs.Answers.{keeps}
 use Rattle.tracker.specs.Keys.{interval, peers}
 use Rattle.tracker.specs.Entries.{PeerEntry}
-use Rattle.tracker.specs.Reply.{Answer, compact, sixes, replyIn, replyOf}
+use Rattle.tracker.specs.Reply.{Answer, failure, compact, listing, counted, sixes, replyIn, replyOf}
 use Rattle.tracker.specs.Exact.{packs, IsReply, fails, has-string, has-list, shows-failure, shows-packs, shows-lists, ReplySays, ShowsReply}
 use Rattle.tracker.proofs.Exact.{reply-only}
 use Rattle.tracker.proofs.Rewriting.{rewrite}
@@ -88,3 +88,13 @@ reply-again s v w f n p l e =
       short = f .3;
     } in
     (b .0, b .1, b .2, λ o. writes-again n (b .0) o s k (whole-sixes s n (b .0) g p l e) (f .3) (b .3))
+
+-- a reply whose answer says compact entries has them
+pub compact-of : (s : List ℕ) (n p k : ℕ) → map counted (replyOf s) ≡ taken (compact n p k) → (l : List PeerEntry) × (replyOf s ≡ taken (compact n p l)) × (k ≡ length l)
+compact-of s n p k e = go (replyOf s) e
+  where
+    go : (o : Outcome (Answer (List PeerEntry))) → map counted o ≡ taken (compact n p k) → (l : List PeerEntry) × (o ≡ taken (compact n p l)) × (k ≡ length l)
+    go (taken (failure a)) d = no-way (cc)
+    go (taken (compact m q l)) d = let a : m ≡ n = cc in let b : q ≡ p = cc in let c : length l ≡ k = cc in (l, rw (a, b), sym c)
+    go (taken (listing m q l)) d = no-way (cc)
+    go (refused m q) d = no-way (cc)

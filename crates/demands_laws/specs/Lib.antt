@@ -1,6 +1,4 @@
 -- The words that statements of `demands` and laws share, a file for each subject.
 pub mod Texts
-pub mod Readers
 pub mod Causes
 pub mod Places
-pub mod Program

@@ -1,141 +1,168 @@
 -- Statement 4 of demand 1, the rest of it: a call refuses by no number but those that One/Numbers.antt states for it. Call by call, the numbers that a
--- refusal may have, under the words of document 01 that give them. Assumes nothing.
-use mathlib.Core.Path.{_≡_}
+-- refusal may have, under the words of document 01 that give them; r is any answer that the contract of the call permits. Assumes nothing.
+use mathlib.Core.Path.{_≡_, refl, sym, _∙_}
 use mathlib.Core.List.{List, [], _∷_, List·Memᴰ as In}
 use Prim.Native.Nat.{ℕ}
 use lib.ListN.{length}
-use Rattle.refusal.specs.Paper.{refused, map, then}
-use Rattle.bencode_writer.specs.Put.{putOf}
-use Rattle.bencode.specs.Answers.{checkOf}
-use Rattle.hash_sha1.specs.Digest.{digestOf, agreementOf}
-use Rattle.hash_sha1.specs.Parts.{finishOf}
+use Rattle.refusal.specs.Paper.{refused}
+use Rattle.bencode_writer.specs.Put.{paper as putPaper}
+use Rattle.bencode_writer.specs.declared.Put.{Put}
+use Rattle.bencode.specs.Answers.{paper as countPaper}
+use Rattle.bencode.specs.declared.Checked.{Checked}
+use Rattle.hash_sha1.specs.Digest.{paper as hashPaper, agreementPaper}
+use Rattle.hash_sha1.specs.declared.Agreement.{Agreement}
+use Rattle.hash_sha1.specs.declared.Hashed.{Hashed}
 use Rattle.hash_sha1.specs.declared.stream.Stream.{Stream}
-use Rattle.torrent_blocks.specs.Spans.{Span}
-use Rattle.torrent_blocks.specs.Answers.{partsWritten, blockOf, byteOf, sizeOf}
-use Rattle.torrent_blocks.proofs.Causes as blocks
-use Rattle.peer_wire.specs.Frames as frames
-use Rattle.peer_wire.specs.Handshake.{shakeOf}
+use Rattle.torrent_blocks.specs.Spans.{joinedFiles}
+use Rattle.torrent_blocks.specs.Answers.{partsPaper, placePaper, sizePaper}
+use Rattle.torrent_blocks.specs.declared.Parts.{Parts}
+use Rattle.torrent_blocks.specs.declared.PieceNumber.{PieceNumber}
+use Rattle.torrent_blocks.specs.declared.PieceOffset.{PieceOffset}
+use Rattle.torrent_blocks.specs.declared.Place.{Place}
+use Rattle.torrent_blocks.specs.declared.Size.{Size}
+use Rattle.torrent_blocks.proofs.Causes as blocks-laws
+use Rattle.peer_wire.specs.Frames.{paper as framePaper}
+use Rattle.peer_wire.specs.Handshake.{paper as shakePaper}
+use Rattle.peer_wire.specs.declared.Greeting.{Greeting}
+use Rattle.peer_wire.specs.declared.Read.{Read}
 use Rattle.peer_wire.proofs.Decided.{exactly}
 use Rattle.peer_wire.proofs.Shaking.{shake-exactly}
 use Rattle.peer_wire.proofs.Written.{write-exactly}
-use Rattle.tracker.specs.Reply.{replyOf, counted, nthOf}
-use Rattle.tracker.specs.Writing.{writeOf as replyText}
-use Rattle.torrent_metainfo.specs.Reading.{readOf}
-use Rattle.torrent_metainfo.specs.Hashes.{infoHashOf}
-use Rattle.torrent_authoring.specs.Writing as author
-use Rattle.torrent_authoring.specs.Writing.{Fields}
-use Rattle.torrent_contents.specs.Files as file
-use Rattle.torrent_contents.specs.Pieces as piece
+use Rattle.tracker.specs.Reading.{peerPaper, paper as replyPaper}
+use Rattle.tracker.specs.declared.Reply.{Reply}
+use Rattle.tracker.specs.declared.Found as peer
+use Rattle.torrent_metainfo.specs.Reading.{paper as torrentPaper}
+use Rattle.torrent_metainfo.specs.declared.Reading.{Reading}
+use Rattle.torrent_authoring.specs.Writing.{paper as sizedPaper}
+use Rattle.torrent_authoring.specs.declared.Sized.{Sized}
+use Rattle.torrent_contents.specs.Files.{foundPaper}
+use Rattle.torrent_contents.specs.Pieces.{checkPaper, hashPaper as pieceHashPaper}
+use Rattle.torrent_contents.specs.declared.Found as file
+use Rattle.torrent_contents.specs.declared.Hash as hash
+use Rattle.torrent_contents.specs.declared.Checked as piece
 use Rattle.yard_tables.specs.Tables.{Yard}
-use Rattle.yard_tables.specs.Step.{Call, step}
+use Rattle.yard_tables.specs.Step.{Call}
 use Rattle.yard_laws.specs.History.{History}
-use Rattle.demands_laws.specs.Program.{Made}
-use Rattle.demands_laws.proofs.Contents as contents
+use Rattle.demands_laws.proofs.Refusals.{left-answer}
+use Rattle.demands_laws.proofs.Numbered.{number-refuses}
+use Rattle.demands_laws.proofs.Contents as contents-laws
 use Rattle.demands_laws.proofs.Writers as writers
 use Rattle.demands_laws.proofs.Digests as digests
 use Rattle.demands_laws.proofs.Only as only
 use Rattle.demands_laws.proofs.Runs as runs
+use Rattle.demands.specs.Program.{Tables, found, Permits, Made, permits-step, made-run}
+use Rattle.demands.specs.One.{Lent, before}
+use Rattle.demands.specs.One.Alike.{asked, Frames, as-framed, Puts, as-put}
+use Rattle.demands.specs.One.Doors.Bencode as bencode
+use Rattle.demands.specs.One.Doors.Metainfo as metainfo
+use Rattle.demands.specs.One.Doors.Contents as contents
+use Rattle.demands.specs.One.Doors.Authoring as authoring
+use Rattle.demands.specs.One.Doors.Tracker as tracker
+use Rattle.demands.specs.One.Doors.TrackerWriting as replies
+use Rattle.demands.specs.One.Doors.Blocks as blocks
+use Rattle.demands.specs.One.Doors.Wire as wire
+use Rattle.demands.specs.One.Doors.Sha1 as sha1
 
 -- ---- texts: "1" to "8" of the table
 
 -- of bencode::check
-pub check-no-other : (s : List ℕ) (k p : ℕ) → checkOf s ≡ refused k p → In k (1 ∷ 2 ∷ 3 ∷ 4 ∷ 5 ∷ 6 ∷ 7 ∷ 8 ∷ [])
-check-no-other = only.check
+pub check-no-other : (text : Lent (List ℕ)) (r : Checked) → bencode.check-ensures text r → (k p : ℕ) → countPaper r ≡ refused k p → In k (1 ∷ 2 ∷ 3 ∷ 4 ∷ 5 ∷ 6 ∷ 7 ∷ 8 ∷ [])
+check-no-other text r e k p x = let d = sym (e .0) ∙ x in only.check (before text) k p d
 
 -- ---- torrents: "Checks in this order: bencode; top is a dictionary; [..] name (string, then 13), piece length (integer, then 11) [..]. Then how many files, the
 -- total, how many pieces (11), then 12."
 
 -- of torrent_metainfo::read
-pub torrent-no-other : (s : List ℕ) (k p : ℕ) → readOf s ≡ refused k p → In k (1 ∷ 2 ∷ 3 ∷ 4 ∷ 5 ∷ 6 ∷ 7 ∷ 8 ∷ 10 ∷ 11 ∷ 12 ∷ 13 ∷ [])
-torrent-no-other = only.torrent
+pub torrent-no-other : (text : Lent (List ℕ)) (r : Reading) → metainfo.read-ensures text r → (k p : ℕ) → torrentPaper r ≡ refused k p → In k (1 ∷ 2 ∷ 3 ∷ 4 ∷ 5 ∷ 6 ∷ 7 ∷ 8 ∷ 10 ∷ 11 ∷ 12 ∷ 13 ∷ [])
+torrent-no-other text r e k p x = let d = sym e ∙ x in only.torrent (before text) k p d
 
 -- of torrent_metainfo::info_hash
-pub info-hash-no-other : (s o : List ℕ) (k p : ℕ) → infoHashOf s o .answer ≡ refused k p → In k (1 ∷ 2 ∷ 3 ∷ 4 ∷ 5 ∷ 6 ∷ 7 ∷ 8 ∷ 10 ∷ 11 ∷ 12 ∷ 13 ∷ [])
-info-hash-no-other s o k p e = only.torrent s k p (contents.info-hash-alike s o k p .0 e)
+pub info-hash-no-other : (text : Lent (List ℕ)) (r : Hashed) (out : Lent (List ℕ)) → metainfo.info-hash-ensures text r out → (k p : ℕ) → hashPaper r ≡ refused k p → In k (1 ∷ 2 ∷ 3 ∷ 4 ∷ 5 ∷ 6 ∷ 7 ∷ 8 ∷ 10 ∷ 11 ∷ 12 ∷ 13 ∷ [])
+info-hash-no-other text r out e k p x = let d = left-answer e .0 x in only.torrent (before text) k p (contents-laws.info-hash-alike (before text) (before out) k p .0 d)
 
 -- of torrent_contents::file: a file's number too
-pub file-no-other : (s : List ℕ) (n k p : ℕ) → file.entryOf s n ≡ refused k p → In k (31 ∷ 1 ∷ 2 ∷ 3 ∷ 4 ∷ 5 ∷ 6 ∷ 7 ∷ 8 ∷ 10 ∷ 11 ∷ 12 ∷ 13 ∷ [])
-file-no-other = only.file-entry
+pub file-no-other : (text : Lent (List ℕ)) (n : ℕ) (r : file.Found) → contents.file-ensures text n r → (k p : ℕ) → foundPaper r ≡ refused k p → In k (31 ∷ 1 ∷ 2 ∷ 3 ∷ 4 ∷ 5 ∷ 6 ∷ 7 ∷ 8 ∷ 10 ∷ 11 ∷ 12 ∷ 13 ∷ [])
+file-no-other text n r e k p x = let d = sym e ∙ x in only.file-entry (before text) n k p d
 
 -- of torrent_contents::piece_hash: a piece's number too
-pub piece-hash-no-other : (s : List ℕ) (n k p : ℕ) → piece.hashOf s n ≡ refused k p → In k (31 ∷ 1 ∷ 2 ∷ 3 ∷ 4 ∷ 5 ∷ 6 ∷ 7 ∷ 8 ∷ 10 ∷ 11 ∷ 12 ∷ 13 ∷ [])
-piece-hash-no-other = only.piece-hash
+pub piece-hash-no-other : (text : Lent (List ℕ)) (n : PieceNumber) (r : hash.Hash) → contents.piece-hash-ensures text n r → (k p : ℕ) → pieceHashPaper r ≡ refused k p → In k (31 ∷ 1 ∷ 2 ∷ 3 ∷ 4 ∷ 5 ∷ 6 ∷ 7 ∷ 8 ∷ 10 ∷ 11 ∷ 12 ∷ 13 ∷ [])
+piece-hash-no-other text n r e k p x = let d = sym e ∙ x in only.piece-hash (before text) (n .0) k p d
 
 -- of torrent_contents::check_piece: and "a piece to check of the wrong length"
-pub piece-check-no-other : (s : List ℕ) (n : ℕ) (m : List ℕ) (k p : ℕ) → piece.checkOf s n m ≡ refused k p → In k (31 ∷ 34 ∷ 1 ∷ 2 ∷ 3 ∷ 4 ∷ 5 ∷ 6 ∷ 7 ∷ 8 ∷ 10 ∷ 11 ∷ 12 ∷ 13 ∷ [])
-piece-check-no-other = only.piece-check
+pub piece-check-no-other : (text : Lent (List ℕ)) (n : PieceNumber) (bytes : Lent (List ℕ)) (r : piece.Checked) → contents.check-piece-ensures text n bytes r → (k p : ℕ) → checkPaper r ≡ refused k p → In k (31 ∷ 34 ∷ 1 ∷ 2 ∷ 3 ∷ 4 ∷ 5 ∷ 6 ∷ 7 ∷ 8 ∷ 10 ∷ 11 ∷ 12 ∷ 13 ∷ [])
+piece-check-no-other text n bytes r e k p x = let d = sym e ∙ x in only.piece-check (before text) (n .0) (before bytes) k p d
 
 -- of torrent_authoring::write
-pub torrent-writer-no-other : (f : Fields) (o : List ℕ) (k p : ℕ) → author.writeOf f o .answer ≡ refused k p → In k (8 ∷ 11 ∷ 12 ∷ 13 ∷ 37 ∷ [])
-torrent-writer-no-other f o k p e = only.torrent-writer f o k (writers.torrent-written f o k p .0 e .0)
+pub torrent-writer-no-other : (announce name : Lent (List ℕ)) (pl : ℕ) (pieces : Lent (List ℕ)) (len : ℕ) (r : Put) (out : Lent (List ℕ)) → authoring.write-ensures announce name pl pieces len r out → (k p : ℕ) → putPaper r ≡ refused k p → In k (8 ∷ 11 ∷ 12 ∷ 13 ∷ 37 ∷ [])
+torrent-writer-no-other announce name pl pieces len r out e k p x = let d = left-answer e .0 x in only.torrent-writer (asked announce name pl pieces len) (before out) k (writers.torrent-written (asked announce name pl pieces len) (before out) k p .0 d .0)
 
 -- of torrent_authoring::size
-pub torrent-size-no-other : (f : Fields) (k p : ℕ) → author.sizeOf f ≡ refused k p → In k (8 ∷ 11 ∷ 12 ∷ 13 ∷ [])
-torrent-size-no-other f k p e = only.torrent-size f k (writers.torrent-sized f k p .0 e .0)
+pub torrent-size-no-other : (announce name : Lent (List ℕ)) (pl : ℕ) (pieces : Lent (List ℕ)) (len : ℕ) (r : Sized) → authoring.size-ensures announce name pl pieces len r → (k p : ℕ) → sizedPaper r ≡ refused k p → In k (8 ∷ 11 ∷ 12 ∷ 13 ∷ [])
+torrent-size-no-other announce name pl pieces len r e k p x = let d = sym e ∙ x in only.torrent-size (asked announce name pl pieces len) k (writers.torrent-sized (asked announce name pl pieces len) k p .0 d .0)
 
 -- ---- replies: "After bencode, a dictionary (10) [..] failure reason (string, else 10) [..] interval (0 to 2^31-1, else 11), then peers [..] (15 if not a multiple
 -- of 6) [..] peer id (20 bytes, else 15), ip (string), port (0 to 65535, else 11)."
 
 -- of tracker::read
-pub reply-no-other : (s : List ℕ) (k p : ℕ) → map counted (replyOf s) ≡ refused k p → In k (1 ∷ 2 ∷ 3 ∷ 4 ∷ 5 ∷ 6 ∷ 7 ∷ 8 ∷ 10 ∷ 11 ∷ 15 ∷ [])
-reply-no-other = only.reply
+pub reply-no-other : (text : Lent (List ℕ)) (r : Reply) → tracker.read-ensures text r → (k p : ℕ) → replyPaper r ≡ refused k p → In k (1 ∷ 2 ∷ 3 ∷ 4 ∷ 5 ∷ 6 ∷ 7 ∷ 8 ∷ 10 ∷ 11 ∷ 15 ∷ [])
+reply-no-other text r e k p x = let d = sym e ∙ x in only.reply (before text) k p d
 
 -- of tracker::peer: "asking for one [..] refuses as the reply does, then by 31"
-pub peer-no-other : (s : List ℕ) (n k p : ℕ) → then (replyOf s) (nthOf n) ≡ refused k p → In k (31 ∷ 1 ∷ 2 ∷ 3 ∷ 4 ∷ 5 ∷ 6 ∷ 7 ∷ 8 ∷ 10 ∷ 11 ∷ 15 ∷ [])
-peer-no-other = only.peer
+pub peer-no-other : (text : Lent (List ℕ)) (n : ℕ) (r : peer.Found) → tracker.peer-ensures text n r → (k p : ℕ) → peerPaper r ≡ refused k p → In k (31 ∷ 1 ∷ 2 ∷ 3 ∷ 4 ∷ 5 ∷ 6 ∷ 7 ∷ 8 ∷ 10 ∷ 11 ∷ 15 ∷ [])
+peer-no-other text n r e k p x = let d = sym e ∙ x in only.peer (before text) n k p d
 
 -- of tracker::writing::write
-pub reply-writer-no-other : (interval : ℕ) (peers o : List ℕ) (k p : ℕ) → replyText interval peers o .answer ≡ refused k p → In k (8 ∷ 11 ∷ 15 ∷ 37 ∷ [])
-reply-writer-no-other interval peers o k p e = only.reply-writer interval peers o k (writers.reply-written interval peers o k p .0 e .0)
+pub reply-writer-no-other : (interval : ℕ) (peers : Lent (List ℕ)) (r : Put) (out : Lent (List ℕ)) → replies.write-ensures interval peers r out → (k p : ℕ) → putPaper r ≡ refused k p → In k (8 ∷ 11 ∷ 15 ∷ 37 ∷ [])
+reply-writer-no-other interval peers r out e k p x = let d = left-answer e .0 x in only.reply-writer interval (before peers) (before out) k (writers.reply-written interval (before peers) (before out) k p .0 d .0)
 
 -- ---- digests: "piece to hash over 16,777,216"
 
 -- of hash_sha1::digest
-pub digest-no-other : (m o : List ℕ) (k p : ℕ) → digestOf m o .answer ≡ refused k p → k ≡ 8
-digest-no-other m o k p e = digests.digest-exactly m o k p .0 e .0
+pub digest-no-other : (message : Lent (List ℕ)) (r : Hashed) (out : Lent (List ℕ)) → sha1.digest-ensures message r out → (k p : ℕ) → hashPaper r ≡ refused k p → k ≡ 8
+digest-no-other message r out e k p x = let d = left-answer e .0 x in digests.digest-exactly (before message) (before out) k p .0 d .0
 
 -- of hash_sha1::stream::finish
-pub finish-no-other : (s : Stream) (o : List ℕ) (k p : ℕ) → finishOf s o .answer ≡ refused k p → k ≡ 8
-finish-no-other s o k p e = digests.finish-exactly s o k p .0 e .0
+pub finish-no-other : (s : Stream) (r : Hashed) (out : Lent (List ℕ)) → sha1.finish-ensures s r out → (k p : ℕ) → hashPaper r ≡ refused k p → k ≡ 8
+finish-no-other s r out e k p x = let d = left-answer e .0 x in digests.finish-exactly s (before out) k p .0 d .0
 
 -- of hash_sha1::agrees
-pub agrees-no-other : (m expected : List ℕ) (k p : ℕ) → agreementOf m expected ≡ refused k p → k ≡ 8
-agrees-no-other m expected k p e = digests.agreement-exactly m expected k p .0 e .0
+pub agrees-no-other : (message expected : Lent (List ℕ)) (r : Agreement) → sha1.agrees-ensures message expected r → (k p : ℕ) → agreementPaper r ≡ refused k p → k ≡ 8
+agrees-no-other message expected r e k p x = let d = sym e ∙ x in digests.agreement-exactly (before message) (before expected) k p .0 d .0
 
 -- ---- blocks: "Lent file lengths and a piece length that break a number rule for torrents are 11 at place 0, checked first. Checks: 31, 34, 37."
 
 -- of torrent_blocks::block
-pub block-no-other : (files : List Span) (pl p o n : ℕ) (out : List ℕ) (k q : ℕ) → partsWritten (blockOf files pl p o n) out .answer ≡ refused k q → In k (11 ∷ 31 ∷ 34 ∷ 37 ∷ [])
-block-no-other files pl p o n out k q e = only.block files pl p o n (length out) k (blocks.block-refused-only files pl p o n out k q e .0)
+pub block-no-other : (lengths : Lent (List ℕ)) (pl : ℕ) (p : PieceNumber) (o : PieceOffset) (n : ℕ) (r : Parts) (out : Lent (List ℕ)) → blocks.block-ensures lengths pl p o n r out → (k q : ℕ) → partsPaper r ≡ refused k q → In k (11 ∷ 31 ∷ 34 ∷ 37 ∷ [])
+block-no-other lengths pl p o n r out e k q x = let d = left-answer e .0 x in only.block (joinedFiles (before lengths)) pl (p .0) (o .0) n (length (before out)) k (blocks-laws.block-refused-only (joinedFiles (before lengths)) pl (p .0) (o .0) n (before out) k q d .0)
 
 -- of torrent_blocks::byte: "file number refused by 31, offset by 34"
-pub byte-no-other : (files : List Span) (pl f o k q : ℕ) → byteOf files pl f o ≡ refused k q → In k (11 ∷ 31 ∷ 34 ∷ [])
-byte-no-other files pl f o k q e = only.byte files pl f o k (blocks.byte-refused-only files pl f o k q e .0)
+pub byte-no-other : (lengths : Lent (List ℕ)) (pl f o : ℕ) (r : Place) → blocks.byte-ensures lengths pl f o r → (k q : ℕ) → placePaper r ≡ refused k q → In k (11 ∷ 31 ∷ 34 ∷ [])
+byte-no-other lengths pl f o r e k q x = let d = sym e ∙ x in only.byte (joinedFiles (before lengths)) pl f o k (blocks-laws.byte-refused-only (joinedFiles (before lengths)) pl f o k q d .0)
 
 -- of torrent_blocks::piece_size
-pub piece-size-no-other : (files : List Span) (pl p k q : ℕ) → sizeOf files pl p ≡ refused k q → In k (11 ∷ 31 ∷ [])
-piece-size-no-other files pl p k q e = only.piece-size files pl p k (blocks.size-refused-only files pl p k q e .0)
+pub piece-size-no-other : (lengths : Lent (List ℕ)) (pl : ℕ) (p : PieceNumber) (r : Size) → blocks.piece-size-ensures lengths pl p r → (k q : ℕ) → sizePaper r ≡ refused k q → In k (11 ∷ 31 ∷ [])
+piece-size-no-other lengths pl p r e k q x = let d = sym e ∙ x in only.piece-size (joinedFiles (before lengths)) pl (p .0) k (blocks-laws.size-refused-only (joinedFiles (before lengths)) pl (p .0) k q d .0)
 
 -- ---- frames and handshakes: "20" to "23" of the table, and "37"
 
 -- of peer_wire::read_frame
-pub frame-no-other : (s : List ℕ) (k p : ℕ) → frames.readOf s ≡ refused k p → In k (20 ∷ 21 ∷ [])
-frame-no-other s k p e = only.frame s k p (exactly s (refused k p) .0 e)
+pub frame-no-other : (bytes : Lent (List ℕ)) (r : Read) → wire.read-frame-ensures bytes r → (k p : ℕ) → framePaper r ≡ refused k p → In k (20 ∷ 21 ∷ [])
+frame-no-other bytes r e k p x = let d = sym e ∙ x in only.frame (before bytes) k p (exactly (before bytes) (refused k p) .0 d)
 
 -- of peer_wire::read_handshake, whose info hash has 20 bytes
-pub handshake-no-other : (info s : List ℕ) (k p : ℕ) → length info ≡ 20 → shakeOf info s ≡ refused k p → In k (22 ∷ 23 ∷ [])
-handshake-no-other info s k p h e = only.handshake info s k p (shake-exactly info s h (refused k p) .0 e)
+pub handshake-no-other : (bytes info : Lent (List ℕ)) (r : Greeting) → wire.read-handshake-ensures bytes info r → length (before info) ≡ 20 → (k p : ℕ) → shakePaper r ≡ refused k p → In k (22 ∷ 23 ∷ [])
+handshake-no-other bytes info r e h k p x = let d = sym e ∙ x in only.handshake (before info) (before bytes) k p (shake-exactly (before info) (before bytes) h (refused k p) .0 d)
 
 -- of the frame writers
-pub write-no-other : (rest o : List ℕ) (k p : ℕ) → frames.writeOf rest o .answer ≡ refused k p → In k (20 ∷ 21 ∷ 37 ∷ [])
-write-no-other rest o k p e = only.write rest o k p (write-exactly rest o (refused k p) .0 e)
+pub write-no-other : (r : Put) (out : Lent (List ℕ)) (rest : List ℕ) → Frames r out rest → (k p : ℕ) → putPaper r ≡ refused k p → In k (20 ∷ 21 ∷ 37 ∷ [])
+write-no-other r out rest e k p x = let d = left-answer (as-framed r out rest e) .0 x in only.write rest (before out) k p (write-exactly rest (before out) (refused k p) .0 d)
 
 -- of the writers of `bencode_writer`, a keepalive, a handshake and the listing: bytes w put at a place
-pub put-no-other : (w : List ℕ) (at : ℕ) (o : List ℕ) (k p : ℕ) → putOf w at o .answer ≡ refused k p → k ≡ 37
-put-no-other w at o k p e = writers.put-exactly w at o k p .0 e .0
+pub put-no-other : (r : Put) (out : Lent (List ℕ)) (w : List ℕ) (at : ℕ) → Puts r out w at → (k p : ℕ) → putPaper r ≡ refused k p → k ≡ 37
+put-no-other r out w at e k p x = let d = left-answer (as-put r out w at e) .0 x in writers.put-exactly w at (before out) k p .0 d .0
 
 -- ---- the yard: "20", "21" and "30" to "38" of the table, after an accepted start and any calls
 
-pub yard-no-other : (lent : Yard) (h : History) (y : Yard) → Made lent h y → (c : Call) (k p : ℕ) → step c y .answer ≡ refused k p
-    → In k (20 ∷ 21 ∷ 30 ∷ 31 ∷ 32 ∷ 33 ∷ 34 ∷ 35 ∷ 36 ∷ 37 ∷ 38 ∷ [])
-yard-no-other lent h y m c k p e = runs.given-one-of lent h y m c k p e
+pub yard-no-other : (lent : Yard) (h : History) (t : Tables) → Made lent h (found t) → (c : Call) (r : ℕ) (z : Yard) → Permits t c r z → (r ≡ 0 → ⊥) → (r ≡ 255 → ⊥)
+    → In r (20 ∷ 21 ∷ 30 ∷ 31 ∷ 32 ∷ 33 ∷ 34 ∷ 35 ∷ 36 ∷ 37 ∷ 38 ∷ [])
+yard-no-other lent h t m c r z e a b = let x = number-refuses (permits-step t c r z e .0) r a b .0 refl in runs.given-one-of lent h (found t) (made-run lent h (found t) m) c r (x .0) (x .1)

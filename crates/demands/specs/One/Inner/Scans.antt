@@ -5,14 +5,17 @@ use mathlib.Core.Path.{_≡_, sym, _∙_, refl}
 use Prim.Native.Nat.{ℕ}
 use lib.ListN.{getD, set, length, replicate}
 use lib.Seq.{sets}
+use Rattle.refusal.specs.Paper.{taken}
+use Rattle.refusal.proofs.Outcomes.{not-refused}
 use Rattle.yard_tables.specs.Looks.{pageOf, linesOf}
 use Rattle.yard_tables.specs.Seating.{lowestFree}
 use Rattle.yard_tables.specs.Seats.{cleared}
+use Rattle.yard_tables.specs.Tables.{listed}
 use Rattle.yard_tables.specs.declared.Page.{Page}
 use Rattle.yard_tables.specs.declared.Seat.{Seat}
 use Rattle.yard_scans.specs.Pages.{asLines}
 use Rattle.yard_scans.specs.declared.Asked.{Asked}
-use Rattle.demands.specs.One.{Lent, now, Determined, Determined1}
+use Rattle.demands.specs.One.{Lent, now, Determined, Determined1, Takes1}
 
 -- yard_scans::seat_get
 abbrev pub seat-get-ensures : (seats : Lent (List Seat)) (i : ℕ) → Seat → Type 0
@@ -28,8 +31,6 @@ seat-set-ensures i s r seats = now (seats .exit) ≡ set (now (seats .entry)) i 
 pub seat-set-determined : (i : ℕ) (s : Seat) → Determined1 (seat-set-ensures i s)
 seat-set-determined i s seats r r′ seats₁ seats₂ e f = (refl, e ∙ sym f)
 
--- it refuses nothing
-
 -- yard_scans::lowest_free
 abbrev pub lowest-free-ensures : (seats : Lent (List Seat)) → ℕ → Type 0
 lowest-free-ensures seats r = r ≡ lowestFree (now (seats .entry))
@@ -44,8 +45,6 @@ clear-seats-ensures on r seats = now (seats .exit) ≡ cond on (replicate (lengt
 pub clear-seats-determined : (on : Bool) → Determined1 (clear-seats-ensures on)
 clear-seats-determined on seats r r′ seats₁ seats₂ e f = (refl, e ∙ sym f)
 
--- it refuses nothing
-
 -- yard_scans::list_missing
 abbrev pub list-missing-ensures : (seats : Lent (List Seat)) (asked : Asked) → Page → Lent (List ℕ) → Type 0
 list-missing-ensures seats asked r page =
@@ -55,4 +54,5 @@ list-missing-ensures seats asked r page =
 pub list-missing-determined : (seats : Lent (List Seat)) (asked : Asked) → Determined1 (list-missing-ensures seats asked)
 list-missing-determined seats asked page r r′ page₁ page₂ e f = (e .0 ∙ sym (f .0), e .1 ∙ sym (f .1))
 
--- it refuses nothing
+pub list-missing-takes : (seats : Lent (List Seat)) (asked : Asked) → Takes1 (list-missing-ensures seats asked) (λ (r : Page). taken (listed r))
+list-missing-takes seats asked r page e k = not-refused (k .2)

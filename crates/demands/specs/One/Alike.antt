@@ -1,0 +1,140 @@
+-- Calls that a statement speaks of at once, each by its own contract, and what their contracts have in common. Assumes nothing.
+use mathlib.Core.Path.{_≡_}
+use mathlib.Core.Logic.{_↔_, Iff·trans}
+use mathlib.Core.Bool.{Bool}
+use mathlib.Core.List.{List, [], _∷_}
+use Prim.Native.Nat.{ℕ, _≤_}
+use lib.IntN.{ℤ}
+use Rattle.refusal.specs.Paper.{Outcome, refused, left}
+use Rattle.refusal.specs.declared.Part.{Part}
+use Rattle.bencode_scalar.specs.Written.{decimal, writtenString, writtenInt}
+use Rattle.bencode.specs.Decode.{decode}
+use Rattle.bencode.specs.Answers.{paper as countPaper}
+use Rattle.bencode.specs.declared.Checked.{Checked}
+use Rattle.bencode_writer.specs.Put.{putOf, paper as putPaper}
+use Rattle.bencode_writer.specs.declared.Put.{Put}
+use Rattle.hash_sha1.specs.Digest.{paper as hashPaper}
+use Rattle.hash_sha1.specs.declared.Hashed.{Hashed}
+use Rattle.torrent_blocks.specs.declared.PieceNumber.{PieceNumber}
+use Rattle.torrent_metainfo.specs.Reading.{paper as torrentPaper}
+use Rattle.torrent_metainfo.specs.declared.Reading.{Reading}
+use Rattle.torrent_metainfo.specs.declared.Torrent.{Torrent}
+use Rattle.torrent_authoring.specs.Writing.{Fields, fields}
+use Rattle.torrent_contents.specs.Files.{foundPaper}
+use Rattle.torrent_contents.specs.Pieces.{hashPaper as pieceHashPaper, checkPaper}
+use Rattle.torrent_contents.specs.declared.Entry.{Entry}
+use Rattle.torrent_contents.specs.declared.Found as file
+use Rattle.torrent_contents.specs.declared.Hash as hash
+use Rattle.torrent_contents.specs.declared.Checked as piece
+use Rattle.torrent_lines.specs.Lines.{listingOf}
+use Rattle.tracker.specs.Entries.{PeerEntry}
+use Rattle.tracker.specs.Reply.{Answer}
+use Rattle.tracker.specs.Reading.{peerPaper, paper as replyPaper}
+use Rattle.tracker.specs.declared.Reply.{Reply}
+use Rattle.tracker.specs.declared.Found as peer
+use Rattle.peer_wire.specs.Frames.{writeOf}
+use Rattle.peer_wire.specs.Handshake.{handshake, zeros}
+use Rattle.peer_wire.specs.Message.{body, encode, keepalive, have, bitfield, request, piece, cancel}
+use Rattle.demands_laws.proofs.Refusals.{same-answer, left-answer}
+use Rattle.demands_laws.proofs.Readers as readers
+use Rattle.demands.specs.One.{Lent, before, after}
+use Rattle.demands.specs.One.Doors.Bencode as bencode
+use Rattle.demands.specs.One.Doors.Metainfo as metainfo
+use Rattle.demands.specs.One.Doors.Contents as contents
+use Rattle.demands.specs.One.Doors.Tracker as tracker
+use Rattle.demands.specs.One.Doors.Lines as lines
+use Rattle.demands.specs.One.Doors.WireWriting as writing
+use Rattle.demands.specs.One.Inner.Writer as writer
+
+-- what a torrent is asked to be written with
+abbrev pub asked : (announce name : Lent (List ℕ)) (pl : ℕ) (pieces : Lent (List ℕ)) (len : ℕ) → Fields
+asked announce name pl pieces len = fields (before announce) (before name) pl (before pieces) len
+
+-- ---- calls that read a text as bencode before anything else
+
+-- such a call on the text, with an answer that its contract permits
+pub data Reader (text : Lent (List ℕ)) : Type 0 where
+  check : (r : Checked) → bencode.check-ensures text r → Reader text
+  torrent : (r : Reading) → metainfo.read-ensures text r → Reader text
+  info-hash : (r : Hashed) (out : Lent (List ℕ)) → metainfo.info-hash-ensures text r out → Reader text
+  a-file : (n : ℕ) (r : file.Found) → contents.file-ensures text n r → Reader text
+  piece-hash : (n : PieceNumber) (r : hash.Hash) → contents.piece-hash-ensures text n r → Reader text
+  piece-check : (n : PieceNumber) (bytes : Lent (List ℕ)) (r : piece.Checked) → contents.check-piece-ensures text n bytes r → Reader text
+  reply : (r : Reply) → tracker.read-ensures text r → Reader text
+  a-peer : (n : ℕ) (r : peer.Found) → tracker.peer-ensures text n r → Reader text
+
+-- what each hands back
+abbrev pub Handed : {text : Lent (List ℕ)} → Reader text → Type 0
+Handed (check r c) = ℕ
+Handed (torrent r c) = Torrent
+Handed (info-hash r out c) = Unit {0}
+Handed (a-file n r c) = Entry
+Handed (piece-hash n r c) = Part
+Handed (piece-check n bytes r c) = Bool
+Handed (reply r c) = Answer ℕ
+Handed (a-peer n r c) = PeerEntry
+
+-- its answer
+abbrev pub answerOf : {text : Lent (List ℕ)} → (r : Reader text) → Outcome (Handed r)
+answerOf (check r c) = countPaper r
+answerOf (torrent r c) = torrentPaper r
+answerOf (info-hash r out c) = hashPaper r
+answerOf (a-file n r c) = foundPaper r
+answerOf (piece-hash n r c) = pieceHashPaper r
+answerOf (piece-check n bytes r c) = checkPaper r
+answerOf (reply r c) = replyPaper r
+answerOf (a-peer n r c) = peerPaper r
+
+-- they refuse by 1 to 7 as bencode does
+pub as-decoded : (text : Lent (List ℕ)) (r : Reader text) (k p : ℕ) → k ≤ 7 → answerOf r ≡ refused k p ↔ decode (before text) ≡ refused k p
+as-decoded text (check r c) k p l = Iff·trans (same-answer (c .0)) (readers.check (before text) k p l)
+as-decoded text (torrent r c) k p l = Iff·trans (same-answer c) (readers.torrent (before text) k p l)
+as-decoded text (info-hash r out c) k p l = Iff·trans (left-answer c) (readers.info-hash (before out) (before text) k p l)
+as-decoded text (a-file n r c) k p l = Iff·trans (same-answer c) (readers.file n (before text) k p l)
+as-decoded text (piece-hash n r c) k p l = Iff·trans (same-answer c) (readers.piece-hash (n .0) (before text) k p l)
+as-decoded text (piece-check n bytes r c) k p l = Iff·trans (same-answer c) (readers.piece-check (n .0) (before bytes) (before text) k p l)
+as-decoded text (reply r c) k p l = Iff·trans (same-answer c) (readers.reply (before text) k p l)
+as-decoded text (a-peer n r c) k p l = Iff·trans (same-answer c) (readers.peer n (before text) k p l)
+
+-- ---- calls that write a frame
+
+-- such a call, with an answer and an output that its contract permits; `rest` is what follows the frame's length
+pub data Frames (r : Put) (out : Lent (List ℕ)) : List ℕ → Type 0 where
+  raw : (id : ℕ) (payload : Lent (List ℕ)) → writing.raw-ensures id payload r out → Frames r out (id ∷ before payload)
+  plain : (id : ℕ) → writing.plain-ensures id r out → Frames r out (id ∷ [])
+  a-have : (index : ℕ) → writing.have-ensures index r out → Frames r out (body (have index))
+  a-bitfield : (bits : Lent (List ℕ)) → writing.bitfield-ensures bits r out → Frames r out (body (bitfield (before bits)))
+  a-request : (index begin len : ℕ) → writing.request-ensures index begin len r out → Frames r out (body (request index begin len))
+  a-piece : (index begin : ℕ) (block : Lent (List ℕ)) → writing.piece-ensures index begin block r out → Frames r out (body (piece index begin (before block)))
+  a-cancel : (index begin len : ℕ) → writing.cancel-ensures index begin len r out → Frames r out (body (cancel index begin len))
+
+-- what they answer and leave goes by the rest alone
+pub as-framed : (r : Put) (out : Lent (List ℕ)) (rest : List ℕ) → Frames r out rest → left (putPaper r) (after out) ≡ writeOf rest (before out)
+as-framed r out rest (raw id payload c) = c
+as-framed r out rest (plain id c) = c
+as-framed r out rest (a-have index c) = c
+as-framed r out rest (a-bitfield bits c) = c
+as-framed r out rest (a-request index begin len c) = c
+as-framed r out rest (a-piece index begin block c) = c
+as-framed r out rest (a-cancel index begin len c) = c
+
+-- ---- calls that put bytes at a place of the output
+
+-- such a call, with an answer and an output that its contract permits; w are the bytes, and `at` is the place
+pub data Puts (r : Put) (out : Lent (List ℕ)) : List ℕ → ℕ → Type 0 where
+  literal : (at : ℕ) (bytes : Lent (List ℕ)) → writer.literal-ensures at bytes r out → Puts r out (before bytes) at
+  a-decimal : (at n : ℕ) → writer.decimal-ensures at n r out → Puts r out (decimal n) at
+  string : (at : ℕ) (bytes : Lent (List ℕ)) → writer.string-ensures at bytes r out → Puts r out (writtenString (before bytes)) at
+  integer : (at : ℕ) (z : ℤ) → writer.integer-ensures at z r out → Puts r out (writtenInt z) at
+  a-keepalive : writing.keepalive-ensures r out → Puts r out (encode keepalive) 0
+  a-handshake : (info peer : Lent (List ℕ)) → writing.handshake-ensures info peer r out → Puts r out (handshake zeros (before info) (before peer)) 0
+  a-listing : (text : Lent (List ℕ)) → lines.listing-ensures text r out → Puts r out (listingOf (before text)) 0
+
+pub as-put : (r : Put) (out : Lent (List ℕ)) (w : List ℕ) (at : ℕ) → Puts r out w at → left (putPaper r) (after out) ≡ putOf w at (before out)
+as-put r out w at (literal i bytes c) = c
+as-put r out w at (a-decimal i n c) = c
+as-put r out w at (string i bytes c) = c
+as-put r out w at (integer i z c) = c
+as-put r out w at (a-keepalive c) = c
+as-put r out w at (a-handshake info id c) = c
+as-put r out w at (a-listing text c) = c .0
