@@ -2,7 +2,7 @@
 -- 1. No public function has a `requires`: tests/determined looks. Each is proved safe and ending: `rt check` does.
 -- 2, 3. The words of these statements are below. The functions stand under their paths, those that a user calls in One/Doors and those that only crates
 -- need in One/Inner: a function's contract as `src/` has it (-ensures), that it permits one outcome (-determined), and that a refusal leaves what is
--- lent (-keeps). None is left out: tests/determined.
+-- lent (-keeps). None is left out: tests/determined. Calls that statements speak of at once are in One/Alike.antt.
 -- 4. One/Numbers.antt, and One/Only.antt: no other number is given, nor by a look at a place: One/Looks.antt. One/AnyTables.antt: the yard's numbers on tables that no start made.
 use mathlib.Core.Path.{_≡_}
 use mathlib.Core.Logic.{_⊎_}
