@@ -21,16 +21,16 @@ namespace {
 using std::string;
 using std::to_string;
 
-// The number of a refusal, 0 for a text that is taken; and its place, or the count of values.
+// The number of a refusal, or 0 for a text that is taken and its count of values.
 struct Answer {
-    uint64_t number, detail;
+    uint64_t number, values;
 };
 
 const uint8_t *start_of(const string &text) { return reinterpret_cast<const uint8_t *>(text.data()); }
 
 Answer check(const string &text) {
     Answer a{0, 0};
-    a.number = wardrail_check(start_of(text), text.size(), &a.detail);
+    a.number = wardrail_number(wardrail_check(start_of(text), text.size(), &a.values));
     return a;
 }
 
@@ -153,11 +153,11 @@ uint64_t peers_by_bdecode(const string &text) {
 void replies() {
     const string text = reply(2000);
     const Answer a = check(text);
-    expect(a.number == 0 && a.detail == 14005, "the reply is not taken with 14,005 values");
+    expect(a.number == 0 && a.values == 14005, "the reply is not taken with 14,005 values");
     expect(decoded(text), "bdecode does not take the reply");
     const uint64_t sum = peers_by_wardrail(text);
     expect(sum != 0 && sum == peers_by_bdecode(text), "the peers are not the same");
-    std::printf("A reply of 2,000 peers, %zu bytes, %u values.\n\n", text.size(), unsigned(a.detail));
+    std::printf("A reply of 2,000 peers, %zu bytes, %u values.\n\n", text.size(), unsigned(a.values));
     race({{"wardrail_check", [&] { return check(text).number; }}, {"bdecode", [&] { return uint64_t(decoded(text)); }}}, 4000);
     std::printf("The same, every peer's id, address and port looked at.\n\n");
     race({{"wardrail_reply, _listed_at", [&] { return peers_by_wardrail(text); }}, {"bdecode", [&] { return peers_by_bdecode(text); }}}, 2000);
@@ -200,7 +200,7 @@ void torrents() {
     expect(wardrail_torrent(start_of(text), text.size(), &t) == 0 && t.piece_count == 16384 && t.files == 1024, "the torrent is not read");
     const string info = text.substr(t.info.from, t.info.len);
     expect(hash_of(text) != 0 && hash_of(text) == hash_by_libtorrent(text), "another info hash");
-    std::printf("A torrent of 1,024 files and 16,384 pieces, %zu bytes, %u values.\n\n", text.size(), unsigned(check(text).detail));
+    std::printf("A torrent of 1,024 files and 16,384 pieces, %zu bytes, %u values.\n\n", text.size(), unsigned(check(text).values));
     race({{"wardrail_torrent", [&] { return files_of(text); }},
           {"wardrail_info_hash", [&] { return hash_of(text); }},
           {"wardrail_check", [&] { return check(text).number; }},

@@ -82,10 +82,10 @@ static int hear_block(const struct wardrail_head *h, uint32_t p, uint32_t begin,
 OUT_OF_LINE static uint64_t plain_feed(WARDRAIL_TABLES, size_t seat, const uint8_t *bytes, size_t bytes_count, struct wardrail_told *told) {
     if (!fit(head, seats_count, rows_count, holders_count)) return 38;
     if (seat >= seats_count || !seats[seat].taken) return 36;
-    if (bytes_count < 4) return WARDRAIL_YARD_WAIT;
+    if (bytes_count < 4) return WARDRAIL_WAIT;
     uint32_t len = word(bytes);
     if (len > 16393) return 20;
-    if (bytes_count < 4 + (size_t)len) return WARDRAIL_YARD_WAIT;
+    if (bytes_count < 4 + (size_t)len) return WARDRAIL_WAIT;
     struct wardrail_seat *s = &seats[seat];
     uint8_t *row = rows + seat * ((head->pieces + 7) / 8);
     const uint8_t *load = bytes + 5;
@@ -209,8 +209,8 @@ static void frame(uint32_t n, uint8_t id, uint32_t number, uint8_t last, size_t 
     for (int k = 0; k < 4; k++) b[k] = (uint8_t)(n >> (24 - 8 * k)), b[5 + k] = (uint8_t)(number >> (24 - 8 * k));
     b[4] = id;
     if (n > 5) b[3 + n] = last;
-    alike(seat, b, 3, WARDRAIL_YARD_WAIT);
-    if (n && n <= 16393) alike(seat, b, 3 + n, WARDRAIL_YARD_WAIT);
+    alike(seat, b, 3, WARDRAIL_WAIT);
+    if (n && n <= 16393) alike(seat, b, 3 + n, WARDRAIL_WAIT);
     alike(SEATS, b, sizeof b, 36);
     alike(seat, b, sizeof b, expected);
 }

@@ -56,10 +56,11 @@ static void says(const char *what, int right) {
 }
 
 /* The call refuses by that number and leaves everything. */
-#define REFUSES(what, y, number, call)                                            \
-    do {                                                                          \
-        struct yard before = (y);                                                 \
-        says(what, (call) == (number) && !memcmp(&before, &(y), sizeof before));  \
+#define REFUSES(what, y, number, call)                                                                                    \
+    do {                                                                                                                  \
+        struct yard before = (y);                                                                                         \
+        struct wardrail_told lent = told;                                                                                 \
+        says(what, (call) == (number) && !memcmp(&before, &(y), sizeof before) && !memcmp(&lent, &told, sizeof lent));    \
     } while (0)
 
 /* Counts at their top, to be raised. */

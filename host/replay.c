@@ -29,11 +29,12 @@ static void *lent(size_t count, size_t size) {
 }
 
 /* Lent output, and whether it is still as it was lent, from some byte on. */
-static void *lent_out(size_t count, size_t size) { return memset(lent(count, size), 0xa5, count * size); }
+#define FILL 0xa5
+static void *lent_out(size_t count, size_t size) { return memset(lent(count, size), FILL, count * size); }
 
 static bool untouched(const void *out, size_t from, size_t bytes) {
     for (size_t i = from; i < bytes; i++)
-        if (((const uint8_t *)out)[i] != 0xa5) return false;
+        if (((const uint8_t *)out)[i] != FILL) return false;
     return true;
 }
 
@@ -147,48 +148,64 @@ static void part(struct bytes text, struct wardrail_part p) { hex(text.data + p.
 /* Where a part stands, after a space. */
 static void place(struct wardrail_part p) { printf(" " N ":" N, p.from, p.len); }
 
-static void refused(uint64_t n, uint64_t place) { printf("refused " N " at " N, n, place); }
-
 /* Two ways to the same answer. */
 static void agree(bool same, const char *what) {
     if (!same) stop("two calls differ", what);
 }
 
+static void refused(uint64_t r) { printf("refused " N " at " N, wardrail_number(r), wardrail_place(r)); }
+
+/* What is lent for an answer, and a refusal or a wait that must have left it so. */
+#define LEND(x) memset(&(x), FILL, sizeof(x))
+#define KEPT(r, x) agree(!(r) || untouched(&(x), 0, sizeof(x)), "what a refusal leaves")
+#define REFUSED(r, x) \
+    do {              \
+        KEPT(r, x);   \
+        refused(r);   \
+    } while (0)
+
 /* ---- texts */
 
 static void bencode_call(struct line *l) {
-    uint64_t count, r = wardrail_check(LENT(l->bytes[1]), &count);
-    if (r) refused(r, count);
+    uint64_t count;
+    LEND(count);
+    uint64_t r = wardrail_check(LENT(l->bytes[1]), &count);
+    if (r) REFUSED(r, count);
     else printf("taken " N, count);
 }
 
 /* What stands at each place, from 0 to the text's end or to a refusal. */
 static void walk_call(struct line *l) {
     struct bytes text = l->bytes[1];
-    struct wardrail_look s = {.next_at = 0};
+    struct wardrail_look s;
+    uint64_t at = 0;
     do {
-        uint64_t at = s.next_at, r = wardrail_look(LENT(text), at, &s);
+        LEND(s);
+        uint64_t r = wardrail_look(LENT(text), at, &s);
         if (at) putchar(' ');
         if (r) {
-            refused(r, s.place);
+            REFUSED(r, s);
             return;
         }
         putchar("?sinlde"[s.seen]);
         if (s.seen == WARDRAIL_SEEN_STRING) part(text, s.bytes);
         if (s.seen == WARDRAIL_SEEN_INTEGER) s.bytes = (struct wardrail_part){at + 1, s.next_at - at - 2};
         if (s.seen == WARDRAIL_SEEN_INTEGER || s.seen == WARDRAIL_SEEN_LONG) fwrite(text.data + s.bytes.from, 1, s.bytes.len, stdout);
-    } while (s.next_at < text.count);
+        at = s.next_at;
+    } while (at < text.count);
 }
 
 static void torrent_call(struct line *l) {
     struct bytes text = l->bytes[1];
     struct wardrail_torrent t;
-    uint64_t r = wardrail_torrent(LENT(text), &t);
     uint8_t hash[20], again[20];
-    memset(hash, 0xa5, 20);
-    agree(wardrail_info_hash(LENT(text), hash) == r && (!r || untouched(hash, 0, 20)), "info_hash");
+    LEND(t);
+    LEND(hash);
+    uint64_t r = wardrail_torrent(LENT(text), &t);
+    agree(wardrail_info_hash(LENT(text), hash) == r, "info_hash");
+    KEPT(r, hash);
     if (r) {
-        refused(r, t.place);
+        REFUSED(r, t);
         return;
     }
     agree(wardrail_sha1(text.data + t.info.from, t.info.len, again) == 0 && !memcmp(hash, again, 20), "info_hash");
@@ -217,9 +234,10 @@ static void file_call(struct line *l) {
     uint64_t i = number(l->word[2]);
     struct wardrail_file f;
     struct wardrail_torrent t;
+    LEND(f);
     uint64_t r = wardrail_file(LENT(text), i, &f);
     if (r) {
-        refused(r, f.place);
+        REFUSED(r, f);
         return;
     }
     wardrail_torrent(LENT(text), &t);
@@ -256,7 +274,10 @@ static void places_of_files(struct bytes text, const struct wardrail_torrent *t)
         if (!k) first = last;
     }
     uint64_t end = f.next_at;
-    printf(" files " N " " N " " N " " N " " N, t->content_at, end, wardrail_file_at(LENT(text), end, &f), first, last);
+    LEND(f);
+    uint64_t past = wardrail_file_at(LENT(text), end, &f);
+    KEPT(past, f);
+    printf(" files " N " " N " " N " " N " " N, t->content_at, end, wardrail_number(past), first, last);
 }
 
 static void places_call(struct line *l) {
@@ -264,9 +285,10 @@ static void places_call(struct line *l) {
     struct wardrail_torrent t;
     struct wardrail_piece_hash h;
     struct wardrail_file f;
+    LEND(t);
     uint64_t r = wardrail_torrent(LENT(text), &t);
     if (r) {
-        refused(r, t.place);
+        REFUSED(r, t);
         return;
     }
     printf(N ":" N, t.announce.from, t.announce.len);
@@ -277,7 +299,10 @@ static void places_call(struct line *l) {
     place(h.hash);
     agree(wardrail_piece_hash(LENT(text), (uint32_t)t.piece_count - 1, &h) == 0, "piece_hash");
     place(h.hash);
-    printf(" " N, wardrail_piece_hash(LENT(text), (uint32_t)t.piece_count, &h));
+    LEND(h);
+    uint64_t past = wardrail_piece_hash(LENT(text), (uint32_t)t.piece_count, &h);
+    KEPT(past, h);
+    printf(" " N, wardrail_number(past));
     if (!t.single) places_of_files(text, &t);
     else {
         agree(wardrail_file(LENT(text), 0, &f) == 0 && f.single, "file");
@@ -289,11 +314,15 @@ static void piece_call(struct line *l) {
     struct bytes text = l->bytes[1], bytes = l->bytes[3];
     uint32_t piece = (uint32_t)least(number(l->word[2]), UINT32_MAX);
     struct wardrail_piece_hash h;
-    uint64_t detail, r = wardrail_piece_check(LENT(text), piece, LENT(bytes), &detail);
+    uint64_t detail;
+    LEND(h);
+    LEND(detail);
+    uint64_t r = wardrail_piece_check(LENT(text), piece, LENT(bytes), &detail);
     uint64_t none = wardrail_piece_hash(LENT(text), piece, &h);
+    KEPT(none, h);
     if (r) {
-        agree(r == WARDRAIL_LONG || r == WARDRAIL_OUTSIDE || (none == r && h.place == detail), "piece_hash");
-        refused(r, detail);
+        agree(r == WARDRAIL_LONG || r == WARDRAIL_OUTSIDE || none == r, "piece_hash");
+        REFUSED(r, detail);
         return;
     }
     uint8_t digest[20];
@@ -305,8 +334,9 @@ static void piece_call(struct line *l) {
 static void reply_call(struct line *l) {
     struct bytes text = l->bytes[1];
     struct wardrail_reply reply;
+    LEND(reply);
     uint64_t r = wardrail_reply(LENT(text), &reply);
-    if (r) refused(r, reply.place);
+    if (r) REFUSED(r, reply);
     else if (reply.form == WARDRAIL_FORM_FAILURE) {
         printf("failure ");
         part(text, reply.reason);
@@ -334,9 +364,10 @@ static void peer_call(struct line *l) {
     struct bytes text = l->bytes[1];
     uint64_t i = number(l->word[2]);
     struct wardrail_peer p;
+    LEND(p);
     uint64_t r = wardrail_peer(LENT(text), i, &p);
     if (r) {
-        refused(r, p.place);
+        REFUSED(r, p);
         return;
     }
     agree_entry(text, i, &p);
@@ -359,8 +390,9 @@ static void entries_call(struct line *l) {
     struct wardrail_reply reply;
     struct wardrail_packed_at p;
     struct wardrail_listed_at first = {.port = 0}, e = {.port = 0};
+    LEND(reply);
     uint64_t r = wardrail_reply(LENT(text), &reply);
-    if (r) refused(r, reply.place);
+    if (r) REFUSED(r, reply);
     else if (reply.form == WARDRAIL_FORM_FAILURE) {
         printf("failure");
         place(reply.reason);
@@ -385,13 +417,13 @@ static void entries_call(struct line *l) {
 
 static void digest_said(uint64_t r, const uint8_t digest[20]) {
     agree(!r || untouched(digest, 0, 20), "a refused digest's output");
-    if (r) refused(r, 0);
+    if (r) refused(r);
     else hex(digest, 20);
 }
 
 static void sha1_call(struct line *l) {
     uint8_t digest[20];
-    memset(digest, 0xa5, 20);
+    LEND(digest);
     uint64_t r = wardrail_sha1(LENT(l->bytes[1]), digest);
     digest_said(r, digest);
 }
@@ -412,7 +444,7 @@ static void sha1_parts_call(struct line *l) {
     }
     free(lengths);
     uint8_t digest[20];
-    memset(digest, 0xa5, 20);
+    LEND(digest);
     uint64_t r = wardrail_sha1_finish(s.words, s.tail, digest);
     digest_said(r, digest);
 }
@@ -427,15 +459,18 @@ static void block_call(struct line *l) {
     uint64_t *out = lent_out(room, sizeof *out);
     uint32_t at[3];
     for (int k = 0; k < 3; k++) at[k] = (uint32_t)least(number(l->word[3 + k]), UINT32_MAX);
+    LEND(detail);
+    LEND(size);
     uint64_t r = wardrail_block(lengths, count, piece_length, at[0], at[1], at[2], out, room, &detail);
     uint64_t p = wardrail_piece_size(lengths, count, piece_length, at[0], &size);
     /* the piece is asked for before the block */
-    if (p) agree(r == p && detail == size, "piece_size");
+    KEPT(p, size);
+    if (p) agree(r == p, "piece_size");
     else if (!r) agree((uint64_t)at[1] + at[2] <= size, "piece_size");
     else agree(r == WARDRAIL_OUTSIDE || r == WARDRAIL_ROOM, "piece_size");
     agree(untouched(out, r ? 0 : detail * sizeof(struct wardrail_span), room * sizeof *out), "a block's output");
     const struct wardrail_span *spans = (const struct wardrail_span *)out;
-    if (r) refused(r, detail);
+    if (r) REFUSED(r, detail);
     else
         for (size_t k = 0; k < detail; k++) printf("%s" N ":" N ":" N, k ? " " : "", spans[k].file, spans[k].offset, spans[k].length);
     free(lengths);
@@ -446,8 +481,9 @@ static void byte_call(struct line *l) {
     size_t count;
     uint64_t *lengths = numbers(l->word[2], &count);
     struct wardrail_byte b;
+    LEND(b);
     uint64_t r = wardrail_byte(lengths, count, number(l->word[1]), number(l->word[3]), number(l->word[4]), &b);
-    if (r) refused(r, b.place);
+    if (r) REFUSED(r, b);
     else printf(N " " N, b.piece, b.offset);
     free(lengths);
 }
@@ -455,20 +491,28 @@ static void byte_call(struct line *l) {
 static void size_call(struct line *l) {
     size_t count;
     uint64_t *lengths = numbers(l->word[2], &count), size;
+    LEND(size);
     uint64_t r = wardrail_piece_size(lengths, count, number(l->word[1]), (uint32_t)least(number(l->word[3]), UINT32_MAX), &size);
-    if (r) refused(r, size);
+    if (r) REFUSED(r, size);
     else printf(N, size);
     free(lengths);
 }
 
 /* ---- frames and handshakes */
 
+/* A wait, or a refusal. */
+static void unused(uint64_t r) {
+    if (r == WARDRAIL_WAIT) printf("wait");
+    else refused(r);
+}
+
 static void frame_call(struct line *l) {
     struct bytes b = l->bytes[1];
     struct wardrail_frame f;
+    LEND(f);
     uint64_t r = wardrail_frame(LENT(b), &f);
-    if (r) refused(r, f.place);
-    else if (f.found == WARDRAIL_FRAME_WAIT) printf("wait");
+    KEPT(r, f);
+    if (r) unused(r);
     else if (f.found == WARDRAIL_FRAME_KEEPALIVE) printf("taken " N " keepalive -", f.used);
     else {
         printf("taken " N " " N " ", f.used, f.id);
@@ -483,8 +527,7 @@ static uint64_t waits(struct bytes b, const uint8_t *info) {
         uint8_t *cut = memcpy(lent(k, 1), b.data, k);
         struct wardrail_frame f;
         struct wardrail_handshake h;
-        if (info) n += wardrail_handshake(cut, k, info, &h) == 0 && h.found == WARDRAIL_HANDSHAKE_WAIT;
-        else n += wardrail_frame(cut, k, &f) == 0 && f.found == WARDRAIL_FRAME_WAIT;
+        n += (info ? wardrail_handshake(cut, k, info, &h) : wardrail_frame(cut, k, &f)) == WARDRAIL_WAIT;
         free(cut);
     }
     return n;
@@ -501,8 +544,7 @@ static void frame_cuts_call(struct line *l) {
     struct wardrail_frame f;
     uint64_t r = wardrail_frame(LENT(b), &f);
     printf(N " ", waits(b, NULL));
-    if (r) refused(r, f.place);
-    else if (f.found == WARDRAIL_FRAME_WAIT) printf("wait");
+    if (r) unused(r);
     else if (f.found == WARDRAIL_FRAME_KEEPALIVE) printf("taken " N " keepalive", f.used);
     else {
         printf("taken " N " " N, f.used, f.id);
@@ -517,9 +559,10 @@ static void handshake_call(struct line *l) {
     struct bytes b = l->bytes[1], info = l->bytes[2];
     struct wardrail_handshake h;
     if (info.count != 20) stop("an info hash has 20 bytes", "");
+    LEND(h);
     uint64_t r = wardrail_handshake(LENT(b), info.data, &h);
-    if (r) refused(r, h.place);
-    else if (h.found == WARDRAIL_HANDSHAKE_WAIT) printf("wait");
+    KEPT(r, h);
+    if (r) unused(r);
     else {
         agree(h.used == WARDRAIL_HANDSHAKE_BYTES, "a handshake's bytes");
         printf("taken ");
@@ -535,8 +578,7 @@ static void handshake_cuts_call(struct line *l) {
     if (info.count != 20) stop("an info hash has 20 bytes", "");
     uint64_t r = wardrail_handshake(LENT(b), info.data, &h);
     printf(N " ", waits(b, info.data));
-    if (r) refused(r, h.place);
-    else if (h.found == WARDRAIL_HANDSHAKE_WAIT) printf("wait");
+    if (r) unused(r);
     else {
         printf("taken " N, h.used);
         place(h.free_bytes);
@@ -553,7 +595,7 @@ static struct bytes room_of(const char *word) {
 
 static void written(struct line *l, uint64_t r, uint64_t detail, struct bytes out) {
     agree(untouched(out.data, r ? 0 : detail, out.count), "a writer's output");
-    if (r) refused(r, detail);
+    if (r) refused(r);
     else if (!l->sum) hex(out.data, detail);
     else {
         uint8_t digest[20];
@@ -567,34 +609,46 @@ static void written(struct line *l, uint64_t r, uint64_t detail, struct bytes ou
 static void write_torrent_call(struct line *l) {
     struct bytes announce = l->bytes[1], name = l->bytes[2], pieces = l->bytes[5], out = room_of(l->word[6]);
     uint64_t piece_length = number(l->word[3]), length = number(l->word[4]), detail, size;
+    LEND(detail);
+    LEND(size);
     uint64_t r = wardrail_write_torrent(LENT(announce), LENT(name), piece_length, LENT(pieces), length, LENT(out), &detail);
     uint64_t s = wardrail_torrent_size(LENT(announce), LENT(name), piece_length, LENT(pieces), length, &size);
+    KEPT(r, detail);
+    KEPT(s, size);
     agree(r == WARDRAIL_ROOM ? s == 0 && size > out.count : s == r && size == detail, "torrent_size");
     written(l, r, detail, out);
 }
 
 static void write_reply_call(struct line *l) {
     struct bytes out = room_of(l->word[3]);
-    uint64_t detail, r = wardrail_write_reply(number(l->word[1]), LENT(l->bytes[2]), LENT(out), &detail);
+    uint64_t detail;
+    LEND(detail);
+    uint64_t r = wardrail_write_reply(number(l->word[1]), LENT(l->bytes[2]), LENT(out), &detail);
+    KEPT(r, detail);
     written(l, r, detail, out);
 }
 
 static void write_handshake_call(struct line *l) {
     struct bytes info = l->bytes[1], peer = l->bytes[2], out = room_of(l->word[3]);
     if (info.count != 20 || peer.count != 20) stop("a hash and a peer id have 20 bytes", "");
-    uint64_t detail, r = wardrail_write_handshake(info.data, peer.data, LENT(out), &detail);
+    uint64_t detail;
+    LEND(detail);
+    uint64_t r = wardrail_write_handshake(info.data, peer.data, LENT(out), &detail);
+    KEPT(r, detail);
     written(l, r, detail, out);
 }
 
 static void write_frame_call(struct line *l) {
     struct bytes payload = l->bytes[2], out = room_of(l->word[3]);
     uint64_t detail, r;
+    LEND(detail);
     if (!strcmp(l->word[1], "keepalive")) r = wardrail_write_keepalive(LENT(out), &detail);
     else {
         uint64_t id = number(l->word[1]);
         if (id > 255) stop("ids are 0 to 255", l->word[1]);
         r = wardrail_write_frame((uint8_t)id, LENT(payload), LENT(out), &detail);
     }
+    KEPT(r, detail);
     written(l, r, detail, out);
 }
 
@@ -622,7 +676,7 @@ static void start_call(struct line *l) {
     y->holders = lent(y->holders_count, sizeof *y->holders);
     uint64_t r = wardrail_yard_start(TABLES(y), (uint32_t)pieces, piece_length, last);
     if (r) {
-        refused(r, 0);
+        refused(r);
         end_yard(y);
         return;
     }
@@ -633,7 +687,7 @@ static void start_call(struct line *l) {
 
 /* What a call says by one number, after a word if it has one. */
 static void value(uint64_t r, const char *word, struct wardrail_told told) {
-    if (r) refused(r, 0);
+    if (r) refused(r);
     else printf("%s" N, word, told.value);
 }
 
@@ -657,7 +711,7 @@ static void count_call(struct line *l) {
 
 static void leave_call(struct line *l) {
     uint64_t r = wardrail_yard_leave(TABLES(l->yard), number(l->word[1]));
-    if (r) refused(r, 0);
+    if (r) refused(r);
     else printf("left");
 }
 
@@ -665,7 +719,7 @@ static void feed_call(struct line *l) {
     static const char *const words[] = {"taken ", "serve ", "drop "};
     struct wardrail_told told = {0};
     uint64_t r = wardrail_yard_feed(TABLES(l->yard), number(l->word[1]), LENT(l->bytes[2]), &told);
-    if (r == WARDRAIL_YARD_WAIT) printf("wait");
+    if (r == WARDRAIL_WAIT) printf("wait");
     else value(r, words[told.request], told);
 }
 
@@ -686,7 +740,7 @@ static void missing_call(struct line *l) {
     struct wardrail_told told = {0};
     uint64_t r = wardrail_yard_missing(TABLES(l->yard), number(l->word[1]), page, room, &told);
     agree(untouched(page, told.listed * sizeof *page, room * sizeof *page), "a page's output");
-    if (r) refused(r, 0);
+    if (r) refused(r);
     else {
         if (!told.listed) putchar('-');
         for (size_t k = 0; k < told.listed; k++) printf("%s%" PRIu32, k ? "," : "", page[k]);
@@ -711,7 +765,7 @@ static void seat_call(struct line *l) {
     }
     uint64_t past = wardrail_yard_has(TABLES(y), i, y->head.pieces, &told);
     agree(r ? past == r : past == WARDRAIL_BEYOND && held == s.held, "has");
-    if (r) refused(r, 0);
+    if (r) refused(r);
     else if (!s.taken) printf("free");
     else printf("%s %u %d %d %d %d", s.fresh ? "fresh" : "used", (unsigned)s.held, s.am_choking, s.am_interested, s.peer_choking, s.peer_interested);
 }

@@ -1,14 +1,14 @@
 /* wardrail.h: the C interface of libwardrail.a, for C11 and C++11 on 64-bit machines.
  *
- * EVERY CALL that can refuse answers 0, or the number of the refusal by the table of document 01. What else it has to say
- * goes into its last argument, a struct or a number, which the call writes whole each time. On 0 it is what is said at the
- * struct or the call. On a refusal it is the place: `place` of the struct, or the number (a byte offset, and 0 for every
- * refusal from 20 on), and all else of it is 0. On a refusal nothing else that is lent changes. A call keeps no state, takes
- * no memory and never fails otherwise; calls may run at once in several threads as long as none writes what another is passed.
+ * EVERY CALL that can refuse answers one word of 64 bits: 0 where it is taken, or else the number of the refusal by the table of
+ * document 01, `wardrail_number(r)`, with its place, `wardrail_place(r)` (a byte offset, and 0 for every refusal from 20 on).
+ * What else it has to say goes into its last argument, a struct or a number. It writes that, and all else that it is lent, only
+ * where it answers 0: after a refusal, and after a wait, everything is as it was lent. A call keeps no state, takes no memory
+ * and never fails otherwise; calls may run at once in several threads as long as none writes what another is passed.
  *
  *     struct wardrail_torrent t;
- *     uint64_t refused = wardrail_torrent(text, count, &t);
- *     if (refused) printf("refused %d at byte %d\n", (int)refused, (int)t.place);
+ *     uint64_t r = wardrail_torrent(text, count, &t);
+ *     if (r) printf("refused %d at byte %d\n", (int)wardrail_number(r), (int)wardrail_place(r));
  *     else printf("%.*s: %d files\n", (int)t.name.len, (const char *)text + t.name.from, (int)t.files);
  *
  * A struct has the name of its call, as with stat(), so C++ too writes `struct wardrail_torrent`.
@@ -36,6 +36,10 @@ WARDRAIL_ASSERT(sizeof(size_t) == 8, "the library counts in 64 bits");
 /* An answer is a row of numbers of 64 bits with no gap: how many there are, and which is the last. */
 #define WARDRAIL_ROW(name, count, last) \
     WARDRAIL_ASSERT(sizeof(struct name) == 8 * (count) && offsetof(struct name, last) == sizeof(struct name) - sizeof(((struct name *)0)->last), #name)
+
+/* The number of a refusal, and its place: of an offset that is passed, and that no text has, the lowest 56 bits. */
+static inline uint64_t wardrail_number(uint64_t answer) { return answer & 255; }
+static inline uint64_t wardrail_place(uint64_t answer) { return answer >> 8; }
 
 /* Bytes of a text that was passed: the offset of the first, and how many there are. */
 struct wardrail_part {
@@ -91,10 +95,7 @@ enum wardrail_seen {
 };
 
 struct wardrail_look {
-    union {
-        uint64_t seen;  /* enum wardrail_seen */
-        uint64_t place; /* on a refusal */
-    };
+    uint64_t seen; /* enum wardrail_seen */
     struct wardrail_part bytes; /* a string's, or the sign and digits of an integer outside 64 bits; of the others 0 */
     uint64_t next_at;           /* the offset past it; of a list or dictionary, of the first thing in it */
 };
@@ -107,11 +108,7 @@ uint64_t wardrail_look(const uint8_t *text, size_t text_count, size_t at, struct
 /* ---- Torrents */
 
 struct wardrail_torrent {
-    union {
-        struct wardrail_part announce;
-        uint64_t place; /* on a refusal */
-    };
-    struct wardrail_part info, name, pieces;
+    struct wardrail_part announce, info, name, pieces;
     uint64_t piece_length, piece_count;
     uint64_t single;     /* 1 for a single file, and else 0 */
     uint64_t content_at; /* the offset of the value of length or files */
@@ -123,14 +120,11 @@ WARDRAIL_ROW(wardrail_torrent, 14, total);
 /* Reads a torrent: 1 to 8, 10 to 13. */
 uint64_t wardrail_torrent(const uint8_t *text, size_t text_count, struct wardrail_torrent *torrent);
 
-/* Writes the info hash, SHA-1 of the bytes of info. Refuses as wardrail_torrent does, which tells the place. */
+/* Writes the info hash, SHA-1 of the bytes of info. Refuses as wardrail_torrent does. */
 uint64_t wardrail_info_hash(const uint8_t *text, size_t text_count, uint8_t digest[20]);
 
 struct wardrail_file {
-    union {
-        uint64_t offset; /* in the joined content */
-        uint64_t place;  /* on a refusal */
-    };
+    uint64_t offset; /* in the joined content */
     uint64_t length;
     uint64_t path_at; /* where its path begins */
     uint64_t single;  /* 1 for a single file, whose path is the name at path_at, and else 0 */
@@ -141,10 +135,7 @@ WARDRAIL_ROW(wardrail_file, 4, single);
 uint64_t wardrail_file(const uint8_t *text, size_t text_count, size_t number, struct wardrail_file *file);
 
 struct wardrail_file_at {
-    union {
-        uint64_t length;
-        uint64_t place; /* on a refusal */
-    };
+    uint64_t length;
     uint64_t path_at; /* where its path begins */
     uint64_t next_at; /* where the next file stands */
 };
@@ -155,10 +146,7 @@ WARDRAIL_ROW(wardrail_file_at, 3, next_at);
 uint64_t wardrail_file_at(const uint8_t *text, size_t text_count, size_t at, struct wardrail_file_at *file);
 
 struct wardrail_element_at {
-    union {
-        uint64_t found; /* 1 for an element, 0 at the path's end */
-        uint64_t place; /* on a refusal */
-    };
+    uint64_t found; /* 1 for an element, 0 at the path's end */
     struct wardrail_part element;
     uint64_t next_at; /* where the next element stands; at the path's end, the offset past it */
 };
@@ -169,10 +157,7 @@ WARDRAIL_ROW(wardrail_element_at, 4, next_at);
 uint64_t wardrail_element_at(const uint8_t *text, size_t text_count, size_t at, struct wardrail_element_at *element);
 
 struct wardrail_piece_hash {
-    union {
-        struct wardrail_part hash; /* 20 bytes */
-        uint64_t place;            /* on a refusal */
-    };
+    struct wardrail_part hash; /* 20 bytes */
 };
 WARDRAIL_ROW(wardrail_piece_hash, 2, hash);
 
@@ -197,10 +182,7 @@ struct wardrail_peers {
 WARDRAIL_ROW(wardrail_peers, 3, first_at);
 
 struct wardrail_reply {
-    union {
-        uint64_t form;  /* enum wardrail_form */
-        uint64_t place; /* on a refusal */
-    };
+    uint64_t form; /* enum wardrail_form */
     union {
         struct wardrail_part reason; /* of a failure */
         struct wardrail_peers peers; /* of the others */
@@ -217,10 +199,7 @@ struct wardrail_named {
 WARDRAIL_ROW(wardrail_named, 4, ip);
 
 struct wardrail_peer {
-    union {
-        uint64_t form;  /* WARDRAIL_FORM_COMPACT or WARDRAIL_FORM_LIST */
-        uint64_t place; /* on a refusal */
-    };
+    uint64_t form; /* WARDRAIL_FORM_COMPACT or WARDRAIL_FORM_LIST */
     union {
         uint64_t address[4];         /* of a compact entry, a byte each */
         struct wardrail_named named; /* of a list's entry */
@@ -234,10 +213,7 @@ WARDRAIL_ROW(wardrail_peer, 6, port);
 uint64_t wardrail_peer(const uint8_t *text, size_t text_count, size_t number, struct wardrail_peer *peer);
 
 struct wardrail_listed_at {
-    union {
-        struct wardrail_named named;
-        uint64_t place; /* on a refusal */
-    };
+    struct wardrail_named named;
     uint64_t port;
     uint64_t next_at; /* where the next entry stands */
 };
@@ -248,10 +224,7 @@ WARDRAIL_ROW(wardrail_listed_at, 6, next_at);
 uint64_t wardrail_listed_at(const uint8_t *text, size_t text_count, size_t at, struct wardrail_listed_at *peer);
 
 struct wardrail_packed_at {
-    union {
-        uint64_t address[4]; /* a byte each */
-        uint64_t place;      /* on a refusal */
-    };
+    uint64_t address[4]; /* a byte each */
     uint64_t port;
     uint64_t next_at; /* where the next entry stands */
 };
@@ -275,10 +248,7 @@ uint64_t wardrail_block(const uint64_t *lengths, size_t lengths_count, uint64_t 
                         uint32_t count, uint64_t *out, size_t out_count, uint64_t *detail);
 
 struct wardrail_byte {
-    union {
-        uint64_t piece;
-        uint64_t place; /* on a refusal */
-    };
+    uint64_t piece;
     uint64_t offset; /* in the piece */
 };
 WARDRAIL_ROW(wardrail_byte, 2, offset);
@@ -293,42 +263,34 @@ uint64_t wardrail_piece_size(const uint64_t *lengths, size_t lengths_count, uint
 
 /* ---- Frames and handshake, read from the start of what came in */
 
-/* A wait: the bytes are the beginning of a frame or handshake, and no more of it has come. None of them was used: call again
- * with these and more. It is no refusal: wardrail_frame and wardrail_handshake answer 0 and say it in `found`, and
- * wardrail_yard_feed (wardrail_yard.h), which has no such field, answers WARDRAIL_YARD_WAIT. */
-enum wardrail_frame_found { WARDRAIL_FRAME_WAIT = 0, WARDRAIL_FRAME_KEEPALIVE = 1, WARDRAIL_FRAME_MESSAGE = 2 };
-enum wardrail_handshake_found { WARDRAIL_HANDSHAKE_WAIT = 0, WARDRAIL_HANDSHAKE_HELLO = 1 };
-enum { WARDRAIL_YARD_WAIT = 255 };
+/* The answer of a wait, here and in wardrail_yard_feed (wardrail_yard.h): the bytes are the beginning of a frame or handshake, and
+ * no more of it has come. It is no refusal: none of them was used, and the call is made again with these and more. */
+enum { WARDRAIL_WAIT = 255 };
 
 /* The longest frame, its four bytes of length too: more are never waited for. */
 enum { WARDRAIL_FRAME_BYTES = 16397, WARDRAIL_HANDSHAKE_BYTES = 68 };
 
+enum wardrail_frame_found { WARDRAIL_FRAME_KEEPALIVE = 1, WARDRAIL_FRAME_MESSAGE = 2 };
+
 struct wardrail_frame {
-    union {
-        uint64_t found; /* enum wardrail_frame_found */
-        uint64_t place; /* on a refusal */
-    };
-    uint64_t used; /* how many bytes it has */
+    uint64_t found; /* enum wardrail_frame_found */
+    uint64_t used;  /* how many bytes it has */
     uint64_t id;
     uint64_t piece, begin, length; /* what a frame does not have is 0 */
     struct wardrail_part carried;  /* its bitfield, its block, or the payload of an id above 8 */
 };
 WARDRAIL_ROW(wardrail_frame, 8, carried);
 
-/* The frame that the bytes begin with: 20, 21. */
+/* The frame that the bytes begin with, or WARDRAIL_WAIT: 20, 21. */
 uint64_t wardrail_frame(const uint8_t *bytes, size_t bytes_count, struct wardrail_frame *frame);
 
 struct wardrail_handshake {
-    union {
-        uint64_t found; /* enum wardrail_handshake_found */
-        uint64_t place; /* on a refusal */
-    };
     uint64_t used; /* how many bytes it has */
     struct wardrail_part free_bytes, peer_id;
 };
-WARDRAIL_ROW(wardrail_handshake, 6, peer_id);
+WARDRAIL_ROW(wardrail_handshake, 5, peer_id);
 
-/* The handshake that the bytes begin with, for an info hash: 22, 23. */
+/* The handshake that the bytes begin with, for an info hash, or WARDRAIL_WAIT: 22, 23. */
 uint64_t wardrail_handshake(const uint8_t *bytes, size_t bytes_count, const uint8_t info[20], struct wardrail_handshake *handshake);
 
 /* ---- Writers: on 0 `detail` is how many bytes were written, from the start of `out` on; the rest of `out` stays */

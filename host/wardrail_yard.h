@@ -4,8 +4,7 @@
  * takes all four and keeps nothing. Any content is answered; a flag of a seat is 0 or 1. Each call first refuses tables whose sizes
  * don't fit (38).
  *
- * A call answers 0, the number of the refusal, or WARDRAIL_YARD_WAIT (wardrail.h) where more bytes are needed. On the latter two
- * nothing that is lent changes. */
+ * The place of every refusal is 0, so the word that a call answers is its number, or WARDRAIL_WAIT where more bytes are needed. */
 #ifndef WARDRAIL_YARD_H
 #define WARDRAIL_YARD_H
 

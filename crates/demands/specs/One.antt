@@ -89,7 +89,6 @@ Determined5 {R} {A₁} {A₂} {A₃} {A₄} {A₅} C =
     → (r ≡ s) × (now x₁ ≡ now y₁) × (now x₂ ≡ now y₂) × (now x₃ ≡ now y₃) × (now x₄ ≡ now y₄) × (now x₅ ≡ now y₅)
 
 -- ---- 3: "No lent byte or record changes": where a call answers r with a refusal, all that is lent is as it was
--- `detail`, which calls from C have, is room for the answer and written by a refusal too (docs/DECISIONS.md, 16): it is determined, and not kept.
 
 -- a refusal, whatever its number and place
 abbrev pub Refused : {A : Type 0} → Outcome A → Type 0

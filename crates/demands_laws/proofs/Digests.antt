@@ -12,7 +12,7 @@ use Rattle.hash_sha1.specs.declared.Hashed.the-variants as hashed
 use Rattle.hash_sha1.proofs.Determined.{digest-refusal-keeps, finish-refusal-keeps}
 use Rattle.torrent_metainfo.specs.Hashes.{hashedIn, infoHashOf}
 use Rattle.torrent_metainfo.specs.declared.Torrent.{Torrent}
-use Rattle.wardrail.specs.Said.{numberOf}
+use Rattle.wardrail.specs.Said.{wordOf}
 use mathlib.Core.Logic.{_↔_}
 use Rattle.refusal.specs.Limits.{longestPiece}
 use Rattle.hash_sha1.specs.Parts.{finishOf}
@@ -60,18 +60,18 @@ pub hash-kept : (s o : List ℕ) (x : Outcome Torrent) (r : Hashed) {out : List 
 hash-kept s o (taken t) r e h = digest-refusal-keeps (bytesAt s (t .info)) o r e h .1
 hash-kept s o (refused n p) r e h = ap (λ (l : Left). l .out) e
 
--- a number other than 0 stands for a refusal
-by-number : {A Q : Type 0} (a : Outcome A) {r : ℕ} → r ≡ numberOf a → (r ≡ 0 → ⊥) → ((n p : ℕ) → a ≡ refused n p → Q) → Q
+-- a word other than 0 stands for a refusal
+by-number : {A Q : Type 0} (a : Outcome A) {r : ℕ} → r ≡ wordOf a → (r ≡ 0 → ⊥) → ((n p : ℕ) → a ≡ refused n p → Q) → Q
 by-number (taken x) e k f = absurd (k e)
 by-number (refused n p) e k f = f n p refl
 
--- as C is told: r is the number of the answer
+-- as C is told: r is the word of the answer
 module _ {r : ℕ} (k : r ≡ 0 → ⊥) where
-  pub digest-kept : (m o : List ℕ) → r ≡ numberOf (digestOf m o .answer) → digestOf m o .out ≡ o
+  pub digest-kept : (m o : List ℕ) → r ≡ wordOf (digestOf m o .answer) → digestOf m o .out ≡ o
   digest-kept m o e = by-number (digestOf m o .answer) e k (λ n p q. digest-refusal-keeps m o (refuses n p) (same-left (digestOf m o) n p q) refl .1)
 
-  pub finish-kept : (s : Stream) (o : List ℕ) → r ≡ numberOf (finishOf s o .answer) → finishOf s o .out ≡ o
+  pub finish-kept : (s : Stream) (o : List ℕ) → r ≡ wordOf (finishOf s o .answer) → finishOf s o .out ≡ o
   finish-kept s o e = by-number (finishOf s o .answer) e k (λ n p q. finish-refusal-keeps s o (refuses n p) (same-left (finishOf s o) n p q) refl .1)
 
-  pub info-hash-kept : (s o : List ℕ) → r ≡ numberOf (infoHashOf s o .answer) → infoHashOf s o .out ≡ o
+  pub info-hash-kept : (s o : List ℕ) → r ≡ wordOf (infoHashOf s o .answer) → infoHashOf s o .out ≡ o
   info-hash-kept s o e = by-number (infoHashOf s o .answer) e k (λ n p q. hash-kept s o (readOf s) (refuses n p) (same-left (infoHashOf s o) n p q) refl)

@@ -1,22 +1,13 @@
--- An answer other than 0 leaves the output as it was. Assumes nothing.
+-- An answer other than 0, a refusal or a wait, leaves all that is lent as it was. Assumes nothing.
 use mathlib.Core.Path.{_≡_, refl, sym, ap, _∙_}
 use mathlib.Core.List.{List}
 use Prim.Native.Nat.{ℕ}
-use Rattle.refusal.specs.Paper.{Outcome, taken, refused}
-use Rattle.refusal.specs.Parts.{bytesAt}
+use Rattle.refusal.specs.Paper.{Outcome, taken, refused, Left, left}
 use Rattle.torrent_blocks.specs.Spans.{joinedFiles}
-use Rattle.torrent_blocks.specs.Answers.{Left as Laid, left as laid, blockOf, partsWritten}
+use Rattle.torrent_blocks.specs.Answers.{blockOf, partsWritten}
 use Rattle.torrent_blocks.specs.declared.Parts.the-variants.{Refused as Unlaid}
 use Rattle.torrent_blocks.proofs.Determined.{block-refusal-keeps}
-use Rattle.hash_sha1.specs.Digest.{Left as Hash, left as hash, digestOf}
-use Rattle.hash_sha1.specs.Parts.{finishOf}
-use Rattle.hash_sha1.specs.declared.Hashed.the-variants.{Refused as Unhashed}
-use Rattle.hash_sha1.specs.declared.stream.Stream.{Stream}
-use Rattle.hash_sha1.proofs.Determined.{digest-refusal-keeps, finish-refusal-keeps}
-use Rattle.torrent_metainfo.specs.Reading.{readOf}
-use Rattle.torrent_metainfo.specs.Hashes.{hashedIn, infoHashOf}
-use Rattle.torrent_metainfo.specs.declared.Torrent.{Torrent}
-use Rattle.bencode_writer.specs.Put.{Left, left, putOf}
+use Rattle.bencode_writer.specs.Put.{putOf}
 use Rattle.bencode_writer.specs.declared.Put.the-variants.{Refused}
 use Rattle.bencode_writer.proofs.Laws.{refusal-keeps}
 use Rattle.peer_wire.specs.Frames.{writeOf}
@@ -25,29 +16,34 @@ use Rattle.tracker.specs.Writing.{writeOf as replyTextOf}
 use Rattle.tracker.proofs.Rewriting.{refusal-keeps as reply-keeps}
 use Rattle.torrent_authoring.specs.Writing.{Fields, writeOf as torrentTextOf}
 use Rattle.torrent_authoring.proofs.Written.{refusal-keeps as torrent-keeps}
-use Rattle.wardrail.specs.Said.{numberOf}
-use Rattle.wardrail.specs.Mapping.{Parted}
-use Rattle.wardrail.specs.Hashing.{Digested}
+use Rattle.wardrail.specs.Said.{wordOf, leftOf, Tells}
 use Rattle.wardrail.specs.Writers.{Wrote}
 
--- of an outcome a that leaves o, which is as it was where a is a refusal
-kept : {A : Type 0} (a : Outcome A) (o was : List ℕ) → ((n p : ℕ) → a ≡ refused n p → o ≡ was) → (r : ℕ) (out : List ℕ) → r ≡ numberOf a → out ≡ o → (r ≡ 0 → ⊥) → out ≡ was
-kept {A} a o was k r out e f h = go a refl
+-- a word other than 0 is a refusal's
+refusing : {A Q : Type 0} (x : Outcome A) {r : ℕ} → r ≡ wordOf x → (r ≡ 0 → ⊥) → ((n p : ℕ) → x ≡ refused n p → Q) → Q
+refusing (taken y) e k f = absurd (k e)
+refusing (refused n p) e k f = f n p refl
+
+pub tells-keeps : {D : Type 0} {x : Outcome D} {was d : D} {r : ℕ} → Tells x was r d → (r ≡ 0 → ⊥) → d ≡ was
+tells-keeps {D} {x} {was} {d} {r} e k = go x (e .word) (e .left)
   where
-    go : (b : Outcome A) → a ≡ b → out ≡ was
-    go (taken x) g = absurd (h (e ∙ ap numberOf g))
-    go (refused n p) g = f ∙ k n p g
+    go : (y : Outcome D) → r ≡ wordOf y → d ≡ leftOf y was → d ≡ was
+    go (taken v) f g = absurd (k f)
+    go (refused n p) f g = g
 
--- ---- writers
+-- ---- output: l leaves o where its answer is a refusal
 
-abbrev Keeps : Left → List ℕ → Type 0
-Keeps l o = (r d : ℕ) (out : List ℕ) → Wrote l r d out → (r ≡ 0 → ⊥) → out ≡ o
+abbrev Keeps : Left ℕ → List ℕ → Type 0
+Keeps l o = (was r d : ℕ) (out : List ℕ) → Wrote l was r d out → (r ≡ 0 → ⊥) → (out ≡ o) × (d ≡ was)
 
-keeps : (l : Left) (o : List ℕ) → ((n p : ℕ) → l .answer ≡ refused n p → l .out ≡ o) → Keeps l o
-keeps l o k r d out w = kept (l .answer) (l .out) o k r out (w .0) (w .2)
+keeps : (l : Left ℕ) (o : List ℕ) → ((n p : ℕ) → l .answer ≡ refused n p → l .out ≡ o) → Keeps l o
+keeps l o h was r d out w k = (
+  w .out ∙ refusing (l .answer) (w .word) k h,
+  tells-keeps {x = l .answer} (record { word = w .word; left = w .left }) k,
+)
 
 -- l is what is left where its answer is a refusal
-same-left : (l : Left) (n p : ℕ) → l .answer ≡ refused n p → left (refused n p) (l .out) ≡ l
+same-left : (l : Left ℕ) (n p : ℕ) → l .answer ≡ refused n p → left (refused n p) (l .out) ≡ l
 same-left l n p e = ap (λ (a : Outcome ℕ). left a (l .out)) (sym e)
 
 pub write-frame-keeps : (body o : List ℕ) → Keeps (writeOf body o) o
@@ -63,37 +59,8 @@ write-reply-keeps n bs o = keeps (replyTextOf n bs o) o (λ k p e. reply-keeps n
 pub write-torrent-keeps : (f : Fields) (o : List ℕ) → Keeps (torrentTextOf f o) o
 write-torrent-keeps f o = keeps (torrentTextOf f o) o (λ n p e. torrent-keeps f o (Refused (record { number = n; place = p })) (same-left (torrentTextOf f o) n p e) n p refl .2)
 
--- ---- blocks
-
-pub block-keeps : (ns : List ℕ) (pl p o n : ℕ) (out : List ℕ) (r d : ℕ) (after : List ℕ) → Parted (partsWritten (blockOf (joinedFiles ns) pl p o n) out) r d after → (r ≡ 0 → ⊥) → after ≡ out
-block-keeps ns pl p o n out r d after w = kept (l .answer) (l .out) out k r after (w .0) (w .2)
+pub block-keeps : (ns : List ℕ) (pl p o n : ℕ) (out : List ℕ) → Keeps (partsWritten (blockOf (joinedFiles ns) pl p o n) out) out
+block-keeps ns pl p o n out = keeps l out (λ m q e. block-refusal-keeps (joinedFiles ns) pl p o n out (Unlaid (record { number = m; place = q })) (l .out) (same-left l m q e) m q refl)
   where
-    l : Laid
+    l : Left ℕ
     l = partsWritten (blockOf (joinedFiles ns) pl p o n) out
-
-    k : (m q : ℕ) → l .answer ≡ refused m q → l .out ≡ out
-    k m q e = block-refusal-keeps (joinedFiles ns) pl p o n out (Unlaid (record { number = m; place = q })) (l .out) (ap (λ (x : Outcome ℕ). laid x (l .out)) (sym e)) m q refl
-
--- ---- digests
-
-abbrev Leaves : Hash → List ℕ → Type 0
-Leaves l o = (r : ℕ) (out : List ℕ) → Digested l r out → (r ≡ 0 → ⊥) → out ≡ o
-
-leaves : (l : Hash) (o : List ℕ) → ((n p : ℕ) → l .answer ≡ refused n p → l .out ≡ o) → Leaves l o
-leaves l o k r out w = kept (l .answer) (l .out) o k r out (w .0) (w .1)
-
-same-hash : (l : Hash) (n p : ℕ) → l .answer ≡ refused n p → hash (refused n p) (l .out) ≡ l
-same-hash l n p e = ap (λ (a : Outcome (Unit {0})). hash a (l .out)) (sym e)
-
-pub digest-leaves : (m o : List ℕ) → Leaves (digestOf m o) o
-digest-leaves m o = leaves (digestOf m o) o (λ n p e. digest-refusal-keeps m o (Unhashed (record { number = n; place = p })) (same-hash (digestOf m o) n p e) refl .1)
-
-pub finish-leaves : (s : Stream) (o : List ℕ) → Leaves (finishOf s o) o
-finish-leaves s o = leaves (finishOf s o) o (λ n p e. finish-refusal-keeps s o (Unhashed (record { number = n; place = p })) (same-hash (finishOf s o) n p e) refl .1)
-
-pub info-hash-leaves : (s o : List ℕ) → Leaves (infoHashOf s o) o
-info-hash-leaves s o = go (readOf s)
-  where
-    go : (x : Outcome Torrent) → Leaves (hashedIn s o x) o
-    go (taken t) = digest-leaves (bytesAt s (t .info)) o
-    go (refused n p) = leaves (hash (refused n p) o) o (λ m q e. refl)

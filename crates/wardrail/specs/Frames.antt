@@ -25,14 +25,14 @@ messageWords used (piece p b x) = row 2 used 7 p b 0 (x .from) (x .len)
 messageWords used (cancel p b l) = row 2 used 8 p b l 0 0
 messageWords used (other id x) = row 2 used id 0 0 0 (x .from) (x .len)
 
--- a wait is all 0
-abbrev pub frameDetail : Outcome Found → List ℕ
-frameDetail (taken wait) = row 0 0 0 0 0 0 0 0
-frameDetail (taken (found m used)) = messageWords used m
-frameDetail (refused n p) = row p 0 0 0 0 0 0 0
+-- a wait is answered by 255 alone, as a refusal without a place is
+abbrev pub frameTold : Outcome Found → Outcome (List ℕ)
+frameTold (taken wait) = refused 255 0
+frameTold (taken (found m used)) = taken (messageWords used m)
+frameTold (refused n p) = refused n p
 
--- 1, how many bytes were used, first byte and length of the free bytes and of the peer id; a wait is all 0
-abbrev pub shakeDetail : Outcome Shaken → List ℕ
-shakeDetail (taken awaited) = 0 ∷ 0 ∷ 0 ∷ 0 ∷ 0 ∷ 0 ∷ []
-shakeDetail (taken (hello free peer used)) = 1 ∷ used ∷ free .from ∷ free .len ∷ peer .from ∷ peer .len ∷ []
-shakeDetail (refused n p) = p ∷ 0 ∷ 0 ∷ 0 ∷ 0 ∷ 0 ∷ []
+-- how many bytes were used, first byte and length of the free bytes and of the peer id; a wait as above
+abbrev pub shakeTold : Outcome Shaken → Outcome (List ℕ)
+shakeTold (taken awaited) = refused 255 0
+shakeTold (taken (hello free peer used)) = taken (used ∷ free .from ∷ free .len ∷ peer .from ∷ peer .len ∷ [])
+shakeTold (refused n p) = refused n p

@@ -5,7 +5,7 @@ use Prim.Native.Nat.{ℕ}
 use lib.ListN.{getD}
 use Rattle.hash_sha1.specs.declared.stream.Stream.{Stream}
 use Rattle.hash_sha1.specs.Digest.{Left}
-use Rattle.wardrail.specs.Said.{numberOf}
+use Rattle.wardrail.specs.Said.{wordOf}
 
 abbrev pub wordsOf : Stream → List ℕ
 wordsOf s = s .hash .a ∷ s .hash .b ∷ s .hash .c ∷ s .hash .d ∷ s .hash .e ∷ s .length ∷ []
@@ -22,6 +22,7 @@ stateOf w tail =
 abbrev pub Holds : Stream → List ℕ → List ℕ → Type 0
 Holds s w tail = (w ≡ wordsOf s) × (tail ≡ s .tail)
 
--- the number r is answered, and the lent 20 bytes are o then, both as l has it
-abbrev pub Digested : Left → ℕ → List ℕ → Type 0
-Digested l r o = (r ≡ numberOf (l .answer)) × (o ≡ l .out)
+-- the word r is answered, and the lent 20 bytes are o then, both as l has it
+pub record Digested (l : Left) (r : ℕ) (o : List ℕ) : Type 0 where
+  pub word : r ≡ wordOf (l .answer)
+  pub out : o ≡ l .out

@@ -1,18 +1,26 @@
 -- What a call says to C. Assumes nothing: these are definitions.
 use mathlib.Core.Path.{_≡_}
-use Prim.Native.Nat.{ℕ}
+use Prim.Native.Nat.{ℕ, _+_, _*_, _/_, _%_, _^_}
 use Rattle.refusal.specs.Paper.{Outcome, taken, refused}
 
--- document 01's number of a refusal, and 0 for what is taken
-abbrev pub numberOf : {A : Type 0} → Outcome A → ℕ
-numberOf (taken x) = 0
-numberOf (refused n p) = n
+-- the word that is answered: 0 for what is taken; of a refusal document 01's number in the lowest 8 bits, and in the 56 above them the place
+abbrev pub wordOf : {A : Type 0} → Outcome A → ℕ
+wordOf (taken x) = 0
+wordOf (refused n p) = n + 256 * (p % 2 ^ 56)
 
--- the number that is taken, or the refusal's place
-abbrev pub detailOf : Outcome ℕ → ℕ
-detailOf (taken m) = m
-detailOf (refused n p) = p
+-- what C reads from that word: wardrail_number and wardrail_place of host/wardrail.h
+abbrev pub numberIn : ℕ → ℕ
+numberIn w = w % 256
 
--- of the outcome x the number r is answered, and d is left in what is lent for the rest, as f tells it
-abbrev pub Tells : {A D : Type 0} → (Outcome A → D) → Outcome A → ℕ → D → Type 0
-Tells f x r d = (r ≡ numberOf x) × (d ≡ f x)
+abbrev pub placeIn : ℕ → ℕ
+placeIn w = w / 256
+
+-- what was lent for the rest of the answer, `was` before: what is taken, and after a refusal still what it was
+abbrev pub leftOf : {D : Type 0} → Outcome D → D → D
+leftOf (taken d) was = d
+leftOf (refused n p) was = was
+
+-- of the outcome x the word r is answered, and what was lent for the rest, `was` before, is d then
+pub record Tells {D : Type 0} (x : Outcome D) (was : D) (r : ℕ) (d : D) : Type 0 where
+  pub word : r ≡ wordOf x
+  pub left : d ≡ leftOf x was

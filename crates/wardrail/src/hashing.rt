@@ -3,8 +3,9 @@
 ghost use mathlib.Core.Path.{_≡_};
 ghost use Rattle.hash_sha1.specs.Parts.{begun, addOf, finishOf};
 ghost use Rattle.hash_sha1.specs.Digest.{paper as hashedPaper};
-ghost use Rattle.wardrail.specs.Said.{numberOf};
+ghost use Rattle.wardrail.specs.Said.{wordOf};
 ghost use Rattle.wardrail.specs.Hashing.{stateOf, Holds, Digested, wordsOf};
+use crate::row::word;
 use hash_sha1::Hashed;
 use hash_sha1::stream;
 use hash_sha1::stream::Stream;
@@ -42,7 +43,7 @@ pub extern "C" fn wardrail_sha1_finish(
 ) -> u64
     ensures { λ r. ⌜ Digested (finishOf (stateOf (now (words .entry)) (now (tail .entry))) (now (digest .entry))) r (now (digest .exit)) ⌝ }
 {
-    hashed_number(stream::finish(state(*words, *tail), digest))
+    hashed_word(stream::finish(state(*words, *tail), digest))
 }
 
 // The six words of a message so far.
@@ -67,12 +68,12 @@ fn state(w: [u32; 6], tail: [u8; 64]) -> Stream
     s
 }
 
-// The number of a digest.
-pub fn hashed_number(h: Hashed) -> u64
-    ensures { λ r. ⌜ r ≡ numberOf (hashedPaper h) ⌝ }
+// The word of a digest.
+pub fn hashed_word(h: Hashed) -> u64
+    ensures { λ r. ⌜ r ≡ wordOf (hashedPaper h) ⌝ }
 {
     match h {
         Hashed::Written => 0,
-        Hashed::Refused(r) => r.number as u64,
+        Hashed::Refused(r) => word(r),
     }
 }

@@ -1,15 +1,15 @@
-// Writers for C, each at the start of `out`. `detail` becomes how many bytes were written, or the refusal's place.
-// A refusal leaves `out` as it was, and what is past the written part stays.
+// Writers for C, each at the start of `out`. `detail` becomes how many bytes were written, and what is past them stays.
 ghost use mathlib.Core.List.{_∷_};
-ghost use mathlib.Core.Path.{_≡_};
-ghost use Rattle.bencode_writer.specs.Put.{putOf, paper as putPaper};
+ghost use Rattle.bencode_writer.specs.Put.{putOf, paper};
 ghost use Rattle.peer_wire.specs.Message.{keepalive, encode};
 ghost use Rattle.peer_wire.specs.Frames.{writeOf as frameOf};
 ghost use Rattle.peer_wire.specs.Handshake.{handshake, zeros};
 ghost use Rattle.tracker.specs.Writing.{writeOf as replyTextOf};
-ghost use Rattle.torrent_authoring.specs.Writing.{fields, sizeOf, writeOf as torrentTextOf, paper as sizedPaper};
-ghost use Rattle.wardrail.specs.Said.{detailOf, Tells, numberOf};
+ghost use Rattle.torrent_authoring.specs.Writing.{fields, sizeOf, writeOf as torrentTextOf};
+ghost use Rattle.wardrail.specs.Said.{Tells};
 ghost use Rattle.wardrail.specs.Writers.{Wrote};
+use crate::row::one;
+use crate::row::word;
 use bencode_writer::Put;
 use torrent_authoring::Sized;
 
@@ -21,21 +21,17 @@ pub extern "C" fn wardrail_write_frame(
     out: &mut [u8],
     detail: &mut u64,
 ) -> u64
-    ensures { λ r. ⌜ Wrote (frameOf (id ∷ now (payload .entry)) (now (out .entry))) r (now (detail .exit)) (now (out .exit)) ⌝ }
+    ensures { λ r. ⌜ Wrote (frameOf (id ∷ now (payload .entry)) (now (out .entry))) (now (detail .entry)) r (now (detail .exit)) (now (out .exit)) ⌝ }
 {
-    let put = peer_wire::write::raw(out, id, payload);
-    *detail = put_detail(put);
-    put_number(put)
+    written(peer_wire::write::raw(out, id, payload), detail)
 }
 
 // A keepalive.
 #[no_mangle]
 pub extern "C" fn wardrail_write_keepalive(out: &mut [u8], detail: &mut u64) -> u64
-    ensures { λ r. ⌜ Wrote (putOf (encode keepalive) 0 (now (out .entry))) r (now (detail .exit)) (now (out .exit)) ⌝ }
+    ensures { λ r. ⌜ Wrote (putOf (encode keepalive) 0 (now (out .entry))) (now (detail .entry)) r (now (detail .exit)) (now (out .exit)) ⌝ }
 {
-    let put = peer_wire::write::keepalive(out);
-    *detail = put_detail(put);
-    put_number(put)
+    written(peer_wire::write::keepalive(out), detail)
 }
 
 // The handshake, its free bytes 0.
@@ -46,11 +42,9 @@ pub extern "C" fn wardrail_write_handshake(
     out: &mut [u8],
     detail: &mut u64,
 ) -> u64
-    ensures { λ r. ⌜ Wrote (putOf (handshake zeros (now (info .entry)) (now (peer .entry))) 0 (now (out .entry))) r (now (detail .exit)) (now (out .exit)) ⌝ }
+    ensures { λ r. ⌜ Wrote (putOf (handshake zeros (now (info .entry)) (now (peer .entry))) 0 (now (out .entry))) (now (detail .entry)) r (now (detail .exit)) (now (out .exit)) ⌝ }
 {
-    let put = peer_wire::write::handshake(out, info, peer);
-    *detail = put_detail(put);
-    put_number(put)
+    written(peer_wire::write::handshake(out, info, peer), detail)
 }
 
 // A torrent of one file.
@@ -64,11 +58,12 @@ pub extern "C" fn wardrail_write_torrent(
     out: &mut [u8],
     detail: &mut u64,
 ) -> u64
-    ensures { λ r. ⌜ Wrote (torrentTextOf (fields (now (announce .entry)) (now (name .entry)) «piece_length» (now (pieces .entry)) length) (now (out .entry))) r (now (detail .exit)) (now (out .exit)) ⌝ }
+    ensures { λ r. ⌜ Wrote (torrentTextOf (fields (now (announce .entry)) (now (name .entry)) «piece_length» (now (pieces .entry)) length) (now (out .entry))) (now (detail .entry)) r (now (detail .exit)) (now (out .exit)) ⌝ }
 {
-    let put = torrent_authoring::write(out, announce, name, piece_length, pieces, length);
-    *detail = put_detail(put);
-    put_number(put)
+    written(
+        torrent_authoring::write(out, announce, name, piece_length, pieces, length),
+        detail,
+    )
 }
 
 // How many bytes of output that torrent needs.
@@ -81,11 +76,12 @@ pub extern "C" fn wardrail_torrent_size(
     length: u64,
     detail: &mut u64,
 ) -> u64
-    ensures { λ r. ⌜ Tells detailOf (sizeOf (fields (now (announce .entry)) (now (name .entry)) «piece_length» (now (pieces .entry)) length)) r (now (detail .exit)) ⌝ }
+    ensures { λ r. ⌜ Tells (sizeOf (fields (now (announce .entry)) (now (name .entry)) «piece_length» (now (pieces .entry)) length)) (now (detail .entry)) r (now (detail .exit)) ⌝ }
 {
-    let sized = torrent_authoring::size(announce, name, piece_length, pieces, length);
-    *detail = sized_detail(sized);
-    sized_number(sized)
+    match torrent_authoring::size(announce, name, piece_length, pieces, length) {
+        Sized::Bytes(n) => one(detail, n as u64),
+        Sized::Refused(r) => word(r),
+    }
 }
 
 // A compact reply.
@@ -96,49 +92,17 @@ pub extern "C" fn wardrail_write_reply(
     out: &mut [u8],
     detail: &mut u64,
 ) -> u64
-    ensures { λ r. ⌜ Wrote (replyTextOf interval (now (peers .entry)) (now (out .entry))) r (now (detail .exit)) (now (out .exit)) ⌝ }
+    ensures { λ r. ⌜ Wrote (replyTextOf interval (now (peers .entry)) (now (out .entry))) (now (detail .entry)) r (now (detail .exit)) (now (out .exit)) ⌝ }
 {
-    let put = tracker::writing::write(out, interval, peers);
-    *detail = put_detail(put);
-    put_number(put)
+    written(tracker::writing::write(out, interval, peers), detail)
 }
 
-// The number of a writer.
-fn put_number(p: Put) -> u64
-    ensures { λ r. ⌜ r ≡ numberOf (putPaper p) ⌝ }
+// What a writer says.
+fn written(put: Put, detail: &mut u64) -> u64
+    ensures { λ r. ⌜ Tells (paper put) (now (detail .entry)) r (now (detail .exit)) ⌝ }
 {
-    match p {
-        Put::To(_) => 0,
-        Put::Refused(r) => r.number as u64,
-    }
-}
-
-// How many bytes it wrote, or the refusal's place.
-fn put_detail(p: Put) -> u64
-    ensures { λ r. ⌜ r ≡ detailOf (putPaper p) ⌝ }
-{
-    match p {
-        Put::To(n) => n as u64,
-        Put::Refused(r) => r.place as u64,
-    }
-}
-
-// The number of a torrent's size.
-fn sized_number(s: Sized) -> u64
-    ensures { λ r. ⌜ r ≡ numberOf (sizedPaper s) ⌝ }
-{
-    match s {
-        Sized::Bytes(_) => 0,
-        Sized::Refused(r) => r.number as u64,
-    }
-}
-
-// How many bytes of output it needs, or the refusal's place.
-fn sized_detail(s: Sized) -> u64
-    ensures { λ r. ⌜ r ≡ detailOf (sizedPaper s) ⌝ }
-{
-    match s {
-        Sized::Bytes(n) => n as u64,
-        Sized::Refused(r) => r.place as u64,
+    match put {
+        Put::To(n) => one(detail, n as u64),
+        Put::Refused(r) => word(r),
     }
 }

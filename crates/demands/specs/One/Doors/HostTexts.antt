@@ -1,8 +1,8 @@
 -- Demand 1 of `wardrail`, for C: texts, torrents, replies and digests. Assumes nothing.
 use mathlib.Core.List.{List}
 use mathlib.Core.Path.{_≡_, sym, _∙_, refl}
-use Prim.Native.Nat.{ℕ}
-use Rattle.refusal.specs.Paper.{then, map}
+use Prim.Native.Nat.{ℕ, _<_, _^_}
+use Rattle.refusal.specs.Paper.{Outcome, refused, then, map}
 use Rattle.bencode.specs.Answers.{checkOf}
 use Rattle.bencode_walk.specs.Walk.{lookOf}
 use Rattle.hash_sha1.specs.Digest.{digestOf}
@@ -15,26 +15,45 @@ use Rattle.wardrail.specs.Hashing.{stateOf, Holds, Digested}
 use Rattle.wardrail.specs.Looks.{lookDetail}
 use Rattle.wardrail.specs.Peers.{peerDetail}
 use Rattle.wardrail.specs.Replies.{replyDetail, entryDetail}
-use Rattle.wardrail.specs.Said.{detailOf, Tells}
+use Rattle.wardrail.specs.Said.{wordOf, numberIn, placeIn, Tells}
 use Rattle.wardrail.specs.Torrents.{torrentDetail}
+use Rattle.wardrail.proofs.Determined as said
+use Rattle.wardrail.proofs.Keeping as kept
+use Rattle.wardrail.proofs.Said as told
 use Rattle.demands_laws.proofs.Digests as digests
 use Rattle.demands.specs.One.{Lent, now, Determined1, Keeps1, Determined2}
+
+-- ---- the word of a refusal gives its number back, and its place below 2^56
+
+pub word-number : {A : Type 0} (x : Outcome A) (n p : ℕ) → x ≡ refused n p → n < 256 → numberIn (wordOf x) ≡ n
+word-number x n p e h = told.number-told x n p e h
+
+pub word-place : {A : Type 0} (x : Outcome A) (n p : ℕ) → x ≡ refused n p → n < 256 → p < 2 ^ 56 → placeIn (wordOf x) ≡ p
+word-place x n p e h k = told.place-told x n p e h k
+
+-- ---- the calls
 
 -- wardrail::wardrail_check
 abbrev pub check-ensures : (text : Lent (List ℕ)) → ℕ → Lent ℕ → Type 0
 check-ensures text r detail =
-    Tells detailOf (checkOf (now (text .entry))) r (now (detail .exit))
+    Tells (checkOf (now (text .entry))) (now (detail .entry)) r (now (detail .exit))
 
 pub check-determined : (text : Lent (List ℕ)) → Determined1 (check-ensures text)
-check-determined text detail r r′ detail₁ detail₂ e f = (e .0 ∙ sym (f .0), e .1 ∙ sym (f .1))
+check-determined text detail r r′ detail₁ detail₂ e f = said.tells-determined e f
+
+pub check-keeps : (text : Lent (List ℕ)) → Keeps1 (check-ensures text) (λ (r : ℕ). r ≡ 0 → ⊥)
+check-keeps text r detail e k = kept.tells-keeps e k
 
 -- wardrail::looks::wardrail_look
 abbrev pub look-ensures : (text : Lent (List ℕ)) (at : ℕ) → ℕ → Lent (List ℕ) → Type 0
 look-ensures text at r detail =
-    Tells lookDetail (lookOf (now (text .entry)) at) r (now (detail .exit))
+    Tells (map lookDetail (lookOf (now (text .entry)) at)) (now (detail .entry)) r (now (detail .exit))
 
 pub look-determined : (text : Lent (List ℕ)) (at : ℕ) → Determined1 (look-ensures text at)
-look-determined text at detail r r′ detail₁ detail₂ e f = (e .0 ∙ sym (f .0), e .1 ∙ sym (f .1))
+look-determined text at detail r r′ detail₁ detail₂ e f = said.tells-determined e f
+
+pub look-keeps : (text : Lent (List ℕ)) (at : ℕ) → Keeps1 (look-ensures text at) (λ (r : ℕ). r ≡ 0 → ⊥)
+look-keeps text at r detail e k = kept.tells-keeps e k
 
 -- wardrail::wardrail_sha1
 abbrev pub sha1-ensures : (message : Lent (List ℕ)) → ℕ → Lent (List ℕ) → Type 0
@@ -42,10 +61,10 @@ sha1-ensures message r digest =
     Digested (digestOf (now (message .entry)) (now (digest .entry))) r (now (digest .exit))
 
 pub sha1-determined : (message : Lent (List ℕ)) → Determined1 (sha1-ensures message)
-sha1-determined message digest r r′ digest₁ digest₂ e f = (e .0 ∙ sym (f .0), e .1 ∙ sym (f .1))
+sha1-determined message digest r r′ digest₁ digest₂ e f = said.digested-determined e f
 
 pub sha1-keeps : (message : Lent (List ℕ)) → Keeps1 (sha1-ensures message) (λ (r : ℕ). r ≡ 0 → ⊥)
-sha1-keeps message r digest e k = e .1 ∙ digests.digest-kept k (now (message .entry)) (now (digest .entry)) (e .0)
+sha1-keeps message r digest e k = e .out ∙ digests.digest-kept k (now (message .entry)) (now (digest .entry)) (e .word)
 
 -- wardrail::hashing::wardrail_sha1_start
 abbrev pub sha1-start-ensures : Unit {0} → Lent (List ℕ) → Lent (List ℕ) → Type 0
@@ -73,50 +92,65 @@ sha1-finish-ensures words tail r digest =
     Digested (finishOf (stateOf (now (words .entry)) (now (tail .entry))) (now (digest .entry))) r (now (digest .exit))
 
 pub sha1-finish-determined : (words tail : Lent (List ℕ)) → Determined1 (sha1-finish-ensures words tail)
-sha1-finish-determined words tail digest r r′ digest₁ digest₂ e f = (e .0 ∙ sym (f .0), e .1 ∙ sym (f .1))
+sha1-finish-determined words tail digest r r′ digest₁ digest₂ e f = said.digested-determined e f
 
 pub sha1-finish-keeps : (words tail : Lent (List ℕ)) → Keeps1 (sha1-finish-ensures words tail) (λ (r : ℕ). r ≡ 0 → ⊥)
-sha1-finish-keeps words tail r digest e k = e .1 ∙ digests.finish-kept k (stateOf (now (words .entry)) (now (tail .entry))) (now (digest .entry)) (e .0)
+sha1-finish-keeps words tail r digest e k = e .out ∙ digests.finish-kept k (stateOf (now (words .entry)) (now (tail .entry))) (now (digest .entry)) (e .word)
 
 -- wardrail::peers::wardrail_peer
 abbrev pub peer-ensures : (text : Lent (List ℕ)) (number : ℕ) → ℕ → Lent (List ℕ) → Type 0
 peer-ensures text number r detail =
-    Tells peerDetail (then (replyOf (now (text .entry))) (nthOf number)) r (now (detail .exit))
+    Tells (map peerDetail (then (replyOf (now (text .entry))) (nthOf number))) (now (detail .entry)) r (now (detail .exit))
 
 pub peer-determined : (text : Lent (List ℕ)) (number : ℕ) → Determined1 (peer-ensures text number)
-peer-determined text number detail r r′ detail₁ detail₂ e f = (e .0 ∙ sym (f .0), e .1 ∙ sym (f .1))
+peer-determined text number detail r r′ detail₁ detail₂ e f = said.tells-determined e f
+
+pub peer-keeps : (text : Lent (List ℕ)) (number : ℕ) → Keeps1 (peer-ensures text number) (λ (r : ℕ). r ≡ 0 → ⊥)
+peer-keeps text number r detail e k = kept.tells-keeps e k
 
 -- wardrail::replies::wardrail_reply
 abbrev pub reply-ensures : (text : Lent (List ℕ)) → ℕ → Lent (List ℕ) → Type 0
 reply-ensures text r detail =
-    Tells replyDetail (map counted (replyOf (now (text .entry)))) r (now (detail .exit))
+    Tells (map replyDetail (map counted (replyOf (now (text .entry))))) (now (detail .entry)) r (now (detail .exit))
 
 pub reply-determined : (text : Lent (List ℕ)) → Determined1 (reply-ensures text)
-reply-determined text detail r r′ detail₁ detail₂ e f = (e .0 ∙ sym (f .0), e .1 ∙ sym (f .1))
+reply-determined text detail r r′ detail₁ detail₂ e f = said.tells-determined e f
+
+pub reply-keeps : (text : Lent (List ℕ)) → Keeps1 (reply-ensures text) (λ (r : ℕ). r ≡ 0 → ⊥)
+reply-keeps text r detail e k = kept.tells-keeps e k
 
 -- wardrail::replies::wardrail_listed_at
 abbrev pub listed-at-ensures : (text : Lent (List ℕ)) (at : ℕ) → ℕ → Lent (List ℕ) → Type 0
 listed-at-ensures text at r detail =
-    Tells entryDetail (listedAt (now (text .entry)) at) r (now (detail .exit))
+    Tells (map entryDetail (listedAt (now (text .entry)) at)) (now (detail .entry)) r (now (detail .exit))
 
 pub listed-at-determined : (text : Lent (List ℕ)) (at : ℕ) → Determined1 (listed-at-ensures text at)
-listed-at-determined text at detail r r′ detail₁ detail₂ e f = (e .0 ∙ sym (f .0), e .1 ∙ sym (f .1))
+listed-at-determined text at detail r r′ detail₁ detail₂ e f = said.tells-determined e f
+
+pub listed-at-keeps : (text : Lent (List ℕ)) (at : ℕ) → Keeps1 (listed-at-ensures text at) (λ (r : ℕ). r ≡ 0 → ⊥)
+listed-at-keeps text at r detail e k = kept.tells-keeps e k
 
 -- wardrail::replies::wardrail_packed_at
 abbrev pub packed-at-ensures : (text : Lent (List ℕ)) (at : ℕ) → ℕ → Lent (List ℕ) → Type 0
 packed-at-ensures text at r detail =
-    Tells entryDetail (packedAt (now (text .entry)) at) r (now (detail .exit))
+    Tells (map entryDetail (packedAt (now (text .entry)) at)) (now (detail .entry)) r (now (detail .exit))
 
 pub packed-at-determined : (text : Lent (List ℕ)) (at : ℕ) → Determined1 (packed-at-ensures text at)
-packed-at-determined text at detail r r′ detail₁ detail₂ e f = (e .0 ∙ sym (f .0), e .1 ∙ sym (f .1))
+packed-at-determined text at detail r r′ detail₁ detail₂ e f = said.tells-determined e f
+
+pub packed-at-keeps : (text : Lent (List ℕ)) (at : ℕ) → Keeps1 (packed-at-ensures text at) (λ (r : ℕ). r ≡ 0 → ⊥)
+packed-at-keeps text at r detail e k = kept.tells-keeps e k
 
 -- wardrail::torrents::wardrail_torrent
 abbrev pub torrent-ensures : (text : Lent (List ℕ)) → ℕ → Lent (List ℕ) → Type 0
 torrent-ensures text r detail =
-    Tells torrentDetail (readOf (now (text .entry))) r (now (detail .exit))
+    Tells (map torrentDetail (readOf (now (text .entry)))) (now (detail .entry)) r (now (detail .exit))
 
 pub torrent-determined : (text : Lent (List ℕ)) → Determined1 (torrent-ensures text)
-torrent-determined text detail r r′ detail₁ detail₂ e f = (e .0 ∙ sym (f .0), e .1 ∙ sym (f .1))
+torrent-determined text detail r r′ detail₁ detail₂ e f = said.tells-determined e f
+
+pub torrent-keeps : (text : Lent (List ℕ)) → Keeps1 (torrent-ensures text) (λ (r : ℕ). r ≡ 0 → ⊥)
+torrent-keeps text r detail e k = kept.tells-keeps e k
 
 -- wardrail::torrents::wardrail_info_hash
 abbrev pub info-hash-ensures : (text : Lent (List ℕ)) → ℕ → Lent (List ℕ) → Type 0
@@ -124,7 +158,7 @@ info-hash-ensures text r digest =
     Digested (infoHashOf (now (text .entry)) (now (digest .entry))) r (now (digest .exit))
 
 pub info-hash-determined : (text : Lent (List ℕ)) → Determined1 (info-hash-ensures text)
-info-hash-determined text digest r r′ digest₁ digest₂ e f = (e .0 ∙ sym (f .0), e .1 ∙ sym (f .1))
+info-hash-determined text digest r r′ digest₁ digest₂ e f = said.digested-determined e f
 
 pub info-hash-keeps : (text : Lent (List ℕ)) → Keeps1 (info-hash-ensures text) (λ (r : ℕ). r ≡ 0 → ⊥)
-info-hash-keeps text r digest e k = e .1 ∙ digests.info-hash-kept k (now (text .entry)) (now (digest .entry)) (e .0)
+info-hash-keeps text r digest e k = e .out ∙ digests.info-hash-kept k (now (text .entry)) (now (digest .entry)) (e .word)

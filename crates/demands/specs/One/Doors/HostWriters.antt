@@ -1,6 +1,6 @@
 -- Demand 1 of `wardrail`, for C: what is written. Assumes nothing.
 use mathlib.Core.List.{List, _∷_}
-use mathlib.Core.Path.{_≡_, sym, _∙_}
+use mathlib.Core.Path.{_≡_}
 use Prim.Native.Nat.{ℕ}
 use Rattle.bencode_writer.specs.Put.{putOf}
 use Rattle.peer_wire.specs.Frames.{writeOf as frameOf}
@@ -8,70 +8,74 @@ use Rattle.peer_wire.specs.Handshake.{handshake, zeros}
 use Rattle.peer_wire.specs.Message.{keepalive, encode}
 use Rattle.tracker.specs.Writing.{writeOf as replyTextOf}
 use Rattle.torrent_authoring.specs.Writing.{writeOf as torrentTextOf, fields, sizeOf}
-use Rattle.wardrail.specs.Said.{detailOf, Tells}
+use Rattle.wardrail.specs.Said.{Tells}
 use Rattle.wardrail.specs.Writers.{Wrote}
+use Rattle.wardrail.proofs.Determined as said
 use Rattle.wardrail.proofs.Keeping as kept
-use Rattle.demands.specs.One.{Lent, now, Determined2, Determined1}
+use Rattle.demands.specs.One.{Lent, now, Determined2, Keeps2, Determined1, Keeps1}
 
 -- wardrail::writers::wardrail_write_frame
 abbrev pub write-frame-ensures : (id : ℕ) (payload : Lent (List ℕ)) → ℕ → Lent (List ℕ) → Lent ℕ → Type 0
 write-frame-ensures id payload r out detail =
-    Wrote (frameOf (id ∷ now (payload .entry)) (now (out .entry))) r (now (detail .exit)) (now (out .exit))
+    Wrote (frameOf (id ∷ now (payload .entry)) (now (out .entry))) (now (detail .entry)) r (now (detail .exit)) (now (out .exit))
 
 pub write-frame-determined : (id : ℕ) (payload : Lent (List ℕ)) → Determined2 (write-frame-ensures id payload)
-write-frame-determined id payload out detail r r′ out₁ out₂ detail₁ detail₂ e f = (e .0 ∙ sym (f .0), e .2 ∙ sym (f .2), e .1 ∙ sym (f .1))
+write-frame-determined id payload out detail r r′ out₁ out₂ detail₁ detail₂ e f = said.wrote-determined e f
 
-pub write-frame-keeps : (id : ℕ) (payload : Lent (List ℕ)) → (r : ℕ) (out : Lent (List ℕ)) (detail : Lent ℕ) → write-frame-ensures id payload r out detail → (r ≡ 0 → ⊥) → now (out .exit) ≡ now (out .entry)
-write-frame-keeps id payload r out detail e k = kept.write-frame-keeps _ _ r _ _ e k
+pub write-frame-keeps : (id : ℕ) (payload : Lent (List ℕ)) → Keeps2 (write-frame-ensures id payload) (λ (r : ℕ). r ≡ 0 → ⊥)
+write-frame-keeps id payload r out detail e k = kept.write-frame-keeps _ _ _ _ _ _ e k
 
 -- wardrail::writers::wardrail_write_keepalive
 abbrev pub write-keepalive-ensures : ℕ → Lent (List ℕ) → Lent ℕ → Type 0
 write-keepalive-ensures r out detail =
-    Wrote (putOf (encode keepalive) 0 (now (out .entry))) r (now (detail .exit)) (now (out .exit))
+    Wrote (putOf (encode keepalive) 0 (now (out .entry))) (now (detail .entry)) r (now (detail .exit)) (now (out .exit))
 
 pub write-keepalive-determined : Determined2 write-keepalive-ensures
-write-keepalive-determined out detail r r′ out₁ out₂ detail₁ detail₂ e f = (e .0 ∙ sym (f .0), e .2 ∙ sym (f .2), e .1 ∙ sym (f .1))
+write-keepalive-determined out detail r r′ out₁ out₂ detail₁ detail₂ e f = said.wrote-determined e f
 
-pub write-keepalive-keeps : (r : ℕ) (out : Lent (List ℕ)) (detail : Lent ℕ) → write-keepalive-ensures r out detail → (r ≡ 0 → ⊥) → now (out .exit) ≡ now (out .entry)
-write-keepalive-keeps r out detail e k = kept.put-keeps _ _ r _ _ e k
+pub write-keepalive-keeps : Keeps2 write-keepalive-ensures (λ (r : ℕ). r ≡ 0 → ⊥)
+write-keepalive-keeps r out detail e k = kept.put-keeps _ _ _ _ _ _ e k
 
 -- wardrail::writers::wardrail_write_handshake
 abbrev pub write-handshake-ensures : (info peer : Lent (List ℕ)) → ℕ → Lent (List ℕ) → Lent ℕ → Type 0
 write-handshake-ensures info peer r out detail =
-    Wrote (putOf (handshake zeros (now (info .entry)) (now (peer .entry))) 0 (now (out .entry))) r (now (detail .exit)) (now (out .exit))
+    Wrote (putOf (handshake zeros (now (info .entry)) (now (peer .entry))) 0 (now (out .entry))) (now (detail .entry)) r (now (detail .exit)) (now (out .exit))
 
 pub write-handshake-determined : (info peer : Lent (List ℕ)) → Determined2 (write-handshake-ensures info peer)
-write-handshake-determined info peer out detail r r′ out₁ out₂ detail₁ detail₂ e f = (e .0 ∙ sym (f .0), e .2 ∙ sym (f .2), e .1 ∙ sym (f .1))
+write-handshake-determined info peer out detail r r′ out₁ out₂ detail₁ detail₂ e f = said.wrote-determined e f
 
-pub write-handshake-keeps : (info peer : Lent (List ℕ)) → (r : ℕ) (out : Lent (List ℕ)) (detail : Lent ℕ) → write-handshake-ensures info peer r out detail → (r ≡ 0 → ⊥) → now (out .exit) ≡ now (out .entry)
-write-handshake-keeps info peer r out detail e k = kept.put-keeps _ _ r _ _ e k
+pub write-handshake-keeps : (info peer : Lent (List ℕ)) → Keeps2 (write-handshake-ensures info peer) (λ (r : ℕ). r ≡ 0 → ⊥)
+write-handshake-keeps info peer r out detail e k = kept.put-keeps _ _ _ _ _ _ e k
 
 -- wardrail::writers::wardrail_write_torrent
 abbrev pub write-torrent-ensures : (announce name : Lent (List ℕ)) («piece_length» : ℕ) (pieces : Lent (List ℕ)) (length : ℕ) → ℕ → Lent (List ℕ) → Lent ℕ → Type 0
 write-torrent-ensures announce name «piece_length» pieces length r out detail =
-    Wrote (torrentTextOf (fields (now (announce .entry)) (now (name .entry)) «piece_length» (now (pieces .entry)) length) (now (out .entry))) r (now (detail .exit)) (now (out .exit))
+    Wrote (torrentTextOf (fields (now (announce .entry)) (now (name .entry)) «piece_length» (now (pieces .entry)) length) (now (out .entry))) (now (detail .entry)) r (now (detail .exit)) (now (out .exit))
 
 pub write-torrent-determined : (announce name : Lent (List ℕ)) («piece_length» : ℕ) (pieces : Lent (List ℕ)) (length : ℕ) → Determined2 (write-torrent-ensures announce name «piece_length» pieces length)
-write-torrent-determined announce name «piece_length» pieces length out detail r r′ out₁ out₂ detail₁ detail₂ e f = (e .0 ∙ sym (f .0), e .2 ∙ sym (f .2), e .1 ∙ sym (f .1))
+write-torrent-determined announce name «piece_length» pieces length out detail r r′ out₁ out₂ detail₁ detail₂ e f = said.wrote-determined e f
 
-pub write-torrent-keeps : (announce name : Lent (List ℕ)) («piece_length» : ℕ) (pieces : Lent (List ℕ)) (length : ℕ) → (r : ℕ) (out : Lent (List ℕ)) (detail : Lent ℕ) → write-torrent-ensures announce name «piece_length» pieces length r out detail → (r ≡ 0 → ⊥) → now (out .exit) ≡ now (out .entry)
-write-torrent-keeps announce name «piece_length» pieces length r out detail e k = kept.write-torrent-keeps _ _ r _ _ e k
+pub write-torrent-keeps : (announce name : Lent (List ℕ)) («piece_length» : ℕ) (pieces : Lent (List ℕ)) (length : ℕ) → Keeps2 (write-torrent-ensures announce name «piece_length» pieces length) (λ (r : ℕ). r ≡ 0 → ⊥)
+write-torrent-keeps announce name «piece_length» pieces length r out detail e k = kept.write-torrent-keeps _ _ _ _ _ _ e k
 
 -- wardrail::writers::wardrail_torrent_size
 abbrev pub torrent-size-ensures : (announce name : Lent (List ℕ)) («piece_length» : ℕ) (pieces : Lent (List ℕ)) (length : ℕ) → ℕ → Lent ℕ → Type 0
 torrent-size-ensures announce name «piece_length» pieces length r detail =
-    Tells detailOf (sizeOf (fields (now (announce .entry)) (now (name .entry)) «piece_length» (now (pieces .entry)) length)) r (now (detail .exit))
+    Tells (sizeOf (fields (now (announce .entry)) (now (name .entry)) «piece_length» (now (pieces .entry)) length)) (now (detail .entry)) r (now (detail .exit))
 
 pub torrent-size-determined : (announce name : Lent (List ℕ)) («piece_length» : ℕ) (pieces : Lent (List ℕ)) (length : ℕ) → Determined1 (torrent-size-ensures announce name «piece_length» pieces length)
-torrent-size-determined announce name «piece_length» pieces length detail r r′ detail₁ detail₂ e f = (e .0 ∙ sym (f .0), e .1 ∙ sym (f .1))
+torrent-size-determined announce name «piece_length» pieces length detail r r′ detail₁ detail₂ e f = said.tells-determined e f
+
+pub torrent-size-keeps : (announce name : Lent (List ℕ)) («piece_length» : ℕ) (pieces : Lent (List ℕ)) (length : ℕ) → Keeps1 (torrent-size-ensures announce name «piece_length» pieces length) (λ (r : ℕ). r ≡ 0 → ⊥)
+torrent-size-keeps announce name «piece_length» pieces length r detail e k = kept.tells-keeps e k
 
 -- wardrail::writers::wardrail_write_reply
 abbrev pub write-reply-ensures : (interval : ℕ) (peers : Lent (List ℕ)) → ℕ → Lent (List ℕ) → Lent ℕ → Type 0
 write-reply-ensures interval peers r out detail =
-    Wrote (replyTextOf interval (now (peers .entry)) (now (out .entry))) r (now (detail .exit)) (now (out .exit))
+    Wrote (replyTextOf interval (now (peers .entry)) (now (out .entry))) (now (detail .entry)) r (now (detail .exit)) (now (out .exit))
 
 pub write-reply-determined : (interval : ℕ) (peers : Lent (List ℕ)) → Determined2 (write-reply-ensures interval peers)
-write-reply-determined interval peers out detail r r′ out₁ out₂ detail₁ detail₂ e f = (e .0 ∙ sym (f .0), e .2 ∙ sym (f .2), e .1 ∙ sym (f .1))
+write-reply-determined interval peers out detail r r′ out₁ out₂ detail₁ detail₂ e f = said.wrote-determined e f
 
-pub write-reply-keeps : (interval : ℕ) (peers : Lent (List ℕ)) → (r : ℕ) (out : Lent (List ℕ)) (detail : Lent ℕ) → write-reply-ensures interval peers r out detail → (r ≡ 0 → ⊥) → now (out .exit) ≡ now (out .entry)
-write-reply-keeps interval peers r out detail e k = kept.write-reply-keeps _ _ _ r _ _ e k
+pub write-reply-keeps : (interval : ℕ) (peers : Lent (List ℕ)) → Keeps2 (write-reply-ensures interval peers) (λ (r : ℕ). r ≡ 0 → ⊥)
+write-reply-keeps interval peers r out detail e k = kept.write-reply-keeps _ _ _ _ _ _ _ e k

@@ -8,7 +8,7 @@ use Rattle.wardrail.proofs.hashing.wardrail_sha1_finish.Statement.{stat
 use Rattle.wardrail.proofs.hashing.wardrail_sha1_finish.Tie as tie
 
 returns : tie.Need-returns
-returns c = digested (c .before .finish .ensures ∙ ap (λ (s : Stream). finishOf s (c .before .before .before .before .before .before .args .digest .now)) (c .before .before .before .state .ensures)) (c .hashed-number .ensures)
+returns c = digested (c .before .finish .ensures ∙ ap (λ (s : Stream). finishOf s (c .before .before .before .before .before .before .args .digest .now)) (c .before .before .before .state .ensures)) (c .hashed-word .ensures)
 
 pub wardrail-sha1-finish-spec : {M : Type 1} → statement M
 wardrail-sha1-finish-spec =
