@@ -30,6 +30,7 @@ use Rattle.yard_laws.proofs.Pages as pages
 use Rattle.yard_telling.specs.Telling.{codeOf, toldOf, shownOf}
 use Rattle.yard_telling.specs.declared.Told.{Told}
 use Rattle.demands_laws.proofs.Refusals.{same-answer}
+use Rattle.demands_laws.proofs.Tables.{no-wait}
 use Rattle.demands_laws.proofs.Runs as runs
 use Rattle.demands_laws.proofs.Runs.{start-taken, tables-fit}
 use Rattle.demands_laws.proofs.Numbered.{number-refuses, number-waits, at-any-place, page-told}
@@ -154,7 +155,7 @@ module _ (lent : Yard) (h : History) (y : Yard) (made : Made lent h y) where
       number-fair number z w = Iff·trans (number-refuses permitted number z w) (at-any-place (fair number))
 
       pub number-wait : r ≡ 255 ↔ WaitCause seats h c
-      number-wait = Iff·trans (number-waits permitted (runs.no-wait lent h y (made-run lent h y made) c)) fair-wait
+      number-wait = Iff·trans (number-waits permitted (no-wait y c)) fair-wait
 
     -- "A request is answered "serve" exactly if we don't choke and they are interested, else "drop"."
     pub serves-right : (bytes : ℕ) → step c y .answer ≡ taken (serve bytes) ↔ Serves seats h c bytes

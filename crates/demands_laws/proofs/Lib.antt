@@ -17,6 +17,7 @@ pub mod Paths
 pub mod Rewriting
 pub mod Keeping
 pub mod Reasons
+pub mod Tables
 pub mod Runs
 pub mod Numbered
 pub mod Paging

@@ -12,7 +12,6 @@ use Rattle.yard_laws.specs.History.{History, seated, fresh, pieces}
 use Rattle.yard_laws.specs.Causes.{Sits, Nobody, On, Marks, Says, SpeaksOf, Fits, StartFits, Cause, too-long, wrong-payload, not-first, no-such-have, no-such-block, no-such-has, no-such-count, wrong-length, spare-bit, past-piece, all-taken, nobody, past-list, past-look, past-has, no-room, unfit}
 use lib.Dec.{eqb}
 use mathlib.Core.Bool.{Bool, true, false}
-use native.Mathlib.Omega.{arith}
 use borrow.Author.Tests.{eqb-true}
 
 abbrev pub pick : Bool → Type 0 → Type 0 → Type 0
@@ -141,7 +140,3 @@ module _ (n : ℕ) (h : History) where
 
   pub one-of : (c : Call) (number : ℕ) → Cause n h c number → In number (20 ∷ 21 ∷ 30 ∷ 31 ∷ 32 ∷ 33 ∷ 34 ∷ 35 ∷ 36 ∷ 37 ∷ 38 ∷ [])
   one-of c number q = by-number c number (told c number q) (λ e x. List·Memᴰ·head e) (λ e x. List·Memᴰ·tail (List·Memᴰ·head e)) (λ e x. List·Memᴰ·tail (List·Memᴰ·tail (List·Memᴰ·head e))) (λ e x. List·Memᴰ·tail (List·Memᴰ·tail (List·Memᴰ·tail (List·Memᴰ·head e)))) (λ e x. List·Memᴰ·tail (List·Memᴰ·tail (List·Memᴰ·tail (List·Memᴰ·tail (List·Memᴰ·head e))))) (λ e x. List·Memᴰ·tail (List·Memᴰ·tail (List·Memᴰ·tail (List·Memᴰ·tail (List·Memᴰ·tail (List·Memᴰ·head e)))))) (λ e x. List·Memᴰ·tail (List·Memᴰ·tail (List·Memᴰ·tail (List·Memᴰ·tail (List·Memᴰ·tail (List·Memᴰ·tail (List·Memᴰ·head e))))))) (λ e x. List·Memᴰ·tail (List·Memᴰ·tail (List·Memᴰ·tail (List·Memᴰ·tail (List·Memᴰ·tail (List·Memᴰ·tail (List·Memᴰ·tail (List·Memᴰ·head e)))))))) (λ e x. List·Memᴰ·tail (List·Memᴰ·tail (List·Memᴰ·tail (List·Memᴰ·tail (List·Memᴰ·tail (List·Memᴰ·tail (List·Memᴰ·tail (List·Memᴰ·tail (List·Memᴰ·head e))))))))) (λ e x. List·Memᴰ·tail (List·Memᴰ·tail (List·Memᴰ·tail (List·Memᴰ·tail (List·Memᴰ·tail (List·Memᴰ·tail (List·Memᴰ·tail (List·Memᴰ·tail (List·Memᴰ·tail (List·Memᴰ·head e)))))))))) (λ e x. List·Memᴰ·tail (List·Memᴰ·tail (List·Memᴰ·tail (List·Memᴰ·tail (List·Memᴰ·tail (List·Memᴰ·tail (List·Memᴰ·tail (List·Memᴰ·tail (List·Memᴰ·tail (List·Memᴰ·tail (List·Memᴰ·head e)))))))))))
-
-  -- no number is past 38
-  pub few : (c : Call) (number : ℕ) → Cause n h c number → number ≤ 38
-  few c number q = by-number c number (told c number q) (λ e x. omega arith) (λ e x. omega arith) (λ e x. omega arith) (λ e x. omega arith) (λ e x. omega arith) (λ e x. omega arith) (λ e x. omega arith) (λ e x. omega arith) (λ e x. omega arith) (λ e x. omega arith) (λ e x. omega arith)

@@ -20,7 +20,7 @@ use mathlib.Core.Logic.{_⊎_, _↔_, Iff·trans}
 use mathlib.Core.Path.{_≡_, refl, sym, ap, subst, _∙_}
 use Rattle.refusal.proofs.Cases.{by-test, no-way}
 use Rattle.yard_laws.proofs.Demand as demand
-use Rattle.demands_laws.proofs.Reasons.{At, exactly, one-of, few}
+use Rattle.demands_laws.proofs.Reasons.{At, exactly, one-of}
 
 -- a start that answers 0 is accepted
 pub start-taken : (p l k : ℕ) (y : Yard) → codeOf (step (start p l k) y .answer) ≡ 0 → Accepted p l k y
@@ -91,10 +91,6 @@ module _ (lent : Yard) (h : History) (y : Yard) (m : Run lent h y) where
 
     pub undamaged : (place : ℕ) → step c y .answer ≡ refused 39 place → ⊥
     undamaged = here (λ g z. (place : ℕ) → step c z .answer ≡ refused 39 place → ⊥) (λ p l k ok cs. demand.never-damaged p l k lent ok cs c)
-
-    -- the number that C gets for a wait is no refusal's
-    pub no-wait : (place : ℕ) → step c y .answer ≡ refused 255 place → ⊥
-    no-wait place e = let l = few n h c 255 (fair 255 place .0 e .0) in omega arith
 
     pub waits : step c y .answer ≡ taken wait ↔ ((i : ℕ) × (s : List ℕ) × (c ≡ feed i s) × Sits n h i × (Few s ⊎ Cut s))
     waits = Iff·trans (here (λ g z. step c z .answer ≡ taken wait ↔ WaitCause n g c) (λ p l k ok cs. demand.fair-wait p l k lent ok cs c)) (go c, λ q. subst (WaitCause n h) (sym (q .2)) (cut-off (q .0) (q .1) (q .3) (q .4)))

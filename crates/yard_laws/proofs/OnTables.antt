@@ -3,7 +3,7 @@ use mathlib.Core.Path.{_≡_, refl, sym, ap, _∙_}
 use mathlib.Core.Logic.{_↔_}
 use mathlib.Core.Bool.{Bool, true, false, cond, and-eq-true-iff}
 use mathlib.Core.List.{List}
-use Prim.Native.Nat.{ℕ, _<_}
+use Prim.Native.Nat.{ℕ}
 use native.Mathlib.Omega.{arith}
 use borrow.Author.Tests.{eq-eqb, eqb-true, lt-ltb, ltb-true, lt-leb, leb-true, leb-false}
 use lib.Dec.{eqb, ltb, leb}
@@ -234,11 +234,11 @@ module _ (y : Yard) where
 
   -- ---- both directions
 
-  pub refused-exactly : (c : Call) (number place : ℕ) → number < sizes → step c y .answer ≡ refused number place ↔ (Fit y × CauseBy v c number × (place ≡ 0))
-  refused-exactly c number place l = (
+  pub refused-exactly : (c : Call) (number place : ℕ) → (number ≡ sizes → ⊥) → (number ≡ damaged → ⊥) → step c y .answer ≡ refused number place ↔ (Fit y × CauseBy v c number × (place ≡ 0))
+  refused-exactly c number place fitting whole = (
     λ e.
-        let fit = must-fit c (refused number place) (λ q. absurd (omega (arith, number-of number place sizes 0 q))) (λ q. not-both done number place (sym q)) e in
-        let sound : Damaged y c → ⊥ = λ d. absurd (omega (arith, number-of number place damaged 0 (sym e ∙ damage-given y c d))) in
+        let fit = must-fit c (refused number place) (λ q. fitting (number-of number place sizes 0 q)) (λ q. not-both done number place (sym q)) e in
+        let sound : Damaged y c → ⊥ = λ d. whole (number-of number place damaged 0 (sym e ∙ damage-given y c d)) in
         let k = caused.refused-exactly v starts looks starts-yes starts-is c number place .0 (sym (same fit c sound) ∙ e) in
         (fit, k .0, k .1),
     λ (fit, k, z).

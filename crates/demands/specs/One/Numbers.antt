@@ -80,6 +80,7 @@ use Rattle.demands_laws.proofs.Digests as digests
 use Rattle.demands_laws.proofs.Frames as framing
 use Rattle.demands_laws.proofs.Blocks as blocks-laws
 use Rattle.demands_laws.proofs.Writers as writers
+use Rattle.demands_laws.proofs.Tables.{no-wait}
 use Rattle.demands_laws.proofs.Runs as runs
 use Rattle.demands.specs.Program.{Tables, found, Permits, Made, permits-step, made-run}
 use Rattle.demands.specs.One.{Lent, before}
@@ -482,4 +483,4 @@ handshake-wait bytes info r e h = Iff·trans (same-answer e) (shake-wait-exactly
 pub yard-wait : (lent : Yard) (h : History) (t : Tables) → Made lent h (found t) → (c : Call) (r : ℕ) (z : Yard) → Permits t c r z → r ≡ 255 ↔ ((i : ℕ) × (s : List ℕ) × (c ≡ feed i s) × Sits (length (lent .seats)) h i × (Few s ⊎ causes.Cut s))
 yard-wait lent h t m c r z e =
     let g = made-run lent h (found t) m in
-    Iff·trans (number-waits (permits-step t c r z e .0) (runs.no-wait lent h (found t) g c)) (runs.waits lent h (found t) g c)
+    Iff·trans (number-waits (permits-step t c r z e .0) (no-wait (found t) c)) (runs.waits lent h (found t) g c)
