@@ -12,7 +12,7 @@ use Rattle.refusal.specs.Paper.{Outcome, taken, refused, refusal, then}
 use Rattle.refusal.specs.Numbers.{cut}
 use Rattle.refusal.specs.declared.Refusal.{Refusal}
 use Rattle.refusal.specs.declared.Part.{Part}
-use Rattle.refusal.proofs.Cases.{by-test}
+use Rattle.refusal.proofs.Cases.{no-way, by-test}
 use Rattle.bencode_scalar.specs.Written.{decimal, inRange, keyLt}
 use Rattle.bencode_scalar.specs.Reading.{Got, got, bad, onHead, stringAt, integerAt}
 use Rattle.bencode_scalar.proofs.Sound.{Holds, at-left, TextP, string-at-sound}
@@ -89,9 +89,6 @@ skip-further s p q e =
     (omega (arith, v .2, encode-pos (v .0)), omega (arith, v .2))
 
 -- ---- two keys
-
-no-way : {A : Type 0} → _≡_ {A = ℕ} 0 1 → A
-no-way e = absurd (omega arith)
 
 module _ (a b : List ℕ) where
   as-before : true ≡ keyLt a b → Before ≡ orderOf a b

@@ -126,8 +126,8 @@ pub fn bytes(text: &[u8], p: Part) -> &[u8]
     ensures same { λ r. ⌜ now r ≡ bytesAt (now (text .entry)) p ⌝ }
     ensures there { λ r. ⌜ (r .ptr .0 ≡ text .entry .ptr .0) × (r .ptr .1 ≡ text .entry .ptr .1 + min (p .from) (length (now (text .entry)))) ⌝ }
 {
-    let from = least(p.from, text.len());
-    let len = least(p.len, text.len() - from);
+    let from = refusal::least(p.from, text.len());
+    let len = refusal::least(p.len, text.len() - from);
     let end = from + len;
     &text[from..end]
 }
@@ -201,10 +201,4 @@ fn no_key(at: usize) -> Next
     ensures { λ r. ⌜ r ≡ Next.Refused (record { number = 2; place = at }) ⌝ }
 {
     Next::Refused(refusal::refuse(number::BYTE, at))
-}
-
-fn least(a: usize, b: usize) -> usize
-    ensures { λ r. ⌜ r ≡ min a b ⌝ }
-{
-    if a < b { a } else { b }
 }

@@ -1,7 +1,7 @@
 // The bytes that a message's whole blocks leave, in a block of their own, and the last blocks with the padding.
 ghost use mathlib.Core.Path.{_≡_};
 ghost use mathlib.Core.List.{_++_};
-ghost use Prim.Native.Nat.{_+_, _%_, _≤_, min};
+ghost use Prim.Native.Nat.{_+_, _%_, _≤_};
 ghost use lib.ListN.{length, take};
 ghost use lib.Seq.{sets};
 ghost use Rattle.hash_digest.specs.Message.{padding, filled};
@@ -11,9 +11,9 @@ pub fn gathered(held: &[u8], part: &[u8]) -> [u8; 64]
     ensures { λ r. ⌜ r ≡ filled 64 (now (held .entry) ++ now (part .entry)) ⌝ }
 {
     let mut block = [0u8; 64];
-    let first = least(held.len(), 64);
+    let first = refusal::least(held.len(), 64);
     store(&mut block, 0, &held[..first]);
-    let second = least(part.len(), 64 - first);
+    let second = refusal::least(part.len(), 64 - first);
     store(&mut block, first, &part[..second]);
     block
 }
@@ -45,10 +45,4 @@ fn store(out: &mut [u8], at: usize, bytes: &[u8])
         out[at + i] = bytes[i];
         i += 1;
     }
-}
-
-fn least(a: usize, b: usize) -> usize
-    ensures { λ r. ⌜ r ≡ min a b ⌝ }
-{
-    if a < b { a } else { b }
 }

@@ -1,8 +1,8 @@
--- Demand 1 of `refusal`: a refusal made, and numbers of two, four and eight bytes at a place. Assumes nothing.
+-- Demand 1 of `refusal`: a refusal made, the lesser of two, and numbers of two, four and eight bytes at a place. Assumes nothing.
 use mathlib.Core.Bool.{Bool, false}
 use mathlib.Core.List.{List}
 use mathlib.Core.Path.{_≡_, _∙_, sym}
-use Prim.Native.Nat.{ℕ}
+use Prim.Native.Nat.{ℕ, min}
 use Rattle.refusal.specs.BigEndian.{numberAt, fits, numberWritten}
 use Rattle.refusal.specs.declared.Refusal.{Refusal}
 use Rattle.refusal.specs.declared.big_endian.Number.{Number}
@@ -15,6 +15,13 @@ refuse-ensures number place r = r ≡ record { number = number; place = place }
 
 pub refuse-determined : (number place : ℕ) → Determined (refuse-ensures number place)
 refuse-determined number place r r′ e f = e ∙ sym f
+
+-- refusal::least
+abbrev pub least-ensures : (a b : ℕ) → ℕ → Type 0
+least-ensures a b r = r ≡ min a b
+
+pub least-determined : (a b : ℕ) → Determined (least-ensures a b)
+least-determined a b r r′ e f = e ∙ sym f
 
 -- refusal::big_endian::read2
 abbrev pub read2-ensures : (text : Lent (List ℕ)) (at : ℕ) → Number → Type 0
