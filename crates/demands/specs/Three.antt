@@ -20,9 +20,10 @@ use Rattle.yard_tables.specs.Step.{Call, start, sit, missing, scarcest, look, s
 use Rattle.yard_tables.specs.declared.Seat.{Seat}
 use Rattle.yard_tables.specs.declared.Page.{Page}
 use Rattle.yard_laws.specs.History.{History, seated, announced, fresh, weAreChoking, weAreInterested, theyAreChoking, theyAreInterested, pieces, sizesSet}
-use Rattle.yard_laws.specs.Says.{Ascending, recordOf, holders, Lowest}
+use Rattle.yard_laws.specs.Says.{allOf, Ascending, recordOf, holders, Lowest}
 use Rattle.yard_laws.specs.Expected.{answer, output}
 use Rattle.yard_laws.specs.Causes.{Cause, WaitCause, Serves, Drops}
+use Rattle.yard_laws.specs.Given.{Gives}
 use Rattle.yard_laws.specs.Run.{SizesFit, after as afterwards}
 use Rattle.yard_laws.proofs.Theorem as theorem
 use Rattle.yard_laws.proofs.Demand as demand
@@ -69,8 +70,8 @@ module _ (lent : Yard) (h : History) (y : Yard) (made : Made lent h y) where
   seated-right = here (λ g z. z .head .taken ≡ count seats (seated g)) (λ p l k ok cs. demand.seated-right p l k lent ok cs)
 
   -- the seats complete: their trucks have announced every piece
-  pub complete-right : y .head .complete ≡ count seats (λ i. seated h i && eqb (count (pieces h) (λ p. seated h i && announced h i p)) (pieces h))
-  complete-right = here (λ g z. z .head .complete ≡ count seats (λ i. seated g i && eqb (count (pieces g) (λ p. seated g i && announced g i p)) (pieces g))) (λ p l k ok cs. demand.complete-right p l k lent ok cs)
+  pub complete-right : y .head .complete ≡ count seats (λ i. seated h i && allOf (pieces h) (announced h i))
+  complete-right = here (λ g z. z .head .complete ≡ count seats (λ i. seated g i && allOf (pieces g) (announced g i))) (λ p l k ok cs. demand.loaded-right p l k lent ok cs)
 
   -- each seat's record
   pub seat-right : (i : ℕ) → i < seats → getD (y .seats) i cleared ≡ record {
@@ -141,6 +142,10 @@ module _ (lent : Yard) (h : History) (y : Yard) (made : Made lent h y) where
     -- without a cause the call is taken
     pub fair-taken : ((number : ℕ) → Cause seats h c number → ⊥) → (a : Said) × (step c y .answer ≡ taken a)
     fair-taken = here (λ g z. ((number : ℕ) → Cause seats g c number → ⊥) → (a : Said) × (step c z .answer ≡ taken a)) (λ p l k ok cs. demand.fair-taken p l k lent ok cs c)
+
+    -- with the answer that is given: which, and with which numbers, is said beside the causes (yard_laws/specs/Given.antt)
+    pub given-right : (a : Said) → step c y .answer ≡ taken a ↔ Gives seats h c a
+    given-right = here (λ g z. (a : Said) → step c z .answer ≡ taken a ↔ Gives seats g c a) (λ p l k ok cs. demand.given-right p l k lent ok cs c)
 
     -- none is 39
     pub never-damaged : (place : ℕ) → step c y .answer ≡ refused 39 place → ⊥

@@ -42,7 +42,7 @@ module _ (v : View) where
   pub sits-then : (i : ℕ) → sitsBy v i ≡ true → SitsBy v i
   sits-then i e = let k = and-eq-true-iff (ltb i (v .seats)) (v .sitsAt i) .0 e in (ltb-true i (v .seats) (k .0), k .1)
 
-  then-sits : (i : ℕ) → SitsBy v i → sitsBy v i ≡ true
+  pub then-sits : (i : ℕ) → SitsBy v i → sitsBy v i ≡ true
   then-sits i s = rw (lt-ltb i (v .seats) (s .0), s .1)
 
   none-sits : (i : ℕ) → sitsBy v i ≡ false → NobodyBy v i

@@ -3,7 +3,7 @@ use mathlib.Core.Path.{_≡_, refl, sym, ap, _∙_, subst}
 use mathlib.Core.Logic.{_↔_}
 use mathlib.Core.Bool.{Bool, true, false, cond, _&&_}
 use mathlib.Core.List.{List}
-use Prim.Native.Nat.{ℕ, zero, suc, _≤_, _<_}
+use Prim.Native.Nat.{ℕ, _≤_, _<_}
 use native.Mathlib.Omega.{arith}
 use borrow.Author.Tests.{le-leb, leb-false}
 use lib.Dec.{leb, eqb}
@@ -12,7 +12,7 @@ use Rattle.refusal.specs.Paper.{taken, refused}
 use Rattle.refusal.specs.Numbers.{damaged, seat, full}
 use Rattle.refusal.proofs.Cases.{both}
 use Rattle.yard_tables.specs.Counting.{count, Least}
-use Rattle.yard_tables.proofs.Counts.{count-sub}
+use Rattle.yard_tables.proofs.Counts.{count-ext, count-sub}
 use Rattle.yard_tables.specs.Seats.{cleared}
 use Rattle.yard_tables.specs.Tables.{Yard, Said, wait, serve, dropped, listed, scarce, seated}
 use Rattle.yard_tables.specs.Step.{Call, sit, missing, scarcest, step}
@@ -20,20 +20,19 @@ use Rattle.yard_tables.specs.Step.{written as writtenIn}
 use Rattle.yard_tables.specs.declared.Page.{Page}
 use Rattle.yard_laws.specs.History.{History, announced, pieces}
 use Rattle.yard_laws.specs.History.{seated as sitsAt}
-use Rattle.yard_laws.specs.Says.{hasPiece, held, loaded, lacking, recordOf, holders, pageLines, pageOf, leastOf, Lowest}
+use Rattle.yard_laws.specs.Says.{hasPiece, held, loaded, allOf, lacking, recordOf, holders, pageLines, pageOf, leastOf, Lowest}
 use Rattle.yard_laws.specs.View.{byHistory}
 use Rattle.yard_laws.specs.Expected.{no, freeBy, answer}
 use Rattle.yard_laws.specs.Causes.{Cause, WaitCause, Serves, Drops}
 use Rattle.yard_laws.specs.Run.{Accepted, after}
 use Rattle.yard_laws.proofs.Theorem.{right, answered, wrote, some-pieces}
-use Rattle.yard_laws.proofs.Lowest.{lowest-is, least-is}
+use Rattle.yard_laws.proofs.Lowest.{lowest-is, least-some}
 use Rattle.yard_laws.proofs.Fair.{refused-exactly, wait-exactly-when, taken-without}
 use Rattle.yard_laws.proofs.Fair.{never-damaged as undamaged}
+use Rattle.yard_laws.specs.Given.{Gives}
 use Rattle.yard_laws.proofs.Serving.{serve-exactly, drop-exactly}
-
-least-some : (f : ℕ → ℕ) (n : ℕ) → 0 < n → Least f n (leastOf f n)
-least-some f zero l = absurd (omega arith)
-least-some f (suc n) l = least-is f n
+use Rattle.yard_laws.proofs.Given.{given-exactly}
+use Rattle.yard_laws.proofs.Loading.{loaded-all}
 
 module _ (p l k : ℕ) (y : Yard) (ok : Accepted p l k y) (cs : List Call) where
   abbrev seats : ℕ
@@ -60,6 +59,10 @@ module _ (p l k : ℕ) (y : Yard) (ok : Accepted p l k y) (cs : List Call) where
   pub seat-right : (i : ℕ) → i < seats → getD (now .seats) i cleared ≡ recordOf past i
   seat-right = right p l k y ok cs .seat-right
 
+  -- the seats complete are those whose trucks have announced every piece
+  pub loaded-right : now .head .complete ≡ count seats (λ i. sitsAt past i && allOf (pieces past) (announced past i))
+  loaded-right = complete-right ∙ count-ext (loaded past) (λ i. sitsAt past i && allOf (pieces past) (announced past i)) seats (λ i m. loaded-all past i)
+
   -- ---- 11: no count passes what it could reach
 
   pub tops : ((q : ℕ) → q < pieces past → getD (now .holders) q 0 ≤ seats) × ((i : ℕ) → i < seats → getD (now .seats) i cleared .held ≤ pieces past)
@@ -85,6 +88,13 @@ module _ (p l k : ℕ) (y : Yard) (ok : Accepted p l k y) (cs : List Call) where
 
   pub fair-taken : (c : Call) → ((number : ℕ) → Cause seats past c number → ⊥) → (a : Said) × (step c now .answer ≡ taken a)
   fair-taken c f = let t = taken-without seats past c f in (t .0, answered p l k y ok cs c ∙ t .1)
+
+  -- and the answer is the one that is given
+  pub given-right : (c : Call) (a : Said) → step c now .answer ≡ taken a ↔ Gives seats past c a
+  given-right c a =
+      let e = answered p l k y ok cs c in
+      let f = given-exactly seats past (some-pieces p l k y ok cs) c a in
+      (λ q. f .0 (sym e ∙ q), λ q. e ∙ f .1 q)
 
   pub never-damaged : (c : Call) (place : ℕ) → step c now .answer ≡ refused damaged place → ⊥
   never-damaged c place e = undamaged seats past c place (sym (answered p l k y ok cs c) ∙ e)

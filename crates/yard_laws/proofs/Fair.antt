@@ -22,10 +22,10 @@ use Rattle.yard_laws.specs.Causes.{Sits, Says, Fits, Cause, WaitCause}
 use Rattle.yard_laws.proofs.Caused as caused
 
 module _ (h : History) (p l k : ℕ) where
-  fits-start : StartFits h p l k → startFits h p l k ≡ true
+  pub fits-start : StartFits h p l k → startFits h p l k ≡ true
   fits-start f = both-true _ _ (eq-eqb p (pieces h) (f .0)) (both-true _ _ (is-piece-length l (f .1)) (both-true _ _ (le-leb 1 k (f .2)) (le-leb k l (f .3))))
 
-  start-fits : startFits h p l k ≡ true → StartFits h p l k
+  pub start-fits : startFits h p l k ≡ true → StartFits h p l k
   start-fits e =
       let a = and-eq-true-iff (eqb p (pieces h)) _ .0 e in
       let b = and-eq-true-iff (pieceLength l) _ .0 (a .1) in
@@ -36,11 +36,17 @@ module _ (n : ℕ) (h : History) where
   pub sits-then : (i : ℕ) → sitsBy (byHistory n h) i ≡ true → Sits n h i
   sits-then = caused.sits-then (byHistory n h)
 
+  pub then-sits : (i : ℕ) → Sits n h i → sitsBy (byHistory n h) i ≡ true
+  then-sits = caused.then-sits (byHistory n h)
+
   pub frame-says : (i : ℕ) (s : List ℕ) (m : Message (List ℕ)) (bytes : ℕ) → Sits n h i → Says s m bytes → answer n h (feed i s) ≡ messageBy (byHistory n h) i bytes m
   frame-says = caused.frame-says (byHistory n h) (startFits h) (looksOf n h) (fits-start h) (start-fits h)
 
   pub refused-exactly : (c : Call) (number place : ℕ) → answer n h c ≡ refused number place ↔ (Cause n h c number × (place ≡ 0))
   refused-exactly = caused.refused-exactly (byHistory n h) (startFits h) (looksOf n h) (fits-start h) (start-fits h)
+
+  pub cause-given : (c : Call) (number : ℕ) → Cause n h c number → answer n h c ≡ refused number 0
+  cause-given = caused.cause-given (byHistory n h) (startFits h) (looksOf n h) (fits-start h) (start-fits h)
 
   pub wait-exactly-when : (c : Call) → answer n h c ≡ taken wait ↔ WaitCause n h c
   wait-exactly-when = caused.wait-exactly-when (byHistory n h) (startFits h) (looksOf n h) (fits-start h) (start-fits h)

@@ -13,3 +13,5 @@ pub mod Pages
 pub mod Demand
 pub mod Damage
 pub mod OnTables
+pub mod Given
+pub mod Loading

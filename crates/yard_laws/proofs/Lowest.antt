@@ -69,6 +69,10 @@ unfolding leastOf
 least-is f zero = by-test (Least f 1) (ltb (f 0) (f 0)) (λ e. least-start f) (λ e. least-start f)
 least-is f (suc n) = least-turn f (suc n) (leastOf f (suc n)) (least-is f n)
 
+pub least-some : (f : ℕ → ℕ) (n : ℕ) → 0 < n → Least f n (leastOf f n)
+least-some f zero l = absurd (omega arith)
+least-some f (suc n) l = least-is f n
+
 pub least-ext : (f g : ℕ → ℕ) (n k : ℕ) → ((q : ℕ) → q < n → f q ≡ g q) → Least f n k → Least g n k
 least-ext f g n k e p = record {
   within = p .within;

@@ -45,11 +45,11 @@ out-branch : (b : Bool) (o q : Out) → cond b o q .answer ≡ cond b (o .answer
 out-branch true o q = refl
 out-branch false o q = refl
 
-to-no : (b : Bool) (o p : Outcome Said) → b ≡ false → cond b o p ≡ p
+pub to-no : (b : Bool) (o p : Outcome Said) → b ≡ false → cond b o p ≡ p
 to-no b o p e = rw e
 
 -- answers that differ
-not-both : (a : Said) (number place : ℕ) → taken a ≡ refused number place → ⊥
+pub not-both : (a : Said) (number place : ℕ) → taken a ≡ refused number place → ⊥
 not-both a number place e = absurd (let z : _≡_ {A = ℕ} 0 1 = cc in omega arith)
 
 number-of : (m p n q : ℕ) → _≡_ {A = Outcome Said} (refused m p) (refused n q) → m ≡ n
@@ -68,7 +68,7 @@ used-wait bytes e = absurd (let z : _≡_ {A = ℕ} 0 1 = cc in omega arith)
 seat-wait : (i : ℕ) → _≡_ {A = Outcome Said} (taken (givesSeat i)) (taken wait) → ⊥
 seat-wait i e = absurd (let z : _≡_ {A = ℕ} 0 1 = cc in omega arith)
 
-to-yes : (b : Bool) (o p : Outcome Said) → b ≡ true → cond b o p ≡ o
+pub to-yes : (b : Bool) (o p : Outcome Said) → b ≡ true → cond b o p ≡ o
 to-yes b o p e = rw e
 
 module _ (y : Yard) where

@@ -6,3 +6,4 @@ pub mod Expected
 pub mod Causes
 pub mod Run
 pub mod Damage
+pub mod Given

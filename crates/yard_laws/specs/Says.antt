@@ -42,6 +42,11 @@ recordOf h i = record {
   held = held h i;
 }
 
+-- every k below n has f
+abbrev pub allOf : ℕ → (ℕ → Bool) → Bool
+allOf zero f = true
+allOf (suc n) f = allOf n f && f n
+
 -- ---- counts over n seats
 
 -- how many trucks have piece p
