@@ -49,6 +49,11 @@ start-exact p l k t r c = let x = theorem.accepted-exactly p l k (found t) in (�
 pub ascending-unique : (first : ℕ) (l m : List ℕ) → Ascending first l → Ascending first m → ((j : ℕ) → In j l ↔ In j m) → l ≡ m
 ascending-unique first l m = pages.ascending-unique l m
 
+-- the history fixes the tables, rows byte for byte with their spare bits: two programs whose calls and answers were the same, on tables of as many seats, have the same tables,
+-- whatever stood in them first
+pub tables-fixed : (lent other : Yard) (h : History) (y z : Yard) → Made lent h y → Made other h z → length (lent .seats) ≡ length (other .seats) → y ≡ z
+tables-fixed lent other h y z m k e = runs.run-same lent other h y z e (made-run lent h y m) (made-run other h z k)
+
 -- `lent` are the tables as they were lent first; after any calls h is the history, and y are the tables
 module _ (lent : Yard) (h : History) (y : Yard) (made : Made lent h y) where
   -- S

@@ -1,16 +1,20 @@
 -- Runs of the yard's definitions, and demand 3's laws of them. Assumes nothing.
 use mathlib.Core.List.{List, [], _∷_, _++_, List·Memᴰ as In}
-use Prim.Native.Nat.{ℕ}
+use Prim.Native.Nat.{ℕ, _*_}
 use native.Mathlib.Omega.{arith}
-use lib.ListN.{length}
+use lib.ListN.{length, replicate}
 use Rattle.refusal.specs.Paper.{Outcome, taken, refused}
 use Rattle.yard_tables.specs.Tables.{Yard, Said, done, Out, sizesFit, wait}
 use Rattle.yard_tables.specs.Seating.{startOf, emptied}
 use Rattle.yard_tables.specs.Step.{Call, start, step, ifTaken, written, sit, feed}
 use Rattle.yard_telling.specs.Telling.{codeOf}
 use Rattle.yard_laws.specs.History.{History, entry, pieces}
-use Rattle.yard_laws.specs.Run.{State, Accepted, next, run, after}
-use mathlib.Core.Bool.{true, false, Bool, true≢false}
+use Rattle.yard_laws.specs.Run.{State, Accepted, next, run, after, calls}
+use Rattle.yard_laws.proofs.Theorem.{accepted-exactly, calls-are}
+use Rattle.refusal.specs.Numbers.{sizes}
+use Rattle.yard_tables.specs.Rows.{width}
+use Rattle.yard_tables.specs.Seats.{cleared}
+use mathlib.Core.Bool.{true, false, Bool, cond, true≢false}
 use Rattle.peer_wire.specs.Causes.{Few, Cut}
 use Rattle.yard_laws.specs.Causes.{Sits, Cause, WaitCause, cut-off}
 use Rattle.yard_tables.proofs.Sizing.{Fitting, fitting}
@@ -113,3 +117,65 @@ tables-fit lent h y m = fitting (y .head) (length (y .seats)) (length (y .rows))
     go : (b : Bool) → sizesFit (y .head) (length (y .seats)) (length (y .rows)) (length (y .holders)) ≡ b → sizesFit (y .head) (length (y .seats)) (length (y .rows)) (length (y .holders)) ≡ true
     go true e = e
     go false e = absurd (never (sizes-exactly y sit 0 .1 ((λ (f : Fit y). true≢false (sym (is-fit y f) ∙ e)), refl)))
+
+-- ---- the history fixes the tables
+
+-- an accepted start leaves an empty yard, whatever was in the tables
+start-state : (p l k : ℕ) (y : Yard) → Accepted p l k y
+    → next (start p l k) (record { past = []; yard = y }) ≡ record { past = entry (start p l k) (taken done) [] ∷ []; yard = emptied p l k y }
+unfolding next step startOf
+start-state p l k y = go (sizesFit (emptied p l k y .head) (length (y .seats)) (length (y .rows)) (length (y .holders)))
+  where
+    left : Bool → Out
+    left b = cond b (record { answer = taken done; yard = emptied p l k y }) (record { answer = refused sizes 0; yard = y })
+
+    go : (b : Bool) → left b .answer ≡ taken done
+        → _≡_ {A = State} (record { past = entry (start p l k) (left b .answer) (ifTaken (left b .answer) []) ∷ []; yard = left b .yard }) (record { past = entry (start p l k) (taken done) [] ∷ []; yard = emptied p l k y })
+    go true e = refl
+    go false e = no-way (cc)
+
+empty-same : (p l k : ℕ) (y z : Yard) → length (y .seats) ≡ length (z .seats) → Accepted p l k y → Accepted p l k z → emptied p l k y ≡ emptied p l k z
+empty-same p l k y z e a b =
+    let s = accepted-exactly p l k y .0 a in
+    let t = accepted-exactly p l k z .0 b in
+    go (length (y .seats)) (length (z .seats)) (length (y .rows)) (length (z .rows)) (length (y .holders)) (length (z .holders)) e
+    (s .rows-fit ∙ ap (λ (n : ℕ). n * width p) e ∙ sym (t .rows-fit)) (s .holders-fit ∙ sym (t .holders-fit))
+  where
+    of : ℕ → ℕ → ℕ → Yard
+    of n r c = record {
+      head = record { pieces = p; «piece_length» = l; «last_length» = k; taken = 0; complete = 0 };
+      seats = replicate n cleared;
+      rows = replicate r 0;
+      holders = replicate c 0;
+    }
+
+    go : (n m r s c d : ℕ) → n ≡ m → r ≡ s → c ≡ d → of n r c ≡ of m s d
+    go n m r s c d e f g = rw (e, f, g)
+
+-- the calls of a run's history are the start and those after it
+made-calls : (lent : Yard) (h : History) (y : Yard) (r : Run lent h y) → calls h [] ≡ start (r .pieces) (r .piece-length) (r .last-length) ∷ r .calls
+unfolding next
+made-calls lent h y r = ap (λ (s : State). calls (s .past) []) (sym (r .is)) ∙ calls-are (r .calls) (next (start (r .pieces) (r .piece-length) (r .last-length)) (record { past = []; yard = lent }))
+
+-- two runs with the same history, on tables of as many seats, have the same tables, byte for byte
+pub run-same : (lent other : Yard) (h : History) (y z : Yard) → length (lent .seats) ≡ length (other .seats) → Run lent h y → Run other h z → y ≡ z
+run-same lent other h y z e a b =
+    let made : calls h [] ≡ start (a .pieces) (a .piece-length) (a .last-length) ∷ a .calls = made-calls lent h y a in
+    let again : calls h [] ≡ start (b .pieces) (b .piece-length) (b .last-length) ∷ b .calls = made-calls other h z b in
+    go (a .pieces) (b .pieces) (a .piece-length) (b .piece-length) (a .last-length) (b .last-length) (a .calls) (b .calls)
+    (sym made ∙ again) (a .accepted) (b .accepted) (a .is) (b .is)
+  where
+    go : (p q l m k j : ℕ) (cs ds : List Call) → _≡_ {A = List Call} (start p l k ∷ cs) (start q m j ∷ ds) → Accepted p l k lent → Accepted q m j other
+        → after p l k lent cs ≡ record { past = h; yard = y } → after q m j other ds ≡ record { past = h; yard = z } → y ≡ z
+    go p q l m k j cs ds same f g u v =
+        let pq : p ≡ q = cc in
+        let lm : l ≡ m = cc in
+        let kj : k ≡ j = cc in
+        let cd : cs ≡ ds = cc in
+        let g′ : Accepted p l k other = subst (λ (x : ℕ). Accepted x l k other) (sym pq) (subst (λ (x : ℕ). Accepted q x k other) (sym lm) (subst (λ (x : ℕ). Accepted q m x other) (sym kj) g)) in
+        let v′ : after p l k other cs ≡ record { past = h; yard = z } = rw (pq, lm, kj, cd) v in
+        let first : next (start p l k) (record { past = []; yard = lent }) ≡ next (start p l k) (record { past = []; yard = other }) =
+        start-state p l k lent f
+        ∙ ap (λ (x : Yard). record { past = entry (start p l k) (taken done) [] ∷ []; yard = x }) (empty-same p l k lent other e f g′)
+        ∙ sym (start-state p l k other g′) in
+        ap (λ (s : State). s .yard) (sym u ∙ ap (run cs) first ∙ v′)
