@@ -36,6 +36,14 @@ use Rattle.yard_laws.specs.Damage.Damaged.{taken-top, taken-zero, comple
 use Rattle.yard_laws.proofs.Starting.{fitsFor, sized-fits, fits-sized}
 use Rattle.yard_laws.proofs.Lowest.{free-lowest}
 
+-- ---- the way that a test takes
+
+pub pick : {A : Type 0} (b : Bool) (x z : A) → b ≡ true → cond b x z ≡ x
+pick b x z e = rw e
+
+pub skip : {A : Type 0} (b : Bool) (x z : A) → b ≡ false → cond b x z ≡ z
+skip b x z e = rw e
+
 -- ---- tests over all numbers below one
 
 some-has : (f : ℕ → Bool) (n k : ℕ) → k < n → f k ≡ true → some n f ≡ true
@@ -295,12 +303,6 @@ module _ (y : Yard) where
 
   sitting-to : (i : ℕ) (t : Turn) → Taken y i → sitting i n (seatAt i) t ≡ t
   sitting-to i t h = ap (λ (b : Bool). cond b t (refuse seat (seatAt i))) (both-true (ltb i n) (getD (y .seats) i cleared .taken) (lt-ltb i n (h .0)) (h .1))
-
-  pub pick : {A : Type 0} (b : Bool) (x z : A) → b ≡ true → cond b x z ≡ x
-  pick b x z e = rw e
-
-  pub skip : {A : Type 0} (b : Bool) (x z : A) → b ≡ false → cond b x z ≡ z
-  skip b x z e = rw e
 
   heard-as : (i : ℕ) (s : List ℕ) (m : Message (List ℕ)) (bytes : ℕ) → Fit y → Taken y i → Says s m bytes
       → step (feed i s) y .answer ≡ messageOf n i bytes m (seatAt i) .answer

@@ -32,7 +32,8 @@ use Rattle.yard_laws.specs.Given.{Gives, begins, leaves, seats, waits, s
 use Rattle.yard_laws.proofs.Lowest.{lowest-is, lowest-unique, least-some}
 use Rattle.yard_laws.proofs.Fair.{sits-then, then-sits, start-fits, fits-start, frame-says, wait-exactly-when, cause-given, taken-without}
 use Rattle.yard_laws.proofs.Serving.{serve-exactly, drop-exactly}
-use Rattle.yard_laws.proofs.OnTables.{to-no, not-both}
+use Rattle.yard_laws.proofs.Damage.{skip}
+use Rattle.yard_laws.proofs.OnTables.{not-both}
 
 taken-same : (x a : Said) → taken x ≡ taken a → x ≡ a
 taken-same x a e = cc
@@ -174,7 +175,7 @@ module _ (n : ℕ) (h : History) where
   given-is c a (leaves i here) = rw (then-sits n h i here)
   given-is c a (seats i l w) =
       let e : freeBy (byHistory n h) ≡ i = lowest-unique (seated h) n _ _ (lowest-is (seated h) n) w in
-      ap (λ (k : ℕ). cond (leb n k) (no full) (taken (givesSeat k))) e ∙ to-no (leb n i) _ _ (lt-leb n i l)
+      ap (λ (k : ℕ). cond (leb n k) (no full) (taken (givesSeat k))) e ∙ skip (leb n i) _ _ (lt-leb n i l)
   given-is c a (waits i s here w) = wait-exactly-when n h (feed i s) .1 (cut-off i s here w)
   given-is c a (serves i s bytes f w) = serve-exactly n h (feed i s) bytes .1 (answered-serve i s bytes f w)
   given-is c a (drops i s bytes f w) = drop-exactly n h (feed i s) bytes .1 (answered-drop i s bytes f w)

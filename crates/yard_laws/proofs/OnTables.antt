@@ -4,13 +4,12 @@ use mathlib.Core.Logic.{_↔_}
 use mathlib.Core.Bool.{Bool, true, false, cond, and-eq-true-iff}
 use mathlib.Core.List.{List}
 use Prim.Native.Nat.{ℕ}
-use native.Mathlib.Omega.{arith}
 use borrow.Author.Tests.{eq-eqb, eqb-true, lt-ltb, ltb-true, lt-leb, leb-true, leb-false}
 use lib.Dec.{eqb, ltb, leb}
 use lib.ListN.{length, getD}
 use Rattle.refusal.specs.Paper.{Outcome, taken, refused}
 use Rattle.refusal.specs.Numbers.{full, sizes, damaged}
-use Rattle.refusal.proofs.Cases.{by-bool, cannot, both-true, false-if}
+use Rattle.refusal.proofs.Cases.{no-way, by-bool, cannot, both-true, false-if}
 use Rattle.peer_wire.specs.Message.{Message, keepalive, choke, unchoke, interested, notInterested, have, request, piece, cancel, other}
 use Rattle.peer_wire.specs.Message.{bitfield as bits}
 use Rattle.peer_wire.specs.Frames.{Found, found, readOf, meant}
@@ -33,7 +32,7 @@ use Rattle.yard_laws.specs.Damage.{Fit, seatOf, Taken, inRow, Announces,
 use Rattle.yard_laws.specs.Damage.Damaged.{taken-top, taken-zero, complete-top, complete-zero, holders-top, holders-zero, held-top}
 use Rattle.yard_laws.proofs.Starting.{fitsFor, sized-fits, fits-sized}
 use Rattle.yard_laws.proofs.Lowest.{free-is}
-use Rattle.yard_laws.proofs.Damage.{seatAt, fits, fit-is, is-fit, over-is, zero-is, lowest-free, free-some, sized-to, skip, unfit-given, damage-given, no-spare, spare-none}
+use Rattle.yard_laws.proofs.Damage.{seatAt, fits, fit-is, is-fit, over-is, zero-is, lowest-free, free-some, sized-to, pick, skip, unfit-given, damage-given, no-spare, spare-none}
 use Rattle.yard_laws.proofs.Caused as caused
 
 -- two ways of a test with the same answers
@@ -45,12 +44,9 @@ out-branch : (b : Bool) (o q : Out) → cond b o q .answer ≡ cond b (o .answer
 out-branch true o q = refl
 out-branch false o q = refl
 
-pub to-no : (b : Bool) (o p : Outcome Said) → b ≡ false → cond b o p ≡ p
-to-no b o p e = rw e
-
 -- answers that differ
 pub not-both : (a : Said) (number place : ℕ) → taken a ≡ refused number place → ⊥
-not-both a number place e = absurd (let z : _≡_ {A = ℕ} 0 1 = cc in omega arith)
+not-both a number place e = no-way (cc)
 
 number-of : (m p n q : ℕ) → _≡_ {A = Outcome Said} (refused m p) (refused n q) → m ≡ n
 number-of m p n q e = cc
@@ -60,16 +56,13 @@ abbrev Taking : Outcome Said → Type 0
 Taking o = (a : Said) × (o ≡ taken a) × (taken a ≡ taken wait → ⊥)
 
 done-wait : _≡_ {A = Outcome Said} (taken done) (taken wait) → ⊥
-done-wait e = absurd (let z : _≡_ {A = ℕ} 0 1 = cc in omega arith)
+done-wait e = no-way (cc)
 
 used-wait : (bytes : ℕ) → _≡_ {A = Outcome Said} (taken (used bytes)) (taken wait) → ⊥
-used-wait bytes e = absurd (let z : _≡_ {A = ℕ} 0 1 = cc in omega arith)
+used-wait bytes e = no-way (cc)
 
 seat-wait : (i : ℕ) → _≡_ {A = Outcome Said} (taken (givesSeat i)) (taken wait) → ⊥
-seat-wait i e = absurd (let z : _≡_ {A = ℕ} 0 1 = cc in omega arith)
-
-pub to-yes : (b : Bool) (o p : Outcome Said) → b ≡ true → cond b o p ≡ o
-to-yes b o p e = rw e
+seat-wait i e = no-way (cc)
 
 module _ (y : Yard) where
   abbrev v : View
@@ -125,7 +118,7 @@ module _ (y : Yard) where
     module _ (i : ℕ) (s : List ℕ) (here : Taken y i) (sound : Damaged y (feed i s) → ⊥) where
       announce-same : (bytes : ℕ) (said : ℕ → Bool) (rows : List ℕ) → Announces y i s said → announce n i bytes said rows (seatAt y i) .answer ≡ taken (used bytes)
       announce-same bytes said rows a =
-          ap (λ (t : Turn). t .answer) (skip y (overTop n i said (seatAt y i)) _ _ (false-if (overTop n i said (seatAt y i)) (λ e. sound (over-is y i said s fit here a e))))
+          ap (λ (t : Turn). t .answer) (skip (overTop n i said (seatAt y i)) _ _ (false-if (overTop n i said (seatAt y i)) (λ e. sound (over-is y i said s fit here a e))))
 
       message-same : (m : Message (List ℕ)) (bytes : ℕ) → Says s m bytes → messageOf n i bytes m (seatAt y i) .answer ≡ messageBy v i bytes m
       unfolding messageOf haveOf bitfieldOf
@@ -160,11 +153,11 @@ module _ (y : Yard) where
     same (start p l k) sound = out-branch (fitsFor p l k y) _ _
     same sit sound =
         fitted (lowestFree (y .seats)) _ _ (branch (leb n (lowestFree (y .seats))) _ _ _ _ (λ e. refl)
-        (λ e. ap (λ (t : Turn). t .answer) (skip y (leb n (y .head .taken)) _ _ (false-if (leb n (y .head .taken))
+        (λ e. ap (λ (t : Turn). t .answer) (skip (leb n (y .head .taken)) _ _ (false-if (leb n (y .head .taken))
         (λ d. sound (taken-top (lowestFree (y .seats)) fit (lowest-free y (leb-false n (lowestFree (y .seats)) e)) (leb-true n (y .head .taken) d)))))))
         ∙ ap (λ (k : ℕ). cond (leb n k) (no full) (taken (givesSeat k))) free-same
     same (leave i) sound = fitted i _ _ (branch (sitsBy v i) _ _ _ _
-        (λ e. ap (λ (t : Turn). t .answer) (skip y (atZero i (seatAt y i)) _ _ (false-if (atZero i (seatAt y i)) (λ d. sound (zero-is y i fit (sits-is i e) d))))) (λ e. refl))
+        (λ e. ap (λ (t : Turn). t .answer) (skip (atZero i (seatAt y i)) _ _ (false-if (atZero i (seatAt y i)) (λ d. sound (zero-is y i fit (sits-is i e) d))))) (λ e. refl))
     same (feed i s) sound = fitted i _ _ (branch (sitsBy v i) _ _ _ _ (λ e. frame-same i s (sits-is i e) sound (readOf s) refl) (λ e. refl))
     same (chokes i b space) sound = mark-same (weChoke b) space i
     same (interest i b space) sound = mark-same (weWant b) space i
@@ -178,23 +171,23 @@ module _ (y : Yard) where
 
   announced-taken : (i : ℕ) (s : List ℕ) (said : ℕ → Bool) → Taken y i → Announces y i s said → Taking (expected (feed i s))
   announced-taken i s said here (by-have p bytes f l) =
-      (used bytes, caused.frame-says v starts looks starts-yes starts-is i s (have p) bytes here f ∙ to-yes (ltb p pieces) _ _ (lt-ltb p pieces l), used-wait bytes)
+      (used bytes, caused.frame-says v starts looks starts-yes starts-is i s (have p) bytes here f ∙ pick (ltb p pieces) _ _ (lt-ltb p pieces l), used-wait bytes)
   announced-taken i s said here (by-bitfield b bytes f new size none) = (
     used bytes,
     caused.frame-says v starts looks starts-yes starts-is i s (bits b) bytes here f
-        ∙ to-yes (seatOf y i .fresh) _ _ new
-        ∙ to-yes (eqb (length b) (width pieces)) _ _ (eq-eqb (length b) (width pieces) size)
-        ∙ to-no (spareSet pieces b) _ _ (spare-none pieces b none),
+        ∙ pick (seatOf y i .fresh) _ _ new
+        ∙ pick (eqb (length b) (width pieces)) _ _ (eq-eqb (length b) (width pieces) size)
+        ∙ skip (spareSet pieces b) _ _ (spare-none pieces b none),
     used-wait bytes,
   )
 
   damaged-taken : (c : Call) → Damaged y c → Taking (expected c)
-  damaged-taken c (taken-top i fit f m) = (givesSeat (freeBy v), to-no (leb n (freeBy v)) _ _ (ap (leb n) (sym free-same) ∙ lt-leb n (lowestFree (y .seats)) (free-some y i f)), seat-wait (freeBy v))
-  damaged-taken c (taken-zero i fit here e) = (done, to-yes (sitsBy v i) _ _ (is-sits i here), done-wait)
+  damaged-taken c (taken-top i fit f m) = (givesSeat (freeBy v), skip (leb n (freeBy v)) _ _ (ap (leb n) (sym free-same) ∙ lt-leb n (lowestFree (y .seats)) (free-some y i f)), seat-wait (freeBy v))
+  damaged-taken c (taken-zero i fit here e) = (done, pick (sitsBy v i) _ _ (is-sits i here), done-wait)
   damaged-taken c (complete-top i s said p fit here a w e l) = announced-taken i s said here a
-  damaged-taken c (complete-zero i fit here e f) = (done, to-yes (sitsBy v i) _ _ (is-sits i here), done-wait)
+  damaged-taken c (complete-zero i fit here e f) = (done, pick (sitsBy v i) _ _ (is-sits i here), done-wait)
   damaged-taken c (holders-top i s said p fit here a w l) = announced-taken i s said here a
-  damaged-taken c (holders-zero i p fit here l e f) = (done, to-yes (sitsBy v i) _ _ (is-sits i here), done-wait)
+  damaged-taken c (holders-zero i p fit here l e f) = (done, pick (sitsBy v i) _ _ (is-sits i here), done-wait)
   damaged-taken c (held-top i s said p fit here a w l) = announced-taken i s said here a
 
   sound-if : (c : Call) (number : ℕ) → expected c ≡ refused number 0 → Damaged y c → ⊥
@@ -212,8 +205,8 @@ module _ (y : Yard) where
   -- a start is done or refused by 38
   not-start : (p l k : ℕ) (o : Outcome Said) → (o ≡ refused sizes 0 → ⊥) → (o ≡ taken done → ⊥) → step (start p l k) y .answer ≡ o → ⊥
   not-start p l k o f g e = by-bool (fitsFor p l k y)
-      (λ t. g (sym e ∙ start-answers p l k ∙ to-yes (fitsFor p l k y) _ _ t))
-      (λ t. f (sym e ∙ start-answers p l k ∙ to-no (fitsFor p l k y) _ _ t))
+      (λ t. g (sym e ∙ start-answers p l k ∙ pick (fitsFor p l k y) _ _ t))
+      (λ t. f (sym e ∙ start-answers p l k ∙ skip (fitsFor p l k y) _ _ t))
 
   -- any other call of tables that do not fit is refused by 38
   must-fit : (c : Call) (o : Outcome Said) → (o ≡ refused sizes 0 → ⊥) → (o ≡ taken done → ⊥) → step c y .answer ≡ o → Fit y

@@ -111,7 +111,7 @@ pub data ServesBy (v : View) : Call → ℕ → Type 0 where
 pub data DropsBy (v : View) : Call → ℕ → Type 0 where
   drops : (i : ℕ) (s : List ℕ) (bytes : ℕ) → AsksBy v i s bytes → (WelcomeBy v i → ⊥) → DropsBy v (feed i s) bytes
 
--- ---- the same by the history, on a yard of n seats
+-- ---- the same by the history, on a yard of n seats; what asks for no seat's number has 0 there
 
 abbrev pub Sits : ℕ → History → ℕ → Type 0
 Sits n h i = SitsBy (byHistory n h) i
