@@ -30,7 +30,7 @@ use Rattle.yard_tables.specs.Tables.{Yard, Said, done, used, seated, Out, sizes
 use Rattle.yard_tables.specs.Frames.{overTop, announced, haveOf, bitfieldOf, messageOf, feedOf}
 use Rattle.yard_tables.specs.Seating.{startOf, lowestFree, seatedAt, sitOf, atZero, left, leaveOf}
 use Rattle.yard_tables.specs.Step.{Call, start, sit, leave, feed, step}
-use Rattle.yard_laws.specs.History.{History, entry, event, sizesWith}
+use Rattle.yard_laws.specs.History.{History, Fixed, entry, event, sizesWith}
 use Rattle.yard_laws.specs.Says.{holders, completeSeats, lowestWithout}
 use Rattle.yard_laws.specs.Expected.{answer}
 
@@ -128,15 +128,19 @@ pub record Now : Type 0 where
 abbrev pub files : List Span
 files = joinedFiles (20000 ∷ 0 ∷ 12769 ∷ [])
 
+-- S = 2
+abbrev pub two : Fixed
+two = record { seats = 2 }
+
 -- a call's answer, the seats complete and the holders of piece 9: by the tables, and by the history alone
 abbrev pub byTables : Out → Given
 byTables o = said (o .answer) (o .yard .head .complete) (getD (o .yard .holders) 9 0)
 
 abbrev pub byHistory : History → Call → Given
-byHistory h c = said (answer 2 h c) (completeSeats 2 (entry c (answer 2 h c) [] ∷ h)) (holders 2 (entry c (answer 2 h c) [] ∷ h) 9)
+byHistory h c = said (answer two h c) (completeSeats two (entry c (answer two h c) [] ∷ h)) (holders two (entry c (answer two h c) [] ∷ h) 9)
 
 abbrev pub after : Call → Now → Now
-after c x = record { yard = step c (x .yard) .yard; past = entry c (answer 2 (x .past) c) [] ∷ x .past }
+after c x = record { yard = step c (x .yard) .yard; past = entry c (answer two (x .past) c) [] ∷ x .past }
 
 -- the rows one after the other, with the yard before the last call and after it
 unfoldable pub given : List Star → Now → Now → List Given

@@ -19,12 +19,12 @@ use Rattle.yard_tables.specs.Tables.{Yard, Said, wait, done, serve, dropped, li
 use Rattle.yard_tables.specs.Step.{Call, start, sit, missing, scarcest, look, step, written}
 use Rattle.yard_tables.specs.declared.Seat.{Seat}
 use Rattle.yard_tables.specs.declared.Page.{Page}
-use Rattle.yard_laws.specs.History.{History, seated, announced, fresh, weAreChoking, weAreInterested, theyAreChoking, theyAreInterested, pieces, sizesSet}
+use Rattle.yard_laws.specs.History.{History, Fixed, seated, announced, fresh, weAreChoking, weAreInterested, theyAreChoking, theyAreInterested, pieces, sizesSet}
 use Rattle.yard_laws.specs.Says.{allOf, Ascending, recordOf, holders, Lowest}
 use Rattle.yard_laws.specs.Expected.{answer, output}
 use Rattle.yard_laws.specs.Causes.{Cause, WaitCause, Serves, Drops}
 use Rattle.yard_laws.specs.Given.{Gives}
-use Rattle.yard_laws.specs.Run.{SizesFit, after as afterwards}
+use Rattle.yard_laws.specs.Run.{SizesFit, fixedBy, after as afterwards}
 use Rattle.yard_laws.proofs.Theorem as theorem
 use Rattle.yard_laws.proofs.Demand as demand
 use Rattle.yard_laws.proofs.Pages as pages
@@ -49,16 +49,19 @@ start-exact p l k t r c = let x = theorem.accepted-exactly p l k (found t) in (�
 pub ascending-unique : (first : ℕ) (l m : List ℕ) → Ascending first l → Ascending first m → ((j : ℕ) → In j l ↔ In j m) → l ≡ m
 ascending-unique first l m = pages.ascending-unique l m
 
--- the history fixes the tables, rows byte for byte with their spare bits: two programs whose calls and answers were the same, on tables of as many seats, have the same tables,
--- whatever stood in them first
-pub tables-fixed : (lent other : Yard) (h : History) (y z : Yard) → Made lent h y → Made other h z → length (lent .seats) ≡ length (other .seats) → y ≡ z
+-- the history fixes the tables, rows byte for byte with their spare bits: two programs whose calls and answers were the same, on tables of as many seats, have the same
+-- tables, whatever stood in them first
+pub tables-fixed : (lent other : Yard) (h : History) (y z : Yard) → Made lent h y → Made other h z → fixedBy lent ≡ fixedBy other → y ≡ z
 tables-fixed lent other h y z m k e = runs.run-same lent other h y z e (made-run lent h y m) (made-run other h z k)
 
 -- `lent` are the tables as they were lent first; after any calls h is the history, and y are the tables
 module _ (lent : Yard) (h : History) (y : Yard) (made : Made lent h y) where
-  -- S
+  -- what the tables fix, S among it
+  abbrev fixed : Fixed
+  fixed = fixedBy lent
+
   abbrev seats : ℕ
-  seats = length (lent .seats)
+  seats = fixed .seats
 
   -- what is so of every run is so of this one (`Made`: Program.antt)
   here : (P : History → Yard → Type 0) → ((p l k : ℕ) → step (start p l k) lent .answer ≡ taken done → (cs : List Call) → P (afterwards p l k lent cs .past) (afterwards p l k lent cs .yard)) → P h y
@@ -106,22 +109,22 @@ module _ (lent : Yard) (h : History) (y : Yard) (made : Made lent h y) where
       (f .row ∙ ap₂ (λ (n p : ℕ). n * width p) (z .0) (z .1), f .counts ∙ z .1)
 
   -- every call's answer, and all that it writes, is the one that the history before it says: document 01's checks in their order, with no table in them
-  pub answer-right : (c : Call) → step c y .answer ≡ answer seats h c
-  answer-right c = here (λ g z. step c z .answer ≡ answer seats g c) (λ p l k ok cs. theorem.answered p l k lent ok cs c)
+  pub answer-right : (c : Call) → step c y .answer ≡ answer fixed h c
+  answer-right c = here (λ g z. step c z .answer ≡ answer fixed g c) (λ p l k ok cs. theorem.answered p l k lent ok cs c)
 
   -- and so are the number that C gets of it, the record and the seat. `Permits t c r z`: the contract of the call c on the tables t permits the number r
-  pub number-right : (t : Tables) → found t ≡ y → (c : Call) (r : ℕ) (z : Yard) → Permits t c r z → r ≡ codeOf (answer seats h c)
+  pub number-right : (t : Tables) → found t ≡ y → (c : Call) (r : ℕ) (z : Yard) → Permits t c r z → r ≡ codeOf (answer fixed h c)
   number-right t f c r z e = permits-step t c r z e .0 ∙ ap (λ (x : Yard). codeOf (step c x .answer)) f ∙ ap codeOf (answer-right c)
 
-  pub told-right : (t : Tables) → found t ≡ y → (c : Call) (r : ℕ) (told : Lent Told) → Telling t c r told → after told ≡ toldOf (answer seats h c) (before told)
+  pub told-right : (t : Tables) → found t ≡ y → (c : Call) (r : ℕ) (told : Lent Told) → Telling t c r told → after told ≡ toldOf (answer fixed h c) (before told)
   told-right t f c r told e = telling-step t c r told e .1 ∙ ap (λ (x : Yard). toldOf (step c x .answer) (before told)) f ∙ ap (λ (a : Outcome Said). toldOf a (before told)) (answer-right c)
 
   pub shown-right : (t : Tables) → found t ≡ y → (i r : ℕ) (seen : Lent Seat) → yard.look-ensures (t .seats) (t .rows) (t .holders) i r (t .head) seen
-      → after seen ≡ shownOf (answer seats h (look i)) (before seen)
+      → after seen ≡ shownOf (answer fixed h (look i)) (before seen)
   shown-right t f i r seen e = e .0 .1 ∙ ap (λ (x : Yard). shownOf (step (look i) x .answer) (before seen)) f ∙ ap (λ (a : Outcome Said). shownOf a (before seen)) (answer-right (look i))
 
-  pub written-right : (c : Call) → written c y ≡ output seats h c
-  written-right c = here (λ g z. written c z ≡ output seats g c) (λ p l k ok cs. theorem.wrote p l k lent ok cs c)
+  pub written-right : (c : Call) → written c y ≡ output fixed h c
+  written-right c = here (λ g z. written c z ≡ output fixed g c) (λ p l k ok cs. theorem.wrote p l k lent ok cs c)
 
   -- ---- 11. "Tops: S for head and holder counts, P for held."
 
@@ -138,19 +141,19 @@ module _ (lent : Yard) (h : History) (y : Yard) (made : Made lent h y) where
   -- ---- 12. A refusal or a wait has its listed cause in the history, and where a cause holds it is given, in document 01's order
 
   module _ (c : Call) where
-    pub fair : (number place : ℕ) → step c y .answer ≡ refused number place ↔ (Cause seats h c number × (place ≡ 0))
-    fair number place = here (λ g z. step c z .answer ≡ refused number place ↔ (Cause seats g c number × (place ≡ 0))) (λ p l k ok cs. demand.fair p l k lent ok cs c number place)
+    pub fair : (number place : ℕ) → step c y .answer ≡ refused number place ↔ (Cause fixed h c number × (place ≡ 0))
+    fair number place = here (λ g z. step c z .answer ≡ refused number place ↔ (Cause fixed g c number × (place ≡ 0))) (λ p l k ok cs. demand.fair p l k lent ok cs c number place)
 
-    pub fair-wait : step c y .answer ≡ taken wait ↔ WaitCause seats h c
-    fair-wait = here (λ g z. step c z .answer ≡ taken wait ↔ WaitCause seats g c) (λ p l k ok cs. demand.fair-wait p l k lent ok cs c)
+    pub fair-wait : step c y .answer ≡ taken wait ↔ WaitCause fixed h c
+    fair-wait = here (λ g z. step c z .answer ≡ taken wait ↔ WaitCause fixed g c) (λ p l k ok cs. demand.fair-wait p l k lent ok cs c)
 
     -- without a cause the call is taken
-    pub fair-taken : ((number : ℕ) → Cause seats h c number → ⊥) → (a : Said) × (step c y .answer ≡ taken a)
-    fair-taken = here (λ g z. ((number : ℕ) → Cause seats g c number → ⊥) → (a : Said) × (step c z .answer ≡ taken a)) (λ p l k ok cs. demand.fair-taken p l k lent ok cs c)
+    pub fair-taken : ((number : ℕ) → Cause fixed h c number → ⊥) → (a : Said) × (step c y .answer ≡ taken a)
+    fair-taken = here (λ g z. ((number : ℕ) → Cause fixed g c number → ⊥) → (a : Said) × (step c z .answer ≡ taken a)) (λ p l k ok cs. demand.fair-taken p l k lent ok cs c)
 
     -- with the answer that is given: which, and with which numbers, is said beside the causes (yard_laws/specs/Given.antt)
-    pub given-right : (a : Said) → step c y .answer ≡ taken a ↔ Gives seats h c a
-    given-right = here (λ g z. (a : Said) → step c z .answer ≡ taken a ↔ Gives seats g c a) (λ p l k ok cs. demand.given-right p l k lent ok cs c)
+    pub given-right : (a : Said) → step c y .answer ≡ taken a ↔ Gives fixed h c a
+    given-right = here (λ g z. (a : Said) → step c z .answer ≡ taken a ↔ Gives fixed g c a) (λ p l k ok cs. demand.given-right p l k lent ok cs c)
 
     -- none is 39
     pub never-damaged : (place : ℕ) → step c y .answer ≡ refused 39 place → ⊥
@@ -161,18 +164,18 @@ module _ (lent : Yard) (h : History) (y : Yard) (made : Made lent h y) where
       permitted : r ≡ codeOf (step c y .answer)
       permitted = permits-step t c r z e .0 ∙ ap (λ (x : Yard). codeOf (step c x .answer)) f
 
-      pub number-fair : (number : ℕ) → (number ≡ 0 → ⊥) → (number ≡ 255 → ⊥) → r ≡ number ↔ Cause seats h c number
+      pub number-fair : (number : ℕ) → (number ≡ 0 → ⊥) → (number ≡ 255 → ⊥) → r ≡ number ↔ Cause fixed h c number
       number-fair number z w = Iff·trans (number-refuses permitted number z w) (at-any-place (fair number))
 
-      pub number-wait : r ≡ 255 ↔ WaitCause seats h c
+      pub number-wait : r ≡ 255 ↔ WaitCause fixed h c
       number-wait = Iff·trans (number-waits permitted (no-wait y c)) fair-wait
 
     -- "A request is answered "serve" exactly if we don't choke and they are interested, else "drop"."
-    pub serves-right : (bytes : ℕ) → step c y .answer ≡ taken (serve bytes) ↔ Serves seats h c bytes
-    serves-right bytes = here (λ g z. step c z .answer ≡ taken (serve bytes) ↔ Serves seats g c bytes) (λ p l k ok cs. demand.serves-right p l k lent ok cs c bytes)
+    pub serves-right : (bytes : ℕ) → step c y .answer ≡ taken (serve bytes) ↔ Serves fixed h c bytes
+    serves-right bytes = here (λ g z. step c z .answer ≡ taken (serve bytes) ↔ Serves fixed g c bytes) (λ p l k ok cs. demand.serves-right p l k lent ok cs c bytes)
 
-    pub drops-right : (bytes : ℕ) → step c y .answer ≡ taken (dropped bytes) ↔ Drops seats h c bytes
-    drops-right bytes = here (λ g z. step c z .answer ≡ taken (dropped bytes) ↔ Drops seats g c bytes) (λ p l k ok cs. demand.drops-right p l k lent ok cs c bytes)
+    pub drops-right : (bytes : ℕ) → step c y .answer ≡ taken (dropped bytes) ↔ Drops fixed h c bytes
+    drops-right bytes = here (λ g z. step c z .answer ≡ taken (dropped bytes) ↔ Drops fixed g c bytes) (λ p l k ok cs. demand.drops-right p l k lent ok cs c bytes)
 
   -- "Sitting down takes the lowest free seat": seat i is one, a truck sits at each lower seat, and none at i
   pub sits-lowest : (i : ℕ) → step sit y .answer ≡ taken (givesSeat i) → (i < seats) × ((j : ℕ) → j < i → seated h j ≡ true) × (seated h i ≡ false)
@@ -193,13 +196,13 @@ module _ (lent : Yard) (h : History) (y : Yard) (made : Made lent h y) where
       × (x .next ≡ firstOr seats (drop (length (before page)) l)))
   missing-total t f first r page told e x q =
       let c = missing first (length (before page)) in
-      page-listed seats h first (before page) (after page) x (sym (answer-right c) ∙ q) (e .1 ∙ ap (λ (z : Yard). sets (before page) 0 (written c z)) f ∙ ap (sets (before page) 0) (written-right c))
+      page-listed fixed h first (before page) (after page) x (sym (answer-right c) ∙ q) (e .1 ∙ ap (λ (z : Yard). sets (before page) 0 (written c z)) f ∙ ap (sets (before page) 0) (written-right c))
 
   -- "All loaded": the total is 0 exactly when every truck now seated has announced every piece since it sat down
   pub all-loaded : (first space : ℕ) (x : Page) → step (missing first space) y .answer ≡ taken (listed x)
       → x .total ≡ 0 ↔ ((i p : ℕ) → i < seats → seated h i ≡ true → p < pieces h → announced h i p ≡ true)
   all-loaded first space x q =
-      let t = page-total seats h first space x (sym (answer-right (missing first space)) ∙ q) in
+      let t = page-total fixed h first space x (sym (answer-right (missing first space)) ∙ q) in
       Iff·trans (same-answer t) (nobody-lacks seats (pieces h) (seated h) (announced h))
 
   -- as C sees it: where a page's number is 0, `total` of its record is 0 exactly then
@@ -207,7 +210,7 @@ module _ (lent : Yard) (h : History) (y : Yard) (made : Made lent h y) where
       → after told .total ≡ 0 ↔ ((i p : ℕ) → i < seats → seated h i ≡ true → p < pieces h → announced h i p ≡ true)
   board-right t f first page told e =
       let space = length (before page) in
-      let (x, q, g) = page-told seats h first space (ap (λ (z : Yard). step (missing first space) z .answer) f ∙ answer-right (missing first space)) (before told) (after told) (e .0) in
+      let (x, q, g) = page-told fixed h first space (ap (λ (z : Yard). step (missing first space) z .answer) f ∙ answer-right (missing first space)) (before told) (after told) (e .0) in
       Iff·trans (same-answer g) (all-loaded first space x (sym (ap (λ (z : Yard). step (missing first space) z .answer) f) ∙ q))
 
   -- ---- 14. "The scarcest piece is the smallest number among those with fewest holders."
@@ -217,5 +220,5 @@ module _ (lent : Yard) (h : History) (y : Yard) (made : Made lent h y) where
       × ((q : ℕ) → q < pieces h → count seats (λ i. seated h i && announced h i p) ≤ count seats (λ i. seated h i && announced h i q))
       × ((q : ℕ) → q < p → count seats (λ i. seated h i && announced h i p) < count seats (λ i. seated h i && announced h i q))
   scarcest-right p q =
-      let x = here (λ g z. step scarcest z .answer ≡ taken (scarce p) → Least (holders seats g) (pieces g) p) (λ a l k ok cs. demand.scarcest-right a l k lent ok cs p) q in
+      let x = here (λ g z. step scarcest z .answer ≡ taken (scarce p) → Least (holders fixed g) (pieces g) p) (λ a l k ok cs. demand.scarcest-right a l k lent ok cs p) q in
       (x .within, x .least, x .first)

@@ -8,7 +8,7 @@ use Rattle.refusal.specs.Paper.{Outcome, taken, refused}
 use Rattle.yard_tables.specs.Tables.{Said, wait, done, used, serve, dropped, seated, wrote, listed, shows, holds, heldBy, scarce}
 use Rattle.yard_tables.specs.Step.{missing}
 use Rattle.yard_tables.specs.declared.Page.{Page}
-use Rattle.yard_laws.specs.History.{History}
+use Rattle.yard_laws.specs.History.{History, Fixed}
 use Rattle.yard_laws.specs.Says.{pageOf}
 use Rattle.yard_laws.specs.Expected.{answer}
 use mathlib.Core.Logic.{_⊎_, inl, inr, _↔_, Iff·trans}
@@ -64,17 +64,17 @@ module _ {a : Outcome Said} {r : ℕ} (e : r ≡ codeOf a) (number : ℕ) (some 
   number-never f q = let x = refuses-by .0 q in f (x .0) (x .1)
 
 -- a page whose number is 0 is there
-page-there : (n : ℕ) (h : History) (first space : ℕ) → codeOf (answer n h (missing first space)) ≡ 0 → (x : Page) × (answer n h (missing first space) ≡ taken (listed x))
-page-there n h first space e = go (leb first n) e
+page-there : (fixed : Fixed) (h : History) (first space : ℕ) → codeOf (answer fixed h (missing first space)) ≡ 0 → (x : Page) × (answer fixed h (missing first space) ≡ taken (listed x))
+page-there fixed h first space e = go (leb first (fixed .seats)) e
   where
-    go : (b : Bool) → codeOf (cond b (taken (listed (pageOf n h first space))) (refused 36 0)) ≡ 0 → (x : Page) × (cond b (taken (listed (pageOf n h first space))) (refused 36 0) ≡ taken (listed x))
-    go true q = (pageOf n h first space, refl)
+    go : (b : Bool) → codeOf (cond b (taken (listed (pageOf fixed h first space))) (refused 36 0)) ≡ 0 → (x : Page) × (cond b (taken (listed (pageOf fixed h first space))) (refused 36 0) ≡ taken (listed x))
+    go true q = (pageOf fixed h first space, refl)
     go false q = absurd (omega (arith, q))
 
 -- and its record has its total
-pub page-told : (n : ℕ) (h : History) (first space : ℕ) {a : Outcome Said} → a ≡ answer n h (missing first space) → (was t : Told) → Looks a was 0 t
+pub page-told : (fixed : Fixed) (h : History) (first space : ℕ) {a : Outcome Said} → a ≡ answer fixed h (missing first space) → (was t : Told) → Looks a was 0 t
     → (x : Page) × (a ≡ taken (listed x)) × (t .total ≡ x .total)
-page-told n h first space {a} d was t e =
-    let x = page-there n h first space (sym (e .0 ∙ ap codeOf d)) in
+page-told fixed h first space {a} d was t e =
+    let x = page-there fixed h first space (sym (e .0 ∙ ap codeOf d)) in
     let q = d ∙ x .1 in
     (x .0, q, ap (λ (u : Told). u .total) (e .1 ∙ ap (λ (o : Outcome Said). toldOf o was) q))

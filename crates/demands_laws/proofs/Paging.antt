@@ -15,49 +15,49 @@ use Rattle.yard_tables.specs.Looks.{firstOr}
 use Rattle.yard_tables.specs.Tables.{listed}
 use Rattle.yard_tables.specs.Step.{missing, ifTaken}
 use Rattle.yard_tables.specs.declared.Page.{Page}
-use Rattle.yard_laws.specs.History.{History}
+use Rattle.yard_laws.specs.History.{History, Fixed}
 use Rattle.yard_laws.specs.Says.{Ascending, lacking, missingFrom, pageLines, pageOf}
 use Rattle.yard_laws.specs.Expected.{answer, output}
 use Rattle.yard_laws.proofs.Pages.{listed-lacks, lacking-listed, list-ascends}
 use Rattle.refusal.proofs.Cases.{no-way}
 
 -- the total is of all seats, whatever the page
-pub page-total : (n : ℕ) (h : History) (first space : ℕ) (x : Page) → answer n h (missing first space) ≡ taken (listed x) → x .total ≡ count n (lacking h)
-page-total n h first space x e = go (leb first n) e
+pub page-total : (fixed : Fixed) (h : History) (first space : ℕ) (x : Page) → answer fixed h (missing first space) ≡ taken (listed x) → x .total ≡ count (fixed .seats) (lacking h)
+page-total fixed h first space x e = go (leb first (fixed .seats)) e
   where
-    go : (b : Bool) → cond b (taken (listed (pageOf n h first space))) (refused 36 0) ≡ taken (listed x) → x .total ≡ count n (lacking h)
-    go true q = let d : pageOf n h first space ≡ x = cc in ap (λ (y : Page). y .total) (sym d)
+    go : (b : Bool) → cond b (taken (listed (pageOf fixed h first space))) (refused 36 0) ≡ taken (listed x) → x .total ≡ count (fixed .seats) (lacking h)
+    go true q = let d : pageOf fixed h first space ≡ x = cc in ap (λ (y : Page). y .total) (sym d)
     go false q = no-way (cc)
 
-module _ (n : ℕ) (h : History) (first : ℕ) (page out : List ℕ) (x : Page) where
+module _ (fixed : Fixed) (h : History) (first : ℕ) (page out : List ℕ) (x : Page) where
   abbrev Listed : Type 0
   Listed =
-      (x .total ≡ count n (lacking h))
-      × ((l : List ℕ) × Ascending first l × ((j : ℕ) → In j l ↔ ((first ≤ j) × (j < n) × (lacking h j ≡ true))) × (x .written ≡ min (length page) (length l))
-      × (out ≡ take (length page) l ++ drop (x .written) page) × (x .next ≡ firstOr n (drop (length page) l)))
+      (x .total ≡ count (fixed .seats) (lacking h))
+      × ((l : List ℕ) × Ascending first l × ((j : ℕ) → In j l ↔ ((first ≤ j) × (j < fixed .seats) × (lacking h j ≡ true))) × (x .written ≡ min (length page) (length l))
+      × (out ≡ take (length page) l ++ drop (x .written) page) × (x .next ≡ firstOr (fixed .seats) (drop (length page) l)))
 
   abbrev list : List ℕ
-  list = missingFrom n h first
+  list = missingFrom fixed h first
 
   stands : out ≡ sets page 0 (take (length page) list) → out ≡ take (length page) list ++ drop (length (take (length page) list)) page
   stands e =
       let z : 0 + length (take (length page) list) ≡ length (take (length page) list) = omega arith in
       e ∙ rw z at (sets-eq (take (length page) list) page 0 (omega (arith, length-take (length page) list)))
 
-  pub page-listed : answer n h (missing first (length page)) ≡ taken (listed x) → out ≡ sets page 0 (output n h (missing first (length page))) → Listed
-  page-listed e w = go (leb first n) refl e w
+  pub page-listed : answer fixed h (missing first (length page)) ≡ taken (listed x) → out ≡ sets page 0 (output fixed h (missing first (length page))) → Listed
+  page-listed e w = go (leb first (fixed .seats)) refl e w
     where
-      go : (b : Bool) → leb first n ≡ b → cond b (taken (listed (pageOf n h first (length page)))) (refused 36 0) ≡ taken (listed x)
-          → out ≡ sets page 0 (ifTaken (cond b (taken (listed (pageOf n h first (length page)))) (refused 36 0)) (pageLines n h first (length page))) → Listed
+      go : (b : Bool) → leb first (fixed .seats) ≡ b → cond b (taken (listed (pageOf fixed h first (length page)))) (refused 36 0) ≡ taken (listed x)
+          → out ≡ sets page 0 (ifTaken (cond b (taken (listed (pageOf fixed h first (length page)))) (refused 36 0)) (pageLines fixed h first (length page))) → Listed
       go true t q v =
-          let l = leb-true first n t in
-          let d : pageOf n h first (length page) ≡ x = cc in
+          let l = leb-true first (fixed .seats) t in
+          let d : pageOf fixed h first (length page) ≡ x = cc in
           let k : x .written ≡ length (take (length page) list) = ap (λ (y : Page). y .written) (sym d) in (
-            page-total n h first (length page) x e,
+            page-total fixed h first (length page) x e,
             (
               list,
-              list-ascends n h first l,
-              λ j. (listed-lacks n h first l j, λ (a, b, c). lacking-listed n h first l j a b c),
+              list-ascends fixed h first l,
+              λ j. (listed-lacks fixed h first l j, λ (a, b, c). lacking-listed fixed h first l j a b c),
               k ∙ length-take (length page) list,
               stands v ∙ ap (λ (i : ℕ). take (length page) list ++ drop i page) (sym k),
               ap (λ (y : Page). y .next) (sym d),

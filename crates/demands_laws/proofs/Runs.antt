@@ -8,8 +8,8 @@ use Rattle.yard_tables.specs.Tables.{Yard, Said, done, Out, sizesFit, wait}
 use Rattle.yard_tables.specs.Seating.{startOf, emptied}
 use Rattle.yard_tables.specs.Step.{Call, start, step, ifTaken, written, sit, feed}
 use Rattle.yard_telling.specs.Telling.{codeOf}
-use Rattle.yard_laws.specs.History.{History, entry, pieces}
-use Rattle.yard_laws.specs.Run.{State, Accepted, next, run, after, calls}
+use Rattle.yard_laws.specs.History.{History, Fixed, entry, pieces}
+use Rattle.yard_laws.specs.Run.{State, Accepted, fixedBy, next, run, after, calls}
 use Rattle.yard_laws.proofs.Theorem.{accepted-exactly, calls-are}
 use Rattle.refusal.specs.Numbers.{sizes}
 use Rattle.yard_tables.specs.Rows.{width}
@@ -76,30 +76,30 @@ goes-on lent h y c z b e = record {
 -- ---- so what is so of every run is so of this one
 
 module _ (lent : Yard) (h : History) (y : Yard) (m : Run lent h y) where
-  abbrev n : ℕ
-  n = length (lent .seats)
+  abbrev fixed : Fixed
+  fixed = fixedBy lent
 
   pub here : (P : History → Yard → Type 0) → ((p l k : ℕ) → Accepted p l k lent → (cs : List Call) → P (after p l k lent cs .past) (after p l k lent cs .yard)) → P h y
   here P f = subst (λ (s : State). P (s .past) (s .yard)) (m .is) (f (m .pieces) (m .piece-length) (m .last-length) (m .accepted) (m .calls))
 
   module _ (c : Call) where
-    fair : (number place : ℕ) → step c y .answer ≡ refused number place ↔ (Cause n h c number × (place ≡ 0))
-    fair number place = here (λ g z. step c z .answer ≡ refused number place ↔ (Cause n g c number × (place ≡ 0))) (λ p l k ok cs. demand.fair p l k lent ok cs c number place)
+    fair : (number place : ℕ) → step c y .answer ≡ refused number place ↔ (Cause fixed h c number × (place ≡ 0))
+    fair number place = here (λ g z. step c z .answer ≡ refused number place ↔ (Cause fixed g c number × (place ≡ 0))) (λ p l k ok cs. demand.fair p l k lent ok cs c number place)
 
     -- a number exactly for what One/Numbers.antt says of it
-    pub given : (number place : ℕ) → step c y .answer ≡ refused number place ↔ (At n h c number × (place ≡ 0))
-    given number place = Iff·trans (fair number place) (exactly n h c number place)
+    pub given : (number place : ℕ) → step c y .answer ≡ refused number place ↔ (At fixed h c number × (place ≡ 0))
+    given number place = Iff·trans (fair number place) (exactly fixed h c number place)
 
     pub given-one-of : (number place : ℕ) → step c y .answer ≡ refused number place → In number (20 ∷ 21 ∷ 30 ∷ 31 ∷ 32 ∷ 33 ∷ 34 ∷ 35 ∷ 36 ∷ 37 ∷ 38 ∷ [])
-    given-one-of number place e = one-of n h c number (fair number place .0 e .0)
+    given-one-of number place e = one-of fixed h c number (fair number place .0 e .0)
 
     pub undamaged : (place : ℕ) → step c y .answer ≡ refused 39 place → ⊥
     undamaged = here (λ g z. (place : ℕ) → step c z .answer ≡ refused 39 place → ⊥) (λ p l k ok cs. demand.never-damaged p l k lent ok cs c)
 
-    pub waits : step c y .answer ≡ taken wait ↔ ((i : ℕ) × (s : List ℕ) × (c ≡ feed i s) × Sits n h i × (Few s ⊎ Cut s))
-    waits = Iff·trans (here (λ g z. step c z .answer ≡ taken wait ↔ WaitCause n g c) (λ p l k ok cs. demand.fair-wait p l k lent ok cs c)) (go c, λ q. subst (WaitCause n h) (sym (q .2)) (cut-off (q .0) (q .1) (q .3) (q .4)))
+    pub waits : step c y .answer ≡ taken wait ↔ ((i : ℕ) × (s : List ℕ) × (c ≡ feed i s) × Sits fixed h i × (Few s ⊎ Cut s))
+    waits = Iff·trans (here (λ g z. step c z .answer ≡ taken wait ↔ WaitCause fixed g c) (λ p l k ok cs. demand.fair-wait p l k lent ok cs c)) (go c, λ q. subst (WaitCause fixed h) (sym (q .2)) (cut-off (q .0) (q .1) (q .3) (q .4)))
       where
-        go : (c : Call) → WaitCause n h c → (i : ℕ) × (s : List ℕ) × (c ≡ feed i s) × Sits n h i × (Few s ⊎ Cut s)
+        go : (c : Call) → WaitCause fixed h c → (i : ℕ) × (s : List ℕ) × (c ≡ feed i s) × Sits fixed h i × (Few s ⊎ Cut s)
         go c (cut-off i s g w) = (i, s, refl, g, w)
 
 -- ---- and the tables have the sizes that the head says
@@ -158,7 +158,7 @@ unfolding next
 made-calls lent h y r = ap (λ (s : State). calls (s .past) []) (sym (r .is)) ∙ calls-are (r .calls) (next (start (r .pieces) (r .piece-length) (r .last-length)) (record { past = []; yard = lent }))
 
 -- two runs with the same history, on tables of as many seats, have the same tables, byte for byte
-pub run-same : (lent other : Yard) (h : History) (y z : Yard) → length (lent .seats) ≡ length (other .seats) → Run lent h y → Run other h z → y ≡ z
+pub run-same : (lent other : Yard) (h : History) (y z : Yard) → fixedBy lent ≡ fixedBy other → Run lent h y → Run other h z → y ≡ z
 run-same lent other h y z e a b =
     let made : calls h [] ≡ start (a .pieces) (a .piece-length) (a .last-length) ∷ a .calls = made-calls lent h y a in
     let again : calls h [] ≡ start (b .pieces) (b .piece-length) (b .last-length) ∷ b .calls = made-calls other h z b in
@@ -176,6 +176,6 @@ run-same lent other h y z e a b =
         let v′ : after p l k other cs ≡ record { past = h; yard = z } = rw (pq, lm, kj, cd) v in
         let first : next (start p l k) (record { past = []; yard = lent }) ≡ next (start p l k) (record { past = []; yard = other }) =
         start-state p l k lent f
-        ∙ ap (λ (x : Yard). record { past = entry (start p l k) (taken done) [] ∷ []; yard = x }) (empty-same p l k lent other e f g′)
+        ∙ ap (λ (x : Yard). record { past = entry (start p l k) (taken done) [] ∷ []; yard = x }) (empty-same p l k lent other (ap (λ (x : Fixed). x .seats) e) f g′)
         ∙ sym (start-state p l k other g′) in
         ap (λ (s : State). s .yard) (sym u ∙ ap (run cs) first ∙ v′)

@@ -17,17 +17,17 @@ use Rattle.yard_tables.specs.Tables.{Yard, Around, Turn, Out, around, yardOf, s
 use Rattle.yard_tables.specs.declared.Head.{Head}
 use Rattle.yard_tables.specs.declared.Seat.{Seat}
 use Rattle.yard_tables.proofs.Counts.{count-ext, count-change}
-use Rattle.yard_laws.specs.History.{Entry, History, Event, nothing, event, seated, announced, fresh, weAreChoking, weAreInterested, theyAreChoking, theyAreInterested, pieces, Sizes, sizesSet, sizesWith, seatedBy, announcedBy, freshBy, chokingBy, wantingBy, chokedBy, wantedBy}
+use Rattle.yard_laws.specs.History.{Entry, History, Fixed, Event, nothing, event, seated, announced, fresh, weAreChoking, weAreInterested, theyAreChoking, theyAreInterested, pieces, Sizes, sizesSet, sizesWith, seatedBy, announcedBy, freshBy, chokingBy, wantingBy, chokedBy, wantedBy}
 use Rattle.yard_laws.specs.Says.{hasPiece, held, loaded, recordOf, holders, takenSeats, completeSeats, headOf}
 
--- the tables y of n seats agree with the history h
-pub record Agrees (n : ℕ) (h : History) (y : Yard) : Type 0 where
-  pub seats-len : length (y .seats) ≡ n
-  pub fits : sizesFit (y .head) n (length (y .rows)) (length (y .holders)) ≡ true
-  pub head-is : y .head ≡ headOf n h
+-- the tables y agree with the history h
+pub record Agrees (fixed : Fixed) (h : History) (y : Yard) : Type 0 where
+  pub seats-len : length (y .seats) ≡ fixed .seats
+  pub fits : sizesFit (y .head) (fixed .seats) (length (y .rows)) (length (y .holders)) ≡ true
+  pub head-is : y .head ≡ headOf fixed h
   pub seat-is : (i : ℕ) → getD (y .seats) i cleared ≡ recordOf h i
-  pub row-is : (i p : ℕ) → i < n → p < pieces h → hasIn (width (pieces h)) (y .rows) i p ≡ hasPiece h i p
-  pub holders-is : (p : ℕ) → p < pieces h → getD (y .holders) p 0 ≡ holders n h p
+  pub row-is : (i p : ℕ) → i < fixed .seats → p < pieces h → hasIn (width (pieces h)) (y .rows) i p ≡ hasPiece h i p
+  pub holders-is : (p : ℕ) → p < pieces h → getD (y .holders) p 0 ≡ holders fixed h p
 
 -- ---- what an event makes of seat i, by the history before it
 
@@ -89,61 +89,64 @@ module _ (h : History) (e : Entry) (same : (z : Sizes) → sizesWith e z ≡ z) 
 
 -- ---- a call that changes one seat: the counts go with what the seat has
 
-module _ (n : ℕ) (h : History) (y : Yard) (agrees : Agrees n h y) where
+module _ (fixed : Fixed) (h : History) (y : Yard) (agrees : Agrees fixed h y) where
+  abbrev n : ℕ
+  n = fixed .seats
+
   -- the seat i taken out, as the history says it is
   abbrev pub at : ℕ → Around
-  at i = around (headOf n h) (recordOf h i) (y .rows) (y .holders)
+  at i = around (headOf fixed h) (recordOf h i) (y .rows) (y .holders)
 
   abbrev pub putBack : ℕ → Turn → Out
   putBack i t = record { answer = t .answer; yard = record { head = t .after .head; seats = set (y .seats) i (t .after .seat); rows = t .after .rows; holders = t .after .holders } }
 
   pub record Becomes (v : Event) (i : ℕ) (x : Around) : Type 0 where
-    pub head-by : x .head ≡ counted (x .head .taken) (x .head .complete) (headOf n h)
-    pub taken-by : x .head .taken + bit (seated h i) ≡ takenSeats n h + bit (seatedBy v (seated h i))
-    pub complete-by : x .head .complete + bit (loaded h i) ≡ completeSeats n h + bit (loadedThen v h i)
+    pub head-by : x .head ≡ counted (x .head .taken) (x .head .complete) (headOf fixed h)
+    pub taken-by : x .head .taken + bit (seated h i) ≡ takenSeats fixed h + bit (seatedBy v (seated h i))
+    pub complete-by : x .head .complete + bit (loaded h i) ≡ completeSeats fixed h + bit (loadedThen v h i)
     pub seat-by : x .seat ≡ recordThen v h i
     pub rows-len : length (x .rows) ≡ length (y .rows)
     pub row-here : (p : ℕ) → p < pieces h → hasIn (width (pieces h)) (x .rows) i p ≡ hasThen v h i p
     pub row-other : (j p : ℕ) → j ≢ i → p < pieces h → hasIn (width (pieces h)) (x .rows) j p ≡ hasIn (width (pieces h)) (y .rows) j p
     pub holders-len : length (x .holders) ≡ length (y .holders)
-    pub holders-by : (p : ℕ) → p < pieces h → getD (x .holders) p 0 + bit (hasPiece h i p) ≡ holders n h p + bit (hasThen v h i p)
+    pub holders-by : (p : ℕ) → p < pieces h → getD (x .holders) p 0 + bit (hasPiece h i p) ≡ holders fixed h p + bit (hasThen v h i p)
 
   -- the same sizes, whatever is counted
-  pub counted-fits : (t c : ℕ) → sizesFit (counted t c (headOf n h)) n (length (y .rows)) (length (y .holders)) ≡ true
+  pub counted-fits : (t c : ℕ) → sizesFit (counted t c (headOf fixed h)) n (length (y .rows)) (length (y .holders)) ≡ true
   unfolding sizesFit
   counted-fits t c = ap (λ (k : Head). sizesFit k n (length (y .rows)) (length (y .holders))) (sym (agrees .head-is)) ∙ agrees .fits
 
-  sized-head : (e : Entry) → ((z : Sizes) → sizesWith e z ≡ z) → (t c : ℕ) → t ≡ takenSeats n (e ∷ h) → c ≡ completeSeats n (e ∷ h)
-      → counted t c (headOf n h) ≡ headOf n (e ∷ h)
+  sized-head : (e : Entry) → ((z : Sizes) → sizesWith e z ≡ z) → (t c : ℕ) → t ≡ takenSeats fixed (e ∷ h) → c ≡ completeSeats fixed (e ∷ h)
+      → counted t c (headOf fixed h) ≡ headOf fixed (e ∷ h)
   sized-head e same t c p q =
       ap (λ (z : Sizes). headBy z t c) (sym (same (sizesSet h)))
       ∙ ap (λ (k : ℕ). headBy (sizesSet (e ∷ h)) k c) p
-      ∙ ap (λ (k : ℕ). headBy (sizesSet (e ∷ h)) (takenSeats n (e ∷ h)) k) q
+      ∙ ap (λ (k : ℕ). headBy (sizesSet (e ∷ h)) (takenSeats fixed (e ∷ h)) k) q
 
   module _ (e : Entry) (i : ℕ) (v : Event) (l : i < n) (one : One e i v) where
-    taken-then : takenSeats n (e ∷ h) + bit (seated h i) ≡ takenSeats n h + bit (seatedBy v (seated h i))
+    taken-then : takenSeats fixed (e ∷ h) + bit (seated h i) ≡ takenSeats fixed h + bit (seatedBy v (seated h i))
     taken-then =
         let a = count-change (seated h) (seated (e ∷ h)) n i l (λ j q d. seated-then h e (one .sizes-same) j nothing (one .others j d)) in
         omega (arith, a, ap bit (seated-then h e (one .sizes-same) i v (one .here)))
 
-    complete-then : completeSeats n (e ∷ h) + bit (loaded h i) ≡ completeSeats n h + bit (loadedThen v h i)
+    complete-then : completeSeats fixed (e ∷ h) + bit (loaded h i) ≡ completeSeats fixed h + bit (loadedThen v h i)
     complete-then =
         let a = count-change (loaded h) (loaded (e ∷ h)) n i l (λ j q d. loaded-then h e (one .sizes-same) j nothing (one .others j d)) in
         omega (arith, a, ap bit (loaded-then h e (one .sizes-same) i v (one .here)))
 
-    holders-then : (p : ℕ) → holders n (e ∷ h) p + bit (hasPiece h i p) ≡ holders n h p + bit (hasThen v h i p)
+    holders-then : (p : ℕ) → holders fixed (e ∷ h) p + bit (hasPiece h i p) ≡ holders fixed h p + bit (hasThen v h i p)
     holders-then p =
         let a = count-change (λ j. hasPiece h j p) (λ j. hasPiece (e ∷ h) j p) n i l (λ j q d. has-then h e (one .sizes-same) j nothing (one .others j d) p) in
         omega (arith, a, ap bit (has-then h e (one .sizes-same) i v (one .here) p))
 
-    pub change-agrees : (x : Around) → Becomes v i x → Agrees n (e ∷ h) (yardOf (x .head) (set (y .seats) i (x .seat)) (x .rows) (x .holders))
+    pub change-agrees : (x : Around) → Becomes v i x → Agrees fixed (e ∷ h) (yardOf (x .head) (set (y .seats) i (x .seat)) (x .rows) (x .holders))
     change-agrees x b =
-        let a : x .head .taken ≡ takenSeats n (e ∷ h) = omega (arith, b .taken-by, taken-then) in
-        let c : x .head .complete ≡ completeSeats n (e ∷ h) = omega (arith, b .complete-by, complete-then) in
+        let a : x .head .taken ≡ takenSeats fixed (e ∷ h) = omega (arith, b .taken-by, taken-then) in
+        let c : x .head .complete ≡ completeSeats fixed (e ∷ h) = omega (arith, b .complete-by, complete-then) in
         record {
           seats-len = length-set (y .seats) i _ ∙ agrees .seats-len;
           fits = ap (λ (k : Head). sizesFit k n (length (x .rows)) (length (x .holders))) (b .head-by)
-              ∙ ap₂ (λ (r s : ℕ). sizesFit (counted (x .head .taken) (x .head .complete) (headOf n h)) n r s) (b .rows-len) (b .holders-len)
+              ∙ ap₂ (λ (r s : ℕ). sizesFit (counted (x .head .taken) (x .head .complete) (headOf fixed h)) n r s) (b .rows-len) (b .holders-len)
               ∙ counted-fits (x .head .taken) (x .head .complete);
           head-is = b .head-by ∙ sized-head e (one .sizes-same) (x .head .taken) (x .head .complete) a c;
           seat-is = λ j. same-or j i
@@ -157,12 +160,12 @@ module _ (n : ℕ) (h : History) (y : Yard) (agrees : Agrees n h y) where
 
   -- a call that means nothing for any seat
   module _ (e : Entry) (none : (j : ℕ) → event j e ≡ nothing) (same : (z : Sizes) → sizesWith e z ≡ z) where
-    pub quiet-agrees : Agrees n (e ∷ h) y
+    pub quiet-agrees : Agrees fixed (e ∷ h) y
     quiet-agrees = record {
       seats-len = agrees .seats-len;
       fits = agrees .fits;
       head-is = agrees .head-is
-          ∙ sized-head e same (takenSeats n h) (completeSeats n h)
+          ∙ sized-head e same (takenSeats fixed h) (completeSeats fixed h)
           (count-ext (seated h) (seated (e ∷ h)) n (λ j l. sym (seated-then h e same j nothing (none j))))
           (count-ext (loaded h) (loaded (e ∷ h)) n (λ j l. sym (loaded-then h e same j nothing (none j))));
       seat-is = λ j. agrees .seat-is j ∙ sym (record-then h e same j nothing (none j));
@@ -172,8 +175,8 @@ module _ (n : ℕ) (h : History) (y : Yard) (agrees : Agrees n h y) where
     }
 
     -- and the seat is put back as it was
-    pub quiet-back : (i : ℕ) → Agrees n (e ∷ h) (yardOf (headOf n h) (set (y .seats) i (recordOf h i)) (y .rows) (y .holders))
-    quiet-back i = subst (Agrees n (e ∷ h))
+    pub quiet-back : (i : ℕ) → Agrees fixed (e ∷ h) (yardOf (headOf fixed h) (set (y .seats) i (recordOf h i)) (y .rows) (y .holders))
+    quiet-back i = subst (Agrees fixed (e ∷ h))
         (ap (λ (k : Head). yardOf k (y .seats) (y .rows) (y .holders)) (agrees .head-is)
-        ∙ ap (λ (l : List Seat). yardOf (headOf n h) l (y .rows) (y .holders)) (sym (ap (set (y .seats) i) (sym (agrees .seat-is i)) ∙ set-getD (y .seats) i cleared)))
+        ∙ ap (λ (l : List Seat). yardOf (headOf fixed h) l (y .rows) (y .holders)) (sym (ap (set (y .seats) i) (sym (agrees .seat-is i)) ∙ set-getD (y .seats) i cleared)))
         quiet-agrees

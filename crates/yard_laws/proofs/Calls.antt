@@ -34,10 +34,10 @@ use Rattle.yard_tables.proofs.Counts.{count-ext, count-none, count-le, count-ha
 use Rattle.yard_tables.proofs.Rows.{bit-here, bit-other, bits-here, bits-other, none-here, none-other}
 use Rattle.yard_tables.proofs.Sizing.{Fitting, fitting}
 use Rattle.yard_tables.proofs.Sweeps.{length-each, getD-each}
-use Rattle.yard_laws.specs.History.{History, entry, Event, nothing, came, gone, heard, weChoke, weWant, event, announces, seated, announced, fresh, pieces, Sizes, sizesWith, seatedBy}
+use Rattle.yard_laws.specs.History.{History, Fixed, entry, Event, nothing, came, gone, heard, weChoke, weWant, event, announces, seated, announced, fresh, pieces, Sizes, sizesWith, seatedBy}
 use Rattle.yard_laws.specs.Says.{hasPiece, held, loaded, recordOf, holders, takenSeats, completeSeats, headOf}
 use Rattle.torrent_blocks.specs.Answers.{lies}
-use Rattle.yard_laws.specs.View.{byHistory, lengthOf}
+use Rattle.yard_laws.specs.View.{byHistory}
 use Rattle.yard_laws.specs.Expected.{no, sitsBy, blockBy, requestBy, messageBy, frameBy, markBy}
 use Rattle.yard_laws.proofs.Agreeing.{Agrees, One, Becomes, at, putBack, hasThen, heldThen, loadedThen, recordThen, change-agrees, quiet-back, counted-fits}
 
@@ -62,44 +62,47 @@ not-bit false e = refl
 
 -- ---- one seat
 
-module _ (n : ℕ) (h : History) (y : Yard) (agrees : Agrees n h y) where
+module _ (fixed : Fixed) (h : History) (y : Yard) (agrees : Agrees fixed h y) where
+  abbrev n : ℕ
+  n = fixed .seats
+
   -- what a call c at seat i may come to: nothing happens, or an event at that seat
   pub data Good (c : Call) (w : List ℕ) (i : ℕ) : Turn → Outcome Said → Type 0 where
     unchanged : (a : Outcome Said) → ((j : ℕ) → event j (entry c a w) ≡ nothing) → ((z : Sizes) → sizesWith (entry c a w) z ≡ z)
-        → Good c w i (record { answer = a; after = at n h y agrees i }) a
-    changed : (v : Event) (a : Outcome Said) (x : Around) → i < n → One (entry c a w) i v → Becomes n h y agrees v i x → Good c w i (record { answer = a; after = x }) a
+        → Good c w i (record { answer = a; after = at fixed h y agrees i }) a
+    changed : (v : Event) (a : Outcome Said) (x : Around) → i < n → One (entry c a w) i v → Becomes fixed h y agrees v i x → Good c w i (record { answer = a; after = x }) a
 
   -- the answer is the one that the history says, and the tables agree with the history then
   abbrev pub Kept : Call → List ℕ → Out → Outcome Said → Type 0
-  Kept c w o e = (o .answer ≡ e) × Agrees n (entry c (o .answer) w ∷ h) (o .yard)
+  Kept c w o e = (o .answer ≡ e) × Agrees fixed (entry c (o .answer) w ∷ h) (o .yard)
 
-  kept : (c : Call) (w : List ℕ) (i : ℕ) (t : Turn) (e : Outcome Said) → Good c w i t e → Kept c w (putBack n h y agrees i t) e
-  kept c w i t e (unchanged a q s) = (refl, quiet-back n h y agrees (entry c a w) q s i)
-  kept c w i t e (changed v a x l one b) = (refl, change-agrees n h y agrees (entry c a w) i v l one x b)
+  kept : (c : Call) (w : List ℕ) (i : ℕ) (t : Turn) (e : Outcome Said) → Good c w i t e → Kept c w (putBack fixed h y agrees i t) e
+  kept c w i t e (unchanged a q s) = (refl, quiet-back fixed h y agrees (entry c a w) q s i)
+  kept c w i t e (changed v a x l one b) = (refl, change-agrees fixed h y agrees (entry c a w) i v l one x b)
 
-  pub lift : (c : Call) (w : List ℕ) (i : ℕ) (f : ℕ → Around → Turn) (e : Outcome Said) → Good c w i (f n (at n h y agrees i)) e → Kept c w (atSeat i f y) e
-  lift c w i f e g = subst (λ (t : Turn). Kept c w (putBack n h y agrees i t) e)
+  pub lift : (c : Call) (w : List ℕ) (i : ℕ) (f : ℕ → Around → Turn) (e : Outcome Said) → Good c w i (f n (at fixed h y agrees i)) e → Kept c w (atSeat i f y) e
+  lift c w i f e g = subst (λ (t : Turn). Kept c w (putBack fixed h y agrees i t) e)
       (sym (ap (λ (m : ℕ). f m (around (y .head) (getD (y .seats) i cleared) (y .rows) (y .holders))) (agrees .seats-len)
       ∙ ap (λ (k : Head). f n (around k (getD (y .seats) i cleared) (y .rows) (y .holders))) (agrees .head-is)
-      ∙ ap (λ (s : Seat). f n (around (headOf n h) s (y .rows) (y .holders))) (agrees .seat-is i)))
+      ∙ ap (λ (s : Seat). f n (around (headOf fixed h) s (y .rows) (y .holders))) (agrees .seat-is i)))
       (kept c w i _ e g)
 
-  pub refuses : (c : Call) (w : List ℕ) (i number : ℕ) → Good c w i (refuse number (at n h y agrees i)) (no number)
+  pub refuses : (c : Call) (w : List ℕ) (i number : ℕ) → Good c w i (refuse number (at fixed h y agrees i)) (no number)
   unfolding event sizesWith
   refuses c w i number = unchanged (refused number 0) (λ j. refl) (λ z. refl)
 
-  fits-here : sizesFit (headOf n h) n (length (y .rows)) (length (y .holders)) ≡ true
-  fits-here = counted-fits n h y agrees (takenSeats n h) (completeSeats n h)
+  fits-here : sizesFit (headOf fixed h) n (length (y .rows)) (length (y .holders)) ≡ true
+  fits-here = counted-fits fixed h y agrees (takenSeats fixed h) (completeSeats fixed h)
 
-  pub sizes-here : Fitting (headOf n h) n (length (y .rows)) (length (y .holders))
-  sizes-here = fitting (headOf n h) n (length (y .rows)) (length (y .holders)) fits-here
+  pub sizes-here : Fitting (headOf fixed h) n (length (y .rows)) (length (y .holders))
+  sizes-here = fitting (headOf fixed h) n (length (y .rows)) (length (y .holders)) fits-here
 
-  pub sized-good : (c : Call) (w : List ℕ) (i : ℕ) (t : Turn) (e : Outcome Said) → Good c w i t e → Good c w i (sized n (at n h y agrees i) t) e
-  sized-good c w i t e g = by-test (λ (u : Turn). Good c w i u e) (sizesFit (headOf n h) n (length (y .rows)) (length (y .holders))) (λ p. g) (λ p. cannot _ p fits-here)
+  pub sized-good : (c : Call) (w : List ℕ) (i : ℕ) (t : Turn) (e : Outcome Said) → Good c w i t e → Good c w i (sized n (at fixed h y agrees i) t) e
+  sized-good c w i t e g = by-test (λ (u : Turn). Good c w i u e) (sizesFit (headOf fixed h) n (length (y .rows)) (length (y .holders))) (λ p. g) (λ p. cannot _ p fits-here)
 
   sitting-good : (c : Call) (w : List ℕ) (i : ℕ) (t : Turn) (e : Outcome Said) → (i < n → seated h i ≡ true → Good c w i t e)
-      → Good c w i (sitting i n (at n h y agrees i) t) (cond (sitsBy (byHistory n h) i) e (no seat))
-  sitting-good c w i t e g = by-same (Good c w i) (sitsBy (byHistory n h) i)
+      → Good c w i (sitting i n (at fixed h y agrees i) t) (cond (sitsBy (byHistory fixed h) i) e (no seat))
+  sitting-good c w i t e g = by-same (Good c w i) (sitsBy (byHistory fixed h) i)
       (λ p. let k = and-eq-true-iff (ltb i n) (seated h i) .0 p in g (ltb-true i n (k .0)) (k .1))
       (λ p. refuses c w i seat)
 
@@ -112,13 +115,13 @@ module _ (n : ℕ) (h : History) (y : Yard) (agrees : Agrees n h y) where
 
   -- ---- an event that leaves who sits there, and what he has
   steady : (v : Event) (i : ℕ) (s : Seat) → i < n → seatedBy v (seated h i) ≡ seated h i → ((p : ℕ) → hasThen v h i p ≡ hasPiece h i p)
-      → s ≡ holding (held h i) (recordThen v h i) → Becomes n h y agrees v i (around (headOf n h) s (y .rows) (y .holders))
+      → s ≡ holding (held h i) (recordThen v h i) → Becomes fixed h y agrees v i (around (headOf fixed h) s (y .rows) (y .holders))
   steady v i s l a b e =
       let k : held h i ≡ heldThen v h i = count-ext (hasPiece h i) (hasThen v h i) (pieces h) (λ p q. sym (b p)) in
       record {
         head-by = refl;
-        taken-by = ap (λ (t : Bool). takenSeats n h + bit t) (sym a);
-        complete-by = ap (λ (t : Bool). completeSeats n h + bit t) (ap₂ (λ (t : Bool) (m : ℕ). t && eqb m (pieces h)) (sym a) k);
+        taken-by = ap (λ (t : Bool). takenSeats fixed h + bit t) (sym a);
+        complete-by = ap (λ (t : Bool). completeSeats fixed h + bit t) (ap₂ (λ (t : Bool) (m : ℕ). t && eqb m (pieces h)) (sym a) k);
         seat-by = e ∙ ap (λ (m : ℕ). holding m (recordThen v h i)) k;
         rows-len = refl;
         row-here = λ p q. agrees .row-is i p l q ∙ sym (b p);
@@ -130,10 +133,10 @@ module _ (n : ℕ) (h : History) (y : Yard) (agrees : Agrees n h y) where
   -- ---- a truck announces pieces, by a have or a bitfield
   module _ (m : Message (List ℕ)) (i : ℕ) (l : i < n) (sat : seated h i ≡ true) where
     abbrev new : ℕ → Bool
-    new = isNew i (announces m) (at n h y agrees i)
+    new = isNew i (announces m) (at fixed h y agrees i)
 
     abbrev more-pieces : ℕ
-    more-pieces = gain i (announces m) (at n h y agrees i)
+    more-pieces = gain i (announces m) (at fixed h y agrees i)
 
     new-is : (p : ℕ) → p < pieces h → new p ≡ (announces m p && not (hasPiece h i p))
     new-is p q = ap (λ (b : Bool). announces m p && not b) (agrees .row-is i p l q)
@@ -149,25 +152,25 @@ module _ (n : ℕ) (h : History) (y : Yard) (agrees : Agrees n h y) where
     held-top = omega (arith, held-more, count-le (hasThen (heard m) h i) (pieces h))
 
     -- with a new piece it had not all of them
-    unloaded : completes i (announces m) (at n h y agrees i) ≡ true → bit (loaded h i) ≡ 0
+    unloaded : completes i (announces m) (at fixed h y agrees i) ≡ true → bit (loaded h i) ≡ 0
     unloaded e =
         let k = and-eq-true-iff (ltb 0 more-pieces) (eqb (held h i + more-pieces) (pieces h)) .0 e in
         let a : 0 < more-pieces = ltb-true 0 more-pieces (k .0) in
         let b : held h i + more-pieces ≡ pieces h = eqb-true (held h i + more-pieces) (pieces h) (k .1) in
         ap bit (loaded-seated i sat ∙ ne-eqb (held h i) (pieces h) (λ q. omega arith))
 
-    below-top : overTop n i (announces m) (at n h y agrees i) ≡ false
+    below-top : overTop n i (announces m) (at fixed h y agrees i) ≡ false
     unfolding overTop
     below-top =
         or-none _ _
         (and-not (ltb 0 more-pieces) _ (λ a. le-ltb (pieces h) (held h i + more-pieces) held-top))
         (or-none _ _
-        (and-not (completes i (announces m) (at n h y agrees i)) _ (λ a. lt-leb n (completeSeats n h) (omega (arith, unloaded a, count-lacks (loaded h) n i l))))
+        (and-not (completes i (announces m) (at fixed h y agrees i)) _ (λ a. lt-leb n (completeSeats fixed h) (omega (arith, unloaded a, count-lacks (loaded h) n i l))))
         (some-none _ (pieces h) (λ p q. and-not (new p) _ (λ a.
         let k : not (hasPiece h i p) ≡ true = and-eq-true-iff (announces m p) (not (hasPiece h i p)) .0 (sym (new-is p q) ∙ a) .1 in
         lt-leb n (getD (y .holders) p 0) (omega (arith, agrees .holders-is p q, not-bit (hasPiece h i p) k, count-lacks (λ j. hasPiece h j p) n i l))))))
 
-    completes-is : bit (completes i (announces m) (at n h y agrees i)) + bit (loaded h i) ≡ bit (loadedThen (heard m) h i)
+    completes-is : bit (completes i (announces m) (at fixed h y agrees i)) + bit (loaded h i) ≡ bit (loadedThen (heard m) h i)
     completes-is = rw (sat, ← held-more) (go (held h i) more-pieces held-top)
       where
         go : (a b : ℕ) → a + b ≤ pieces h → bit (ltb 0 b && eqb (a + b) (pieces h)) + bit (eqb a (pieces h)) ≡ bit (eqb (a + b) (pieces h))
@@ -179,11 +182,11 @@ module _ (n : ℕ) (h : History) (y : Yard) (agrees : Agrees n h y) where
         → length rows ≡ length (y .rows)
         → ((p : ℕ) → p < pieces h → hasIn (width (pieces h)) rows i p ≡ (hasIn (width (pieces h)) (y .rows) i p || announces m p))
         → ((j p : ℕ) → j ≢ i → p < pieces h → hasIn (width (pieces h)) rows j p ≡ hasIn (width (pieces h)) (y .rows) j p)
-        → Good c w i (announce n i bytes (announces m) rows (at n h y agrees i)) (taken (used bytes))
+        → Good c w i (announce n i bytes (announces m) rows (at fixed h y agrees i)) (taken (used bytes))
     unfolding announcedIn
-    announced-good c w bytes rows one marks size here others = by-test (λ (t : Turn). Good c w i t (taken (used bytes))) (overTop n i (announces m) (at n h y agrees i))
+    announced-good c w bytes rows one marks size here others = by-test (λ (t : Turn). Good c w i t (taken (used bytes))) (overTop n i (announces m) (at fixed h y agrees i))
         (λ a. cannot _ below-top a)
-        (λ a. changed (heard m) (taken (used bytes)) (announcedIn i (announces m) rows (at n h y agrees i)) l one record {
+        (λ a. changed (heard m) (taken (used bytes)) (announcedIn i (announces m) rows (at fixed h y agrees i)) l one record {
           head-by = refl;
           taken-by = refl;
           complete-by = omega (arith, completes-is);
@@ -213,20 +216,20 @@ module _ (n : ℕ) (h : History) (y : Yard) (agrees : Agrees n h y) where
   module _ (c : Call) (w : List ℕ) (i : ℕ) (l : i < n) (sat : seated h i ≡ true) (bytes : ℕ) where
     -- a message that announces nothing
     silent : (m : Message (List ℕ)) (s : Seat) (a : Said) → One (entry c (taken a) w) i (heard m) → ((p : ℕ) → announces m p ≡ false)
-        → s ≡ holding (held h i) (recordThen (heard m) h i) → Good c w i (says a (around (headOf n h) s (y .rows) (y .holders))) (taken a)
+        → s ≡ holding (held h i) (recordThen (heard m) h i) → Good c w i (says a (around (headOf fixed h) s (y .rows) (y .holders))) (taken a)
     silent m s a one none marks = changed (heard m) (taken a) _ l one
         (steady (heard m) i s l refl (λ p. rw (none p) (ap (λ (b : Bool). seated h i && b) (or-first (announced h i p) false refl))) marks)
 
     block-good : (m : Message (List ℕ)) (p b k : ℕ) (a : Said) → One (entry c (taken a) w) i (heard m) → ((p : ℕ) → announces m p ≡ false)
         → spoken (recordOf h i) ≡ holding (held h i) (recordThen (heard m) h i)
-        → Good c w i (blockOf p b k a (at n h y agrees i)) (blockBy (byHistory n h) p b k a)
+        → Good c w i (blockOf p b k a (at fixed h y agrees i)) (blockBy (byHistory fixed h) p b k a)
     unfolding blockOf
     block-good m p b k a one none marks = by-same (Good c w i) (ltb p (pieces h))
-        (λ _. by-same (Good c w i) (lies (lengthOf h p) b k) (λ _. silent m (spoken (recordOf h i)) a one none marks) (λ _. refuses c w i outside))
+        (λ _. by-same (Good c w i) (lies (byHistory fixed h .longs p) b k) (λ _. silent m (spoken (recordOf h i)) a one none marks) (λ _. refuses c w i outside))
         (λ _. refuses c w i beyond)
 
     message-good : (m : Message (List ℕ)) → ((a : Said) → One (entry c (taken a) w) i (heard m))
-        → Good c w i (messageOf n i bytes m (at n h y agrees i)) (messageBy (byHistory n h) i bytes m)
+        → Good c w i (messageOf n i bytes m (at fixed h y agrees i)) (messageBy (byHistory fixed h) i bytes m)
     unfolding messageOf haveOf bitfieldOf
     message-good keepalive one = silent keepalive _ (used bytes) (one (used bytes)) (λ p. refl) refl
     message-good choke one = silent choke _ (used bytes) (one (used bytes)) (λ p. refl) refl
@@ -248,7 +251,7 @@ module _ (n : ℕ) (h : History) (y : Yard) (agrees : Agrees n h y) where
         (λ j k d r. bits-other (width (pieces h)) n (y .rows) (sizes-here .row) i l b j k (in-row k r) d)))
         (λ _. refuses c w i bitfield))
         (λ _. refuses c w i late)
-    message-good (request p b k) one = block-good (request p b k) p b k (requestBy (byHistory n h) i bytes) (one (requestBy (byHistory n h) i bytes)) (λ p. refl) refl
+    message-good (request p b k) one = block-good (request p b k) p b k (requestBy (byHistory fixed h) i bytes) (one (requestBy (byHistory fixed h) i bytes)) (λ p. refl) refl
     message-good (piece p b block) one = block-good (piece p b block) p b (length block) (used bytes) (one (used bytes)) (λ p. refl) refl
     message-good (cancel p b k) one = block-good (cancel p b k) p b k (used bytes) (one (used bytes)) (λ p. refl) refl
     message-good (other id payload) one = silent (other id payload) _ (used bytes) (one (used bytes)) (λ p. refl) refl
@@ -258,13 +261,13 @@ module _ (n : ℕ) (h : History) (y : Yard) (agrees : Agrees n h y) where
   cond-nothing false v e = refl
 
   frame-good : (i : ℕ) (s : List ℕ) (w : List ℕ) → i < n → seated h i ≡ true → (o : Outcome Found) → readOf s ≡ o
-      → Good (feed i s) w i (frameOf n i s o (at n h y agrees i)) (frameBy (byHistory n h) i s o)
+      → Good (feed i s) w i (frameOf n i s o (at fixed h y agrees i)) (frameBy (byHistory fixed h) i s o)
   unfolding event sizesWith
   frame-good i s w l sat (refused number place) e = refuses (feed i s) w i number
   frame-good i s w l sat (taken more) e = unchanged (taken wait) (λ j. cond-nothing (eqb j i) _ (rw e)) (λ z. refl)
   frame-good i s w l sat (taken (found m bytes)) e = message-good (feed i s) w i l sat bytes (meant s m) (λ a. frame-one i s w m bytes a e)
 
-  pub feed-kept : (i : ℕ) (s : List ℕ) (w : List ℕ) → Kept (feed i s) w (atSeat i (feedOf i s) y) (cond (sitsBy (byHistory n h) i) (frameBy (byHistory n h) i s (readOf s)) (no seat))
+  pub feed-kept : (i : ℕ) (s : List ℕ) (w : List ℕ) → Kept (feed i s) w (atSeat i (feedOf i s) y) (cond (sitsBy (byHistory fixed h) i) (frameBy (byHistory fixed h) i s (readOf s)) (no seat))
   unfolding feedOf
   feed-kept i s w = lift (feed i s) w i (feedOf i s) _
       (sized-good (feed i s) w i _ _ (sitting-good (feed i s) w i _ _ (λ l sat. frame-good i s w l sat (readOf s) refl)))
@@ -273,18 +276,18 @@ module _ (n : ℕ) (h : History) (y : Yard) (agrees : Agrees n h y) where
 
   mark-good : (f : Seat → Seat) (c : Call) (w : List ℕ) (i space : ℕ) (v : Event) → One (entry c (taken (wrote 5)) w) i v
       → seatedBy v (seated h i) ≡ seated h i → ((p : ℕ) → hasThen v h i p ≡ hasPiece h i p) → f (recordOf h i) ≡ holding (held h i) (recordThen v h i)
-      → Good c w i (markOf f space i n (at n h y agrees i)) (markBy (byHistory n h) i space)
+      → Good c w i (markOf f space i n (at fixed h y agrees i)) (markBy (byHistory fixed h) i space)
   unfolding markOf
   mark-good f c w i space v one a b e = sized-good c w i _ _ (sitting-good c w i _ _ (λ l sat.
       by-same (Good c w i) (ltb space 5) (λ _. refuses c w i room) (λ _. changed v (taken (wrote 5)) _ l one (steady v i (f (recordOf h i)) l a b e))))
 
-  pub choke-kept : (i : ℕ) (b : Bool) (space : ℕ) (w : List ℕ) → Kept (chokes i b space) w (atSeat i (markOf (chokeMark b) space i) y) (markBy (byHistory n h) i space)
+  pub choke-kept : (i : ℕ) (b : Bool) (space : ℕ) (w : List ℕ) → Kept (chokes i b space) w (atSeat i (markOf (chokeMark b) space i) y) (markBy (byHistory fixed h) i space)
   unfolding event sizesWith
   choke-kept i b space w = lift (chokes i b space) w i (markOf (chokeMark b) space i) _
       (mark-good (chokeMark b) (chokes i b space) w i space (weChoke b)
       (record { here = rw (eq-eqb i i refl); others = λ j d. rw (ne-eqb j i d); sizes-same = λ z. refl }) refl (λ p. refl) refl)
 
-  pub interest-kept : (i : ℕ) (b : Bool) (space : ℕ) (w : List ℕ) → Kept (interest i b space) w (atSeat i (markOf (wantMark b) space i) y) (markBy (byHistory n h) i space)
+  pub interest-kept : (i : ℕ) (b : Bool) (space : ℕ) (w : List ℕ) → Kept (interest i b space) w (atSeat i (markOf (wantMark b) space i) y) (markBy (byHistory fixed h) i space)
   unfolding event sizesWith
   interest-kept i b space w = lift (interest i b space) w i (markOf (wantMark b) space i) _
       (mark-good (wantMark b) (interest i b space) w i space (weWant b)
@@ -298,7 +301,7 @@ module _ (n : ℕ) (h : History) (y : Yard) (agrees : Agrees n h y) where
   length-without : (i : ℕ) → length (withoutBits (width (pieces h)) i (y .rows)) ≡ length (y .rows)
   length-without i = length-sets (y .rows) (i * width (pieces h)) (replicate (width (pieces h)) 0)
 
-  came-becomes : (i : ℕ) → i < n → seated h i ≡ false → Becomes n h y agrees came i (seatedAt i (at n h y agrees i))
+  came-becomes : (i : ℕ) → i < n → seated h i ≡ false → Becomes fixed h y agrees came i (seatedAt i (at fixed h y agrees i))
   unfolding seatedAt
   came-becomes i l f =
       let k : heldThen came h i ≡ 0 = none-then came i (λ p. omega arith) in
@@ -315,13 +318,13 @@ module _ (n : ℕ) (h : History) (y : Yard) (agrees : Agrees n h y) where
       }
 
   pub sit-good : (w : List ℕ) (i : ℕ) → (i < n → seated h i ≡ false)
-      → Good sit w i (sitOf i n (at n h y agrees i)) (cond (leb n i) (no full) (taken (givesSeat i)))
+      → Good sit w i (sitOf i n (at fixed h y agrees i)) (cond (leb n i) (no full) (taken (givesSeat i)))
   unfolding sitOf event sizesWith
   sit-good w i free = sized-good sit w i _ _ (by-same (Good sit w i) (leb n i)
       (λ _. refuses sit w i full)
       (λ e. let l : i < n = leb-false n i e in
-      by-test (λ (t : Turn). Good sit w i t (taken (givesSeat i))) (leb n (takenSeats n h))
-      (λ a. cannot _ (lt-leb n (takenSeats n h) (omega (arith, ap bit (free l), count-lacks (seated h) n i l))) a)
+      by-test (λ (t : Turn). Good sit w i t (taken (givesSeat i))) (leb n (takenSeats fixed h))
+      (λ a. cannot _ (lt-leb n (takenSeats fixed h) (omega (arith, ap bit (free l), count-lacks (seated h) n i l))) a)
       (λ _. changed came (taken (givesSeat i)) _ l
       (record { here = rw (eq-eqb i i refl); others = λ j d. rw (ne-eqb j i d); sizes-same = λ z. refl })
       (came-becomes i l (free l)))))
@@ -330,17 +333,17 @@ module _ (n : ℕ) (h : History) (y : Yard) (agrees : Agrees n h y) where
     row-of : (p : ℕ) → p < pieces h → hasIn (width (pieces h)) (y .rows) i p ≡ hasPiece h i p
     row-of p q = agrees .row-is i p l q
 
-    none-zero : atZero i (at n h y agrees i) ≡ false
+    none-zero : atZero i (at fixed h y agrees i) ≡ false
     unfolding atZero
     none-zero =
         or-none _ _
-        (ne-eqb (takenSeats n h) 0 (λ e. omega (arith, ap bit sat, count-has (seated h) n i l)))
+        (ne-eqb (takenSeats fixed h) 0 (λ e. omega (arith, ap bit sat, count-has (seated h) n i l)))
         (or-none _ _
-        (and-not (eqb (held h i) (pieces h)) _ (λ a. ne-eqb (completeSeats n h) 0 (λ e. omega (arith, ap bit (loaded-seated i sat ∙ a), count-has (loaded h) n i l))))
+        (and-not (eqb (held h i) (pieces h)) _ (λ a. ne-eqb (completeSeats fixed h) 0 (λ e. omega (arith, ap bit (loaded-seated i sat ∙ a), count-has (loaded h) n i l))))
         (some-none _ (pieces h) (λ p q. and-not (hasIn (width (pieces h)) (y .rows) i p) _ (λ a. ne-eqb (getD (y .holders) p 0) 0
         (λ e. omega (arith, ap bit (sym (row-of p q) ∙ a), agrees .holders-is p q, count-has (λ j. hasPiece h j p) n i l))))))
 
-    gone-becomes : Becomes n h y agrees gone i (left i (at n h y agrees i))
+    gone-becomes : Becomes fixed h y agrees gone i (left i (at fixed h y agrees i))
     unfolding left
     gone-becomes = record {
       head-by = refl;
@@ -357,10 +360,10 @@ module _ (n : ℕ) (h : History) (y : Yard) (agrees : Agrees n h y) where
           omega (arith, a, ap bit (row-of p q), agrees .holders-is p q, count-has (λ j. hasPiece h j p) n i l);
     }
 
-  pub leave-kept : (i : ℕ) (w : List ℕ) → Kept (leave i) w (atSeat i (leaveOf i) y) (cond (sitsBy (byHistory n h) i) (taken done) (no seat))
+  pub leave-kept : (i : ℕ) (w : List ℕ) → Kept (leave i) w (atSeat i (leaveOf i) y) (cond (sitsBy (byHistory fixed h) i) (taken done) (no seat))
   unfolding leaveOf event sizesWith
   leave-kept i w = lift (leave i) w i (leaveOf i) _ (sized-good (leave i) w i _ _ (sitting-good (leave i) w i _ _ (λ l sat.
-      by-test (λ (t : Turn). Good (leave i) w i t (taken done)) (atZero i (at n h y agrees i))
+      by-test (λ (t : Turn). Good (leave i) w i t (taken done)) (atZero i (at fixed h y agrees i))
       (λ a. cannot _ (none-zero i l sat) a)
       (λ _. changed gone (taken done) _ l
       (record { here = rw (eq-eqb i i refl); others = λ j d. rw (ne-eqb j i d); sizes-same = λ z. refl })

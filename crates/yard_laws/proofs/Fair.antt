@@ -15,8 +15,8 @@ use Rattle.torrent_blocks.proofs.Legal.{is-piece-length, piece-length-is}
 use Rattle.peer_wire.specs.Message.{Message}
 use Rattle.yard_tables.specs.Tables.{Said, wait}
 use Rattle.yard_tables.specs.Step.{Call, feed}
-use Rattle.yard_laws.specs.History.{History, pieces}
-use Rattle.yard_laws.specs.View.{StartFits, byHistory, lengthOf}
+use Rattle.yard_laws.specs.History.{History, Fixed, pieces}
+use Rattle.yard_laws.specs.View.{StartFits, byHistory}
 use Rattle.yard_laws.specs.Expected.{startFits, looksOf, sitsBy, messageBy, answer}
 use Rattle.yard_laws.specs.Causes.{Sits, Says, Fits, Cause, WaitCause}
 use Rattle.yard_laws.proofs.Caused as caused
@@ -32,36 +32,36 @@ module _ (h : History) (p l k : ℕ) where
       let c = and-eq-true-iff (leb 1 k) (leb k l) .0 (b .1) in
       (eqb-true p (pieces h) (a .0), piece-length-is l (b .0), leb-true 1 k (c .0), leb-true k l (c .1))
 
-module _ (n : ℕ) (h : History) where
-  pub sits-then : (i : ℕ) → sitsBy (byHistory n h) i ≡ true → Sits n h i
-  sits-then = caused.sits-then (byHistory n h)
+module _ (fixed : Fixed) (h : History) where
+  pub sits-then : (i : ℕ) → sitsBy (byHistory fixed h) i ≡ true → Sits fixed h i
+  sits-then = caused.sits-then (byHistory fixed h)
 
-  pub then-sits : (i : ℕ) → Sits n h i → sitsBy (byHistory n h) i ≡ true
-  then-sits = caused.then-sits (byHistory n h)
+  pub then-sits : (i : ℕ) → Sits fixed h i → sitsBy (byHistory fixed h) i ≡ true
+  then-sits = caused.then-sits (byHistory fixed h)
 
-  pub frame-says : (i : ℕ) (s : List ℕ) (m : Message (List ℕ)) (bytes : ℕ) → Sits n h i → Says s m bytes → answer n h (feed i s) ≡ messageBy (byHistory n h) i bytes m
-  frame-says = caused.frame-says (byHistory n h) (startFits h) (looksOf n h) (fits-start h) (start-fits h)
+  pub frame-says : (i : ℕ) (s : List ℕ) (m : Message (List ℕ)) (bytes : ℕ) → Sits fixed h i → Says s m bytes → answer fixed h (feed i s) ≡ messageBy (byHistory fixed h) i bytes m
+  frame-says = caused.frame-says (byHistory fixed h) (startFits h) (looksOf fixed h) (fits-start h) (start-fits h)
 
-  pub refused-exactly : (c : Call) (number place : ℕ) → answer n h c ≡ refused number place ↔ (Cause n h c number × (place ≡ 0))
-  refused-exactly = caused.refused-exactly (byHistory n h) (startFits h) (looksOf n h) (fits-start h) (start-fits h)
+  pub refused-exactly : (c : Call) (number place : ℕ) → answer fixed h c ≡ refused number place ↔ (Cause fixed h c number × (place ≡ 0))
+  refused-exactly = caused.refused-exactly (byHistory fixed h) (startFits h) (looksOf fixed h) (fits-start h) (start-fits h)
 
-  pub cause-given : (c : Call) (number : ℕ) → Cause n h c number → answer n h c ≡ refused number 0
-  cause-given = caused.cause-given (byHistory n h) (startFits h) (looksOf n h) (fits-start h) (start-fits h)
+  pub cause-given : (c : Call) (number : ℕ) → Cause fixed h c number → answer fixed h c ≡ refused number 0
+  cause-given = caused.cause-given (byHistory fixed h) (startFits h) (looksOf fixed h) (fits-start h) (start-fits h)
 
-  pub wait-exactly-when : (c : Call) → answer n h c ≡ taken wait ↔ WaitCause n h c
-  wait-exactly-when = caused.wait-exactly-when (byHistory n h) (startFits h) (looksOf n h) (fits-start h) (start-fits h)
+  pub wait-exactly-when : (c : Call) → answer fixed h c ≡ taken wait ↔ WaitCause fixed h c
+  wait-exactly-when = caused.wait-exactly-when (byHistory fixed h) (startFits h) (looksOf fixed h) (fits-start h) (start-fits h)
 
   -- where no cause holds the call is taken
-  pub taken-without : (c : Call) → ((number : ℕ) → Cause n h c number → ⊥) → (a : Said) × (answer n h c ≡ taken a)
-  taken-without = caused.taken-without (byHistory n h) (startFits h) (looksOf n h) (fits-start h) (start-fits h)
+  pub taken-without : (c : Call) → ((number : ℕ) → Cause fixed h c number → ⊥) → (a : Said) × (answer fixed h c ≡ taken a)
+  taken-without = caused.taken-without (byHistory fixed h) (startFits h) (looksOf fixed h) (fits-start h) (start-fits h)
 
-  pub never-damaged : (c : Call) (place : ℕ) → answer n h c ≡ refused damaged place → ⊥
-  never-damaged = caused.never-damaged (byHistory n h) (startFits h) (looksOf n h) (fits-start h) (start-fits h)
+  pub never-damaged : (c : Call) (place : ℕ) → answer fixed h c ≡ refused damaged place → ⊥
+  never-damaged = caused.never-damaged (byHistory fixed h) (startFits h) (looksOf fixed h) (fits-start h) (start-fits h)
 
 -- a block that fits
-module _ (h : History) (p b k : ℕ) where
-  pub fits-block : Fits h p b k → lies (lengthOf h p) b k ≡ true
-  fits-block = caused.fits-block (byHistory 0 h) p b k
+module _ (fixed : Fixed) (h : History) (p b k : ℕ) where
+  pub fits-block : Fits fixed h p b k → lies (byHistory fixed h .longs p) b k ≡ true
+  fits-block = caused.fits-block (byHistory fixed h) p b k
 
-  pub block-fits : lies (lengthOf h p) b k ≡ true → Fits h p b k
-  block-fits = caused.block-fits (byHistory 0 h) p b k
+  pub block-fits : lies (byHistory fixed h .longs p) b k ≡ true → Fits fixed h p b k
+  block-fits = caused.block-fits (byHistory fixed h) p b k

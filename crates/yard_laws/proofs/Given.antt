@@ -19,9 +19,9 @@ use Rattle.yard_tables.specs.Frames.{spareSet}
 use Rattle.yard_tables.specs.Tables.{Said, wait, done, used, serve, dropped, wrote, scarce, seated as givesSeat}
 use Rattle.yard_tables.specs.Step.{Call, start, sit, leave, feed, interest, missing, scarcest, look, has, count, choke as chokes}
 use Rattle.yard_tables.proofs.Scarce.{least-unique}
-use Rattle.yard_laws.specs.History.{History, seated, fresh, weAreChoking, theyAreInterested, pieces}
+use Rattle.yard_laws.specs.History.{History, Fixed, seated, fresh, weAreChoking, theyAreInterested, pieces}
 use Rattle.yard_laws.specs.Says.{holders}
-use Rattle.yard_laws.specs.View.{byHistory, lengthOf}
+use Rattle.yard_laws.specs.View.{byHistory}
 use Rattle.yard_laws.specs.Expected.{no, startFits, sitsBy, blockBy, requestBy, messageBy, frameBy, markBy, freeBy, answer}
 use Rattle.yard_laws.specs.Causes.{Sits, Marks, Says, Cause, WaitCause, Serves, Drops}
 use Rattle.yard_laws.specs.Causes.ServesBy.{serves as answered-serve}
@@ -42,7 +42,10 @@ taken-same x a e = cc
 abbrev Other : Message (List ℕ) → Type 0
 Other m = (p b k : ℕ) → m ≡ request p b k → ⊥
 
-module _ (n : ℕ) (h : History) where
+module _ (fixed : Fixed) (h : History) where
+  abbrev n : ℕ
+  n = fixed .seats
+
   -- ---- an answer that is taken is given
 
   module _ (i bytes : ℕ) (a : Said) where
@@ -55,10 +58,10 @@ module _ (n : ℕ) (h : History) where
     inner true o number e = (refl, e)
     inner false o number e = absurd (not-both a number 0 (sym e))
 
-    block-used : (p b k : ℕ) (x : Said) → blockBy (byHistory n h) p b k x ≡ taken a → x ≡ a
-    block-used p b k x e = way (lies (lengthOf h p) b k) x outside (inner (ltb p (pieces h)) _ beyond e .1) .1
+    block-used : (p b k : ℕ) (x : Said) → blockBy (byHistory fixed h) p b k x ≡ taken a → x ≡ a
+    block-used p b k x e = way (lies (byHistory fixed h .longs p) b k) x outside (inner (ltb p (pieces h)) _ beyond e .1) .1
 
-    heard-used : (m : Message (List ℕ)) → Other m → messageBy (byHistory n h) i bytes m ≡ taken a → used bytes ≡ a
+    heard-used : (m : Message (List ℕ)) → Other m → messageBy (byHistory fixed h) i bytes m ≡ taken a → used bytes ≡ a
     heard-used keepalive f e = taken-same (used bytes) a e
     heard-used choke f e = taken-same (used bytes) a e
     heard-used unchoke f e = taken-same (used bytes) a e
@@ -88,68 +91,68 @@ module _ (n : ℕ) (h : History) where
   asked-or (cancel q o l) = inr (λ p b k e. no-way (cc))
   asked-or (other id rest) = inr (λ p b k e. no-way (cc))
 
-  same : (c : Call) (x a : Said) → x ≡ a → Gives n h c x → Gives n h c a
-  same c x a e g = subst (Gives n h c) e g
+  same : (c : Call) (x a : Said) → x ≡ a → Gives fixed h c x → Gives fixed h c a
+  same c x a e g = subst (Gives fixed h c) e g
 
-  module _ (i : ℕ) (s : List ℕ) (here : Sits n h i) (a : Said) (e : answer n h (feed i s) ≡ taken a) where
-    no-cause : (number : ℕ) → Cause n h (feed i s) number → ⊥
-    no-cause number k = not-both a number 0 (sym e ∙ cause-given n h (feed i s) number k)
+  module _ (i : ℕ) (s : List ℕ) (here : Sits fixed h i) (a : Said) (e : answer fixed h (feed i s) ≡ taken a) where
+    no-cause : (number : ℕ) → Cause fixed h (feed i s) number → ⊥
+    no-cause number k = not-both a number 0 (sym e ∙ cause-given fixed h (feed i s) number k)
 
-    request-given : (p b k bytes : ℕ) → Says s (request p b k) bytes → Gives n h (feed i s) a
+    request-given : (p b k bytes : ℕ) → Says s (request p b k) bytes → Gives fixed h (feed i s) a
     request-given p b k bytes f = by-bool (not (weAreChoking h i) && theyAreInterested h i)
         (λ t. same (feed i s) (serve bytes) a (sym (ap (λ (b : Bool). cond b (serve bytes) (dropped bytes)) t) ∙ is)
-        (served (serve-exactly n h (feed i s) bytes .0 (e ∙ ap taken (sym (sym (ap (λ (b : Bool). cond b (serve bytes) (dropped bytes)) t) ∙ is))))))
+        (served (serve-exactly fixed h (feed i s) bytes .0 (e ∙ ap taken (sym (sym (ap (λ (b : Bool). cond b (serve bytes) (dropped bytes)) t) ∙ is))))))
         (λ t. same (feed i s) (dropped bytes) a (sym (ap (λ (b : Bool). cond b (serve bytes) (dropped bytes)) t) ∙ is)
-        (left-off (drop-exactly n h (feed i s) bytes .0 (e ∙ ap taken (sym (sym (ap (λ (b : Bool). cond b (serve bytes) (dropped bytes)) t) ∙ is))))))
+        (left-off (drop-exactly fixed h (feed i s) bytes .0 (e ∙ ap taken (sym (sym (ap (λ (b : Bool). cond b (serve bytes) (dropped bytes)) t) ∙ is))))))
       where
-        is : requestBy (byHistory n h) i bytes ≡ a
-        is = block-used i bytes a p b k (requestBy (byHistory n h) i bytes) (sym (frame-says n h i s (request p b k) bytes here f) ∙ e)
+        is : requestBy (byHistory fixed h) i bytes ≡ a
+        is = block-used i bytes a p b k (requestBy (byHistory fixed h) i bytes) (sym (frame-says fixed h i s (request p b k) bytes here f) ∙ e)
 
-        served : {c : Call} {m : ℕ} → Serves n h c m → Gives n h c (serve m)
+        served : {c : Call} {m : ℕ} → Serves fixed h c m → Gives fixed h c (serve m)
         served (answered-serve j t m q w) = serves j t m q w
 
-        left-off : {c : Call} {m : ℕ} → Drops n h c m → Gives n h c (dropped m)
+        left-off : {c : Call} {m : ℕ} → Drops fixed h c m → Gives fixed h c (dropped m)
         left-off (answered-drop j t m q w) = drops j t m q w
 
-    message-given : (m : Message (List ℕ)) (bytes : ℕ) → Says s m bytes → Gives n h (feed i s) a
+    message-given : (m : Message (List ℕ)) (bytes : ℕ) → Says s m bytes → Gives fixed h (feed i s) a
     message-given m bytes f = go (asked-or m)
       where
-        go : ((p : ℕ) × (b : ℕ) × (k : ℕ) × (m ≡ request p b k)) ⊎ Other m → Gives n h (feed i s) a
+        go : ((p : ℕ) × (b : ℕ) × (k : ℕ) × (m ≡ request p b k)) ⊎ Other m → Gives fixed h (feed i s) a
         go (inl (p, b, k, q)) = request-given p b k bytes (subst (λ (x : Message (List ℕ)). Says s x bytes) q f)
-        go (inr o) = same (feed i s) (used bytes) a (heard-used i bytes a m o (sym (frame-says n h i s m bytes here f) ∙ e)) (hears i s m bytes here f o no-cause)
+        go (inr o) = same (feed i s) (used bytes) a (heard-used i bytes a m o (sym (frame-says fixed h i s m bytes here f) ∙ e)) (hears i s m bytes here f o no-cause)
 
-    frame-given : (o : Outcome Found) → readOf s ≡ o → frameBy (byHistory n h) i s o ≡ taken a → Gives n h (feed i s) a
+    frame-given : (o : Outcome Found) → readOf s ≡ o → frameBy (byHistory fixed h) i s o ≡ taken a → Gives fixed h (feed i s) a
     frame-given (refused number place) r q = absurd (not-both a number 0 (sym q))
-    frame-given (taken more) r q = same (feed i s) wait a (taken-same wait a q) (waited (wait-exactly-when n h (feed i s) .0 (e ∙ sym q)))
+    frame-given (taken more) r q = same (feed i s) wait a (taken-same wait a q) (waited (wait-exactly-when fixed h (feed i s) .0 (e ∙ sym q)))
       where
-        waited : {c : Call} → WaitCause n h c → Gives n h c wait
+        waited : {c : Call} → WaitCause fixed h c → Gives fixed h c wait
         waited (cut-off j t g w) = waits j t g w
     frame-given (taken (found m bytes)) r q = message-given (meant s m) bytes (record { at = m; reads = r; means = refl })
 
-  mark-given : (c : Call) (i space : ℕ) (a : Said) → Marks i space c → markBy (byHistory n h) i space ≡ taken a → Gives n h c a
+  mark-given : (c : Call) (i space : ℕ) (a : Said) → Marks i space c → markBy (byHistory fixed h) i space ≡ taken a → Gives fixed h c a
   mark-given c i space a m e =
-      let s = inner i 5 a (sitsBy (byHistory n h) i) _ seat e in
-      go (ltb space 5) refl (s .1) (sits-then n h i (s .0))
+      let s = inner i 5 a (sitsBy (byHistory fixed h) i) _ seat e in
+      go (ltb space 5) refl (s .1) (sits-then fixed h i (s .0))
     where
-      go : (t : Bool) → ltb space 5 ≡ t → cond t (no room) (taken (wrote 5)) ≡ taken a → Sits n h i → Gives n h c a
+      go : (t : Bool) → ltb space 5 ≡ t → cond t (no room) (taken (wrote 5)) ≡ taken a → Sits fixed h i → Gives fixed h c a
       go true r q here = absurd (not-both a room 0 (sym q))
       go false r q here = same c (wrote 5) a (taken-same (wrote 5) a q) (marks c i space m here (ltb-false space 5 r))
 
-  given-of : (c : Call) (a : Said) → 0 < pieces h → answer n h c ≡ taken a → Gives n h c a
+  given-of : (c : Call) (a : Said) → 0 < pieces h → answer fixed h c ≡ taken a → Gives fixed h c a
   given-of (start p l k) a z e = let w = way 0 0 a (startFits h p l k) done sizes e in same _ _ a (w .1) (begins p l k (start-fits h p l k (w .0)))
-  given-of sit a z e = go (leb n (freeBy (byHistory n h))) refl e
+  given-of sit a z e = go (leb n (freeBy (byHistory fixed h))) refl e
     where
-      go : (t : Bool) → leb n (freeBy (byHistory n h)) ≡ t → cond t (no full) (taken (givesSeat (freeBy (byHistory n h)))) ≡ taken a → Gives n h sit a
+      go : (t : Bool) → leb n (freeBy (byHistory fixed h)) ≡ t → cond t (no full) (taken (givesSeat (freeBy (byHistory fixed h)))) ≡ taken a → Gives fixed h sit a
       go true r q = absurd (not-both a full 0 (sym q))
-      go false r q = same sit _ a (taken-same _ a q) (seats (freeBy (byHistory n h)) (leb-false n (freeBy (byHistory n h)) r) (lowest-is (seated h) n))
-  given-of (leave i) a z e = let w = way 0 0 a (sitsBy (byHistory n h) i) done seat e in same _ _ a (w .1) (leaves i (sits-then n h i (w .0)))
+      go false r q = same sit _ a (taken-same _ a q) (seats (freeBy (byHistory fixed h)) (leb-false n (freeBy (byHistory fixed h)) r) (lowest-is (seated h) n))
+  given-of (leave i) a z e = let w = way 0 0 a (sitsBy (byHistory fixed h) i) done seat e in same _ _ a (w .1) (leaves i (sits-then fixed h i (w .0)))
   given-of (feed i s) a z e =
-      let w = inner 0 0 a (sitsBy (byHistory n h) i) (frameBy (byHistory n h) i s (readOf s)) seat e in
-      frame-given i s (sits-then n h i (w .0)) a e (readOf s) refl (w .1)
+      let w = inner 0 0 a (sitsBy (byHistory fixed h) i) (frameBy (byHistory fixed h) i s (readOf s)) seat e in
+      frame-given i s (sits-then fixed h i (w .0)) a e (readOf s) refl (w .1)
   given-of (chokes i b space) a z e = mark-given (chokes i b space) i space a (choking b) e
   given-of (interest i b space) a z e = mark-given (interest i b space) i space a (wanting b) e
   given-of (missing first space) a z e = let w = way 0 0 a (leb first n) _ seat e in same _ _ a (w .1) (lists first space (leb-true first n (w .0)))
-  given-of scarcest a z e = same scarcest _ a (taken-same _ a e) (picks _ (least-some (holders n h) (pieces h) z))
+  given-of scarcest a z e = same scarcest _ a (taken-same _ a e) (picks _ (least-some (holders fixed h) (pieces h) z))
   given-of (look i) a z e = let w = way 0 0 a (ltb i n) _ seat e in same _ _ a (w .1) (records i (ltb-true i n (w .0)))
   given-of (has i p) a z e =
       let u = inner 0 0 a (ltb i n) _ seat e in
@@ -159,34 +162,34 @@ module _ (n : ℕ) (h : History) where
 
   -- ---- and what is given is the answer
 
-  mark-is : (c : Call) (i space : ℕ) → Marks i space c → Sits n h i → 5 ≤ space → answer n h c ≡ taken (wrote 5)
-  mark-is c i space (choking b) here l = rw (then-sits n h i here, le-ltb space 5 l)
-  mark-is c i space (wanting b) here l = rw (then-sits n h i here, le-ltb space 5 l)
+  mark-is : (c : Call) (i space : ℕ) → Marks i space c → Sits fixed h i → 5 ≤ space → answer fixed h c ≡ taken (wrote 5)
+  mark-is c i space (choking b) here l = rw (then-sits fixed h i here, le-ltb space 5 l)
+  mark-is c i space (wanting b) here l = rw (then-sits fixed h i here, le-ltb space 5 l)
 
   -- a frame that nothing is wrong with is taken, and one that is no request by the bytes that it used
-  hear-is : (i : ℕ) (s : List ℕ) (m : Message (List ℕ)) (bytes : ℕ) → Sits n h i → Says s m bytes → Other m → ((number : ℕ) → Cause n h (feed i s) number → ⊥)
-      → answer n h (feed i s) ≡ taken (used bytes)
+  hear-is : (i : ℕ) (s : List ℕ) (m : Message (List ℕ)) (bytes : ℕ) → Sits fixed h i → Says s m bytes → Other m → ((number : ℕ) → Cause fixed h (feed i s) number → ⊥)
+      → answer fixed h (feed i s) ≡ taken (used bytes)
   hear-is i s m bytes here f o none =
-      let t = taken-without n h (feed i s) none in
-      t .1 ∙ ap taken (sym (heard-used i bytes (t .0) m o (sym (frame-says n h i s m bytes here f) ∙ t .1)))
+      let t = taken-without fixed h (feed i s) none in
+      t .1 ∙ ap taken (sym (heard-used i bytes (t .0) m o (sym (frame-says fixed h i s m bytes here f) ∙ t .1)))
 
-  given-is : (c : Call) (a : Said) → Gives n h c a → answer n h c ≡ taken a
+  given-is : (c : Call) (a : Said) → Gives fixed h c a → answer fixed h c ≡ taken a
   given-is c a (begins p l k f) = rw (fits-start h p l k f)
-  given-is c a (leaves i here) = rw (then-sits n h i here)
+  given-is c a (leaves i here) = rw (then-sits fixed h i here)
   given-is c a (seats i l w) =
-      let e : freeBy (byHistory n h) ≡ i = lowest-unique (seated h) n _ _ (lowest-is (seated h) n) w in
+      let e : freeBy (byHistory fixed h) ≡ i = lowest-unique (seated h) n _ _ (lowest-is (seated h) n) w in
       ap (λ (k : ℕ). cond (leb n k) (no full) (taken (givesSeat k))) e ∙ skip (leb n i) _ _ (lt-leb n i l)
-  given-is c a (waits i s here w) = wait-exactly-when n h (feed i s) .1 (cut-off i s here w)
-  given-is c a (serves i s bytes f w) = serve-exactly n h (feed i s) bytes .1 (answered-serve i s bytes f w)
-  given-is c a (drops i s bytes f w) = drop-exactly n h (feed i s) bytes .1 (answered-drop i s bytes f w)
+  given-is c a (waits i s here w) = wait-exactly-when fixed h (feed i s) .1 (cut-off i s here w)
+  given-is c a (serves i s bytes f w) = serve-exactly fixed h (feed i s) bytes .1 (answered-serve i s bytes f w)
+  given-is c a (drops i s bytes f w) = drop-exactly fixed h (feed i s) bytes .1 (answered-drop i s bytes f w)
   given-is c a (hears i s m bytes here f o none) = hear-is i s m bytes here f o none
   given-is c a (marks d i space m here l) = mark-is d i space m here l
   given-is c a (lists first space l) = rw (le-leb first n l)
   given-is c a (picks p l) =
-      ap (λ (k : ℕ). taken (scarce k)) (least-unique (holders n h) (pieces h) _ p (least-some (holders n h) (pieces h) (omega (arith, l .within))) l)
+      ap (λ (k : ℕ). taken (scarce k)) (least-unique (holders fixed h) (pieces h) _ p (least-some (holders fixed h) (pieces h) (omega (arith, l .within))) l)
   given-is c a (records i l) = rw (lt-ltb i n l)
   given-is c a (tells i p l m) = rw (lt-ltb i n l, lt-ltb p (pieces h) m)
   given-is c a (counts p l) = rw (lt-ltb p (pieces h) l)
 
-  pub given-exactly : 0 < pieces h → (c : Call) (a : Said) → answer n h c ≡ taken a ↔ Gives n h c a
+  pub given-exactly : 0 < pieces h → (c : Call) (a : Said) → answer fixed h c ≡ taken a ↔ Gives fixed h c a
   given-exactly z c a = (given-of c a z, given-is c a)

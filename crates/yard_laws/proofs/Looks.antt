@@ -21,7 +21,7 @@ use Rattle.yard_tables.specs.declared.Seat.{Seat}
 use Rattle.yard_tables.specs.declared.Head.{Head}
 use Rattle.yard_tables.specs.declared.Page.{Page}
 use Rattle.yard_tables.proofs.Sizing.{Fitting}
-use Rattle.yard_laws.specs.History.{History, event, pieces, sizesWith, seated}
+use Rattle.yard_laws.specs.History.{History, Fixed, event, pieces, sizesWith, seated}
 use Rattle.yard_laws.specs.Says.{hasPiece, lacking, recordOf, holders, headOf, pageLines, pageOf, lowestWithout, leastOf}
 use Rattle.yard_laws.specs.View.{byHistory}
 use Rattle.yard_laws.specs.Expected.{no, freeBy}
@@ -30,80 +30,83 @@ use Rattle.yard_laws.proofs.Calls.{Good, unchanged, Kept, lift, refuses
 use Rattle.yard_laws.proofs.Lowest.{lowest-is, free-is, scarcest-is}
 use Rattle.yard_laws.proofs.Missing.{lines-are, page-is}
 
-module _ (n : ℕ) (h : History) (y : Yard) (agrees : Agrees n h y) where
+module _ (fixed : Fixed) (h : History) (y : Yard) (agrees : Agrees fixed h y) where
+  abbrev n : ℕ
+  n = fixed .seats
+
   -- ---- sitting down
 
-  free-seat : lowestFree (y .seats) ≡ freeBy (byHistory n h)
+  free-seat : lowestFree (y .seats) ≡ freeBy (byHistory fixed h)
   free-seat =
       free-is (y .seats) (seated h) (λ i. ap (λ (s : Seat). s .taken) (agrees .seat-is i))
       ∙ ap (lowestWithout (seated h)) (agrees .seats-len)
 
-  pub sit-kept : (w : List ℕ) → Kept n h y agrees sit w (atSeat (lowestFree (y .seats)) (sitOf (lowestFree (y .seats))) y)
-      (cond (leb n (freeBy (byHistory n h))) (no full) (taken (givesSeat (freeBy (byHistory n h)))))
-  sit-kept w = subst (λ (i : ℕ). Kept n h y agrees sit w (atSeat i (sitOf i) y) (cond (leb n (freeBy (byHistory n h))) (no full) (taken (givesSeat (freeBy (byHistory n h)))))) (sym free-seat)
-      (lift n h y agrees sit w (freeBy (byHistory n h)) (sitOf (freeBy (byHistory n h))) _ (sit-good n h y agrees w (freeBy (byHistory n h)) (lowest-is (seated h) n .lacks)))
+  pub sit-kept : (w : List ℕ) → Kept fixed h y agrees sit w (atSeat (lowestFree (y .seats)) (sitOf (lowestFree (y .seats))) y)
+      (cond (leb n (freeBy (byHistory fixed h))) (no full) (taken (givesSeat (freeBy (byHistory fixed h)))))
+  sit-kept w = subst (λ (i : ℕ). Kept fixed h y agrees sit w (atSeat i (sitOf i) y) (cond (leb n (freeBy (byHistory fixed h))) (no full) (taken (givesSeat (freeBy (byHistory fixed h)))))) (sym free-seat)
+      (lift fixed h y agrees sit w (freeBy (byHistory fixed h)) (sitOf (freeBy (byHistory fixed h))) _ (sit-good fixed h y agrees w (freeBy (byHistory fixed h)) (lowest-is (seated h) n .lacks)))
 
   -- ---- the missing list
 
   lacking-is : (i : ℕ) → isMissing (pieces h) (getD (y .seats) i cleared) ≡ lacking h i
   lacking-is i = ap (isMissing (pieces h)) (agrees .seat-is i)
 
-  pub lines-same : (first space : ℕ) → linesOf (y .head .pieces) first space (y .seats) ≡ pageLines n h first space
+  pub lines-same : (first space : ℕ) → linesOf (y .head .pieces) first space (y .seats) ≡ pageLines fixed h first space
   lines-same first space =
       ap (λ (k : Head). linesOf (k .pieces) first space (y .seats)) (agrees .head-is)
       ∙ lines-are (pieces h) (lacking h) n (y .seats) (agrees .seats-len) lacking-is first space
 
-  page-same : (first space : ℕ) → pageIn (pieces h) first space (y .seats) ≡ pageOf n h first space
+  page-same : (first space : ℕ) → pageIn (pieces h) first space (y .seats) ≡ pageOf fixed h first space
   page-same first space = page-is (pieces h) (lacking h) n (y .seats) (agrees .seats-len) lacking-is first space
 
-  pub missing-kept : (first space : ℕ) (w : List ℕ) → Kept n h y agrees (missing first space) w (atSeat 0 (missingOf first space (y .seats)) y)
-      (cond (leb first n) (taken (listed (pageOf n h first space))) (no seat))
+  pub missing-kept : (first space : ℕ) (w : List ℕ) → Kept fixed h y agrees (missing first space) w (atSeat 0 (missingOf first space (y .seats)) y)
+      (cond (leb first n) (taken (listed (pageOf fixed h first space))) (no seat))
   unfolding event sizesWith
-  missing-kept first space w = lift n h y agrees (missing first space) w 0 (missingOf first space (y .seats)) _
-      (sized-good n h y agrees (missing first space) w 0 _ _
-      (by-same (Good n h y agrees (missing first space) w 0) (leb first n)
-      (λ _. subst (λ (x : Page). Good n h y agrees (missing first space) w 0 (says (listed (pageIn (pieces h) first space (y .seats))) (at n h y agrees 0)) (taken (listed x)))
+  missing-kept first space w = lift fixed h y agrees (missing first space) w 0 (missingOf first space (y .seats)) _
+      (sized-good fixed h y agrees (missing first space) w 0 _ _
+      (by-same (Good fixed h y agrees (missing first space) w 0) (leb first n)
+      (λ _. subst (λ (x : Page). Good fixed h y agrees (missing first space) w 0 (says (listed (pageIn (pieces h) first space (y .seats))) (at fixed h y agrees 0)) (taken (listed x)))
       (page-same first space) (unchanged (taken (listed (pageIn (pieces h) first space (y .seats)))) (λ j. refl) (λ z. refl)))
-      (λ _. refuses n h y agrees (missing first space) w 0 seat)))
+      (λ _. refuses fixed h y agrees (missing first space) w 0 seat)))
 
   -- ---- the scarcest piece
 
-  scarcest-same : placeOf (fewest (y .holders)) (y .holders) ≡ leastOf (holders n h) (pieces h)
+  scarcest-same : placeOf (fewest (y .holders)) (y .holders) ≡ leastOf (holders fixed h) (pieces h)
   scarcest-same =
-      let f : Fitting (headOf n h) n (length (y .rows)) (length (y .holders)) = sizes-here n h y agrees in
-      scarcest-is (y .holders) (holders n h) (omega (arith, f .counts, f .some)) (λ q l. agrees .holders-is q (omega (arith, f .counts)))
-      ∙ ap (leastOf (holders n h)) (f .counts)
+      let f : Fitting (headOf fixed h) n (length (y .rows)) (length (y .holders)) = sizes-here fixed h y agrees in
+      scarcest-is (y .holders) (holders fixed h) (omega (arith, f .counts, f .some)) (λ q l. agrees .holders-is q (omega (arith, f .counts)))
+      ∙ ap (leastOf (holders fixed h)) (f .counts)
 
-  pub scarcest-kept : (w : List ℕ) → Kept n h y agrees scarcest w (atSeat 0 scarcestOf y) (taken (scarce (leastOf (holders n h) (pieces h))))
+  pub scarcest-kept : (w : List ℕ) → Kept fixed h y agrees scarcest w (atSeat 0 scarcestOf y) (taken (scarce (leastOf (holders fixed h) (pieces h))))
   unfolding scarcestOf event sizesWith
-  scarcest-kept w = lift n h y agrees scarcest w 0 scarcestOf _ (sized-good n h y agrees scarcest w 0 _ _
-      (subst (λ (p : ℕ). Good n h y agrees scarcest w 0 (says (scarce (placeOf (fewest (y .holders)) (y .holders))) (at n h y agrees 0)) (taken (scarce p)))
+  scarcest-kept w = lift fixed h y agrees scarcest w 0 scarcestOf _ (sized-good fixed h y agrees scarcest w 0 _ _
+      (subst (λ (p : ℕ). Good fixed h y agrees scarcest w 0 (says (scarce (placeOf (fewest (y .holders)) (y .holders))) (at fixed h y agrees 0)) (taken (scarce p)))
       scarcest-same (unchanged (taken (scarce (placeOf (fewest (y .holders)) (y .holders)))) (λ j. refl) (λ z. refl))))
 
   -- ---- single looks
 
-  pub look-kept : (i : ℕ) (w : List ℕ) → Kept n h y agrees (look i) w (atSeat i (seatOf i) y) (cond (ltb i n) (taken (shows (recordOf h i))) (no seat))
+  pub look-kept : (i : ℕ) (w : List ℕ) → Kept fixed h y agrees (look i) w (atSeat i (seatOf i) y) (cond (ltb i n) (taken (shows (recordOf h i))) (no seat))
   unfolding seatOf event sizesWith
-  look-kept i w = lift n h y agrees (look i) w i (seatOf i) _ (sized-good n h y agrees (look i) w i _ _
-      (by-same (Good n h y agrees (look i) w i) (ltb i n)
+  look-kept i w = lift fixed h y agrees (look i) w i (seatOf i) _ (sized-good fixed h y agrees (look i) w i _ _
+      (by-same (Good fixed h y agrees (look i) w i) (ltb i n)
       (λ _. unchanged (taken (shows (recordOf h i))) (λ j. refl) (λ z. refl))
-      (λ _. refuses n h y agrees (look i) w i seat)))
+      (λ _. refuses fixed h y agrees (look i) w i seat)))
 
-  pub has-kept : (i p : ℕ) (w : List ℕ) → Kept n h y agrees (has i p) w (atSeat i (hasOf i p) y)
+  pub has-kept : (i p : ℕ) (w : List ℕ) → Kept fixed h y agrees (has i p) w (atSeat i (hasOf i p) y)
       (cond (ltb i n) (cond (ltb p (pieces h)) (taken (holds (hasPiece h i p))) (no beyond)) (no seat))
   unfolding hasOf event sizesWith
-  has-kept i p w = lift n h y agrees (has i p) w i (hasOf i p) _ (sized-good n h y agrees (has i p) w i _ _
-      (by-same (Good n h y agrees (has i p) w i) (ltb i n)
-      (λ a. by-same (Good n h y agrees (has i p) w i) (ltb p (pieces h))
-      (λ b. subst (λ (t : Bool). Good n h y agrees (has i p) w i (says (holds (hasIn (width (pieces h)) (y .rows) i p)) (at n h y agrees i)) (taken (holds t)))
+  has-kept i p w = lift fixed h y agrees (has i p) w i (hasOf i p) _ (sized-good fixed h y agrees (has i p) w i _ _
+      (by-same (Good fixed h y agrees (has i p) w i) (ltb i n)
+      (λ a. by-same (Good fixed h y agrees (has i p) w i) (ltb p (pieces h))
+      (λ b. subst (λ (t : Bool). Good fixed h y agrees (has i p) w i (says (holds (hasIn (width (pieces h)) (y .rows) i p)) (at fixed h y agrees i)) (taken (holds t)))
       (agrees .row-is i p (ltb-true i n a) (ltb-true p (pieces h) b)) (unchanged (taken (holds (hasIn (width (pieces h)) (y .rows) i p))) (λ j. refl) (λ z. refl)))
-      (λ _. refuses n h y agrees (has i p) w i beyond))
-      (λ _. refuses n h y agrees (has i p) w i seat)))
+      (λ _. refuses fixed h y agrees (has i p) w i beyond))
+      (λ _. refuses fixed h y agrees (has i p) w i seat)))
 
-  pub count-kept : (p : ℕ) (w : List ℕ) → Kept n h y agrees (count p) w (atSeat 0 (countOf p) y) (cond (ltb p (pieces h)) (taken (heldBy (holders n h p))) (no beyond))
+  pub count-kept : (p : ℕ) (w : List ℕ) → Kept fixed h y agrees (count p) w (atSeat 0 (countOf p) y) (cond (ltb p (pieces h)) (taken (heldBy (holders fixed h p))) (no beyond))
   unfolding countOf event sizesWith
-  count-kept p w = lift n h y agrees (count p) w 0 (countOf p) _ (sized-good n h y agrees (count p) w 0 _ _
-      (by-same (Good n h y agrees (count p) w 0) (ltb p (pieces h))
-      (λ b. subst (λ (m : ℕ). Good n h y agrees (count p) w 0 (says (heldBy (getD (y .holders) p 0)) (at n h y agrees 0)) (taken (heldBy m)))
+  count-kept p w = lift fixed h y agrees (count p) w 0 (countOf p) _ (sized-good fixed h y agrees (count p) w 0 _ _
+      (by-same (Good fixed h y agrees (count p) w 0) (ltb p (pieces h))
+      (λ b. subst (λ (m : ℕ). Good fixed h y agrees (count p) w 0 (says (heldBy (getD (y .holders) p 0)) (at fixed h y agrees 0)) (taken (heldBy m)))
       (agrees .holders-is p (ltb-true p (pieces h) b)) (unchanged (taken (heldBy (getD (y .holders) p 0))) (λ j. refl) (λ z. refl)))
-      (λ _. refuses n h y agrees (count p) w 0 beyond)))
+      (λ _. refuses fixed h y agrees (count p) w 0 beyond)))

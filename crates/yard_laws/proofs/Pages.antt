@@ -8,7 +8,7 @@ use native.Mathlib.Omega.{arith}
 use lib.ListN.{length, drop, length-take, take-append-drop}
 use Rattle.refusal.proofs.Cases.{by-test, same-or, cannot}
 use Rattle.yard_tables.specs.Looks.{firstOr}
-use Rattle.yard_laws.specs.History.{History}
+use Rattle.yard_laws.specs.History.{History, Fixed}
 use Rattle.yard_laws.specs.Says.{lacking, those, missingFrom, pageLines, pageOf, Ascending, none, one}
 
 -- ---- an ascending list is known by its members
@@ -127,22 +127,25 @@ module _ (f : ℕ → Bool) where
 
 -- ---- the missing list
 
-module _ (n : ℕ) (h : History) (first : ℕ) (l : first ≤ n) where
+module _ (fixed : Fixed) (h : History) (first : ℕ) (l : first ≤ fixed .seats) where
+  abbrev n : ℕ
+  n = fixed .seats
+
   -- a seat is on it exactly if it is not before the first seat and its truck lacks a piece
-  pub listed-lacks : (j : ℕ) → List·Memᴰ j (missingFrom n h first) → (first ≤ j) × (j < n) × (lacking h j ≡ true)
+  pub listed-lacks : (j : ℕ) → List·Memᴰ j (missingFrom fixed h first) → (first ≤ j) × (j < n) × (lacking h j ≡ true)
   listed-lacks j i = let t = those-have (lacking h) j first (n - first) i in (t .0, omega (arith, t .1), t .2)
 
-  pub lacking-listed : (j : ℕ) → first ≤ j → j < n → lacking h j ≡ true → List·Memᴰ j (missingFrom n h first)
+  pub lacking-listed : (j : ℕ) → first ≤ j → j < n → lacking h j ≡ true → List·Memᴰ j (missingFrom fixed h first)
   lacking-listed j a b e = having-there (lacking h) j first (n - first) a (omega arith) e
 
-  pub list-ascends : Ascending first (missingFrom n h first)
+  pub list-ascends : Ascending first (missingFrom fixed h first)
   list-ascends = those-ascend (lacking h) first (n - first)
 
   -- a page has as many lines as fit, and the list goes on from its next seat
-  pub lines-fit : (space : ℕ) → pageOf n h first space .written ≡ min space (length (missingFrom n h first))
-  lines-fit space = length-take space (missingFrom n h first)
+  pub lines-fit : (space : ℕ) → pageOf fixed h first space .written ≡ min space (length (missingFrom fixed h first))
+  lines-fit space = length-take space (missingFrom fixed h first)
 
-  pub page-goes-on : (space : ℕ) → missingFrom n h first ≡ pageLines n h first space ++ missingFrom n h (pageOf n h first space .next)
+  pub page-goes-on : (space : ℕ) → missingFrom fixed h first ≡ pageLines fixed h first space ++ missingFrom fixed h (pageOf fixed h first space .next)
   page-goes-on space =
-      sym (take-append-drop space (missingFrom n h first))
-      ∙ ap (λ (r : List ℕ). pageLines n h first space ++ r) (rest-is (lacking h) n space first (n - first) (omega arith))
+      sym (take-append-drop space (missingFrom fixed h first))
+      ∙ ap (λ (r : List ℕ). pageLines fixed h first space ++ r) (rest-is (lacking h) n space first (n - first) (omega arith))

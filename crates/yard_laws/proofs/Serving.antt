@@ -21,9 +21,9 @@ use Rattle.yard_tables.specs.Tables.{Said, wait, done, used, serve, dropped, wr
 use Rattle.yard_tables.specs.Tables.{seated as givesSeat}
 use Rattle.yard_tables.specs.Step.{Call, start, sit, leave, feed, interest, missing, scarcest, look, has, count}
 use Rattle.yard_tables.specs.Step.{choke as chokes}
-use Rattle.yard_laws.specs.History.{History, fresh, weAreChoking, theyAreInterested, pieces}
+use Rattle.yard_laws.specs.History.{History, Fixed, fresh, weAreChoking, theyAreInterested, pieces}
 use Rattle.torrent_blocks.specs.Answers.{lies}
-use Rattle.yard_laws.specs.View.{byHistory, lengthOf}
+use Rattle.yard_laws.specs.View.{byHistory}
 use Rattle.yard_laws.specs.Expected.{startFits, sitsBy, blockBy, requestBy, messageBy, frameBy, markBy, freeBy, answer}
 use Rattle.yard_laws.specs.Causes.{Sits, Says, Welcome, Asks, Serves, Drops}
 use Rattle.yard_laws.specs.Causes.ServesBy.{serves}
@@ -58,27 +58,30 @@ IfAsked Q R (holds b) = Unit
 IfAsked Q R (heldBy m) = Unit
 IfAsked Q R (scarce p) = Unit
 
-module _ (n : ℕ) (h : History) where
-  welcome-then : (i : ℕ) → (not (weAreChoking h i) && theyAreInterested h i) ≡ true → Welcome h i
+module _ (fixed : Fixed) (h : History) where
+  abbrev n : ℕ
+  n = fixed .seats
+
+  welcome-then : (i : ℕ) → (not (weAreChoking h i) && theyAreInterested h i) ≡ true → Welcome fixed h i
   welcome-then i e = let k = and-eq-true-iff (not (weAreChoking h i)) (theyAreInterested h i) .0 e in (not-true (weAreChoking h i) (k .0), k .1)
 
-  then-welcome : (i : ℕ) → Welcome h i → (not (weAreChoking h i) && theyAreInterested h i) ≡ true
+  then-welcome : (i : ℕ) → Welcome fixed h i → (not (weAreChoking h i) && theyAreInterested h i) ≡ true
   then-welcome i w = rw (w .0, w .1)
 
   abbrev Asked : Call → Outcome Said → Type 0
-  Asked c (taken a) = IfAsked (Serves n h c) (Drops n h c) a
+  Asked c (taken a) = IfAsked (Serves fixed h c) (Drops fixed h c) a
   Asked c (refused number place) = Unit
 
-  module _ (i : ℕ) (s : List ℕ) (here : Sits n h i) where
-    request-asked : (bytes : ℕ) → Asks n h i s bytes → Asked (feed i s) (taken (requestBy (byHistory n h) i bytes))
+  module _ (i : ℕ) (s : List ℕ) (here : Sits fixed h i) where
+    request-asked : (bytes : ℕ) → Asks fixed h i s bytes → Asked (feed i s) (taken (requestBy (byHistory fixed h) i bytes))
     request-asked bytes f = by-test (λ (a : Said). Asked (feed i s) (taken a)) (not (weAreChoking h i) && theyAreInterested h i)
         (λ e. serves i s bytes f (welcome-then i e)) (λ e. drops i s bytes f (λ w. cannot _ e (then-welcome i w)))
 
-    block-asked : (p b k : ℕ) (a : Said) → (p < pieces h → lies (lengthOf h p) b k ≡ true → Asked (feed i s) (taken a)) → Asked (feed i s) (blockBy (byHistory n h) p b k a)
+    block-asked : (p b k : ℕ) (a : Said) → (p < pieces h → lies (byHistory fixed h .longs p) b k ≡ true → Asked (feed i s) (taken a)) → Asked (feed i s) (blockBy (byHistory fixed h) p b k a)
     block-asked p b k a g = by-test (Asked (feed i s)) (ltb p (pieces h))
-        (λ d. by-test (Asked (feed i s)) (lies (lengthOf h p) b k) (λ e. g (ltb-true p (pieces h) d) e) (λ e. tt)) (λ d. tt)
+        (λ d. by-test (Asked (feed i s)) (lies (byHistory fixed h .longs p) b k) (λ e. g (ltb-true p (pieces h) d) e) (λ e. tt)) (λ d. tt)
 
-    message-asked : (m : Message (List ℕ)) (bytes : ℕ) → Says s m bytes → Asked (feed i s) (messageBy (byHistory n h) i bytes m)
+    message-asked : (m : Message (List ℕ)) (bytes : ℕ) → Says s m bytes → Asked (feed i s) (messageBy (byHistory fixed h) i bytes m)
     message-asked keepalive bytes f = tt
     message-asked choke bytes f = tt
     message-asked unchoke bytes f = tt
@@ -87,25 +90,25 @@ module _ (n : ℕ) (h : History) where
     message-asked (have p) bytes f = by-test (Asked (feed i s)) (ltb p (pieces h)) (λ e. tt) (λ e. tt)
     message-asked (bits b) bytes f = by-test (Asked (feed i s)) (fresh h i)
         (λ d. by-test (Asked (feed i s)) (eqb (length b) (width (pieces h))) (λ e. by-test (Asked (feed i s)) (spareSet (pieces h) b) (λ g. tt) (λ g. tt)) (λ e. tt)) (λ d. tt)
-    message-asked (request p b k) bytes f = block-asked p b k (requestBy (byHistory n h) i bytes)
-        (λ l e. request-asked bytes (record { sits = here; piece = p; begin = b; count = k; says = f; inside = l; fits = block-fits h p b k e }))
+    message-asked (request p b k) bytes f = block-asked p b k (requestBy (byHistory fixed h) i bytes)
+        (λ l e. request-asked bytes (record { sits = here; piece = p; begin = b; count = k; says = f; inside = l; fits = block-fits fixed h p b k e }))
     message-asked (piece p b block) bytes f = block-asked p b (length block) (used bytes) (λ l e. tt)
     message-asked (cancel p b k) bytes f = block-asked p b k (used bytes) (λ l e. tt)
     message-asked (other id rest) bytes f = tt
 
-    frame-asked : (o : Outcome Found) → readOf s ≡ o → Asked (feed i s) (frameBy (byHistory n h) i s o)
+    frame-asked : (o : Outcome Found) → readOf s ≡ o → Asked (feed i s) (frameBy (byHistory fixed h) i s o)
     frame-asked (refused number place) e = tt
     frame-asked (taken more) e = tt
     frame-asked (taken (found m bytes)) e = message-asked (meant s m) bytes (record { at = m; reads = e; means = refl })
 
-  mark-asked : (c : Call) (i space : ℕ) → Asked c (markBy (byHistory n h) i space)
-  mark-asked c i space = by-test (Asked c) (sitsBy (byHistory n h) i) (λ e. by-test (Asked c) (ltb space 5) (λ f. tt) (λ f. tt)) (λ e. tt)
+  mark-asked : (c : Call) (i space : ℕ) → Asked c (markBy (byHistory fixed h) i space)
+  mark-asked c i space = by-test (Asked c) (sitsBy (byHistory fixed h) i) (λ e. by-test (Asked c) (ltb space 5) (λ f. tt) (λ f. tt)) (λ e. tt)
 
-  asked-of : (c : Call) → Asked c (answer n h c)
+  asked-of : (c : Call) → Asked c (answer fixed h c)
   asked-of (start p l k) = by-test (Asked (start p l k)) (startFits h p l k) (λ e. tt) (λ e. tt)
-  asked-of sit = by-test (Asked sit) (leb n (freeBy (byHistory n h))) (λ e. tt) (λ e. tt)
-  asked-of (leave i) = by-test (Asked (leave i)) (sitsBy (byHistory n h) i) (λ e. tt) (λ e. tt)
-  asked-of (feed i s) = by-test (Asked (feed i s)) (sitsBy (byHistory n h) i) (λ e. frame-asked i s (sits-then n h i e) (readOf s) refl) (λ e. tt)
+  asked-of sit = by-test (Asked sit) (leb n (freeBy (byHistory fixed h))) (λ e. tt) (λ e. tt)
+  asked-of (leave i) = by-test (Asked (leave i)) (sitsBy (byHistory fixed h) i) (λ e. tt) (λ e. tt)
+  asked-of (feed i s) = by-test (Asked (feed i s)) (sitsBy (byHistory fixed h) i) (λ e. frame-asked i s (sits-then fixed h i e) (readOf s) refl) (λ e. tt)
   asked-of (chokes i b space) = mark-asked (chokes i b space) i space
   asked-of (interest i b space) = mark-asked (interest i b space) i space
   asked-of (missing first space) = by-test (Asked (missing first space)) (leb first n) (λ e. tt) (λ e. tt)
@@ -114,20 +117,20 @@ module _ (n : ℕ) (h : History) where
   asked-of (has i p) = by-test (Asked (has i p)) (ltb i n) (λ e. by-test (Asked (has i p)) (ltb p (pieces h)) (λ f. tt) (λ f. tt)) (λ e. tt)
   asked-of (count p) = by-test (Asked (count p)) (ltb p (pieces h)) (λ e. tt) (λ e. tt)
 
-  request-answer : (i : ℕ) (s : List ℕ) (bytes : ℕ) → Asks n h i s bytes → answer n h (feed i s) ≡ taken (requestBy (byHistory n h) i bytes)
+  request-answer : (i : ℕ) (s : List ℕ) (bytes : ℕ) → Asks fixed h i s bytes → answer fixed h (feed i s) ≡ taken (requestBy (byHistory fixed h) i bytes)
   request-answer i s bytes f =
-      frame-says n h i s (request (f .piece) (f .begin) (f .count)) bytes (f .sits) (f .says)
-      ∙ rw (lt-ltb (f .piece) (pieces h) (f .inside), fits-block h (f .piece) (f .begin) (f .count) (f .fits))
+      frame-says fixed h i s (request (f .piece) (f .begin) (f .count)) bytes (f .sits) (f .says)
+      ∙ rw (lt-ltb (f .piece) (pieces h) (f .inside), fits-block fixed h (f .piece) (f .begin) (f .count) (f .fits))
 
-  serve-given : (c : Call) (bytes : ℕ) → Serves n h c bytes → answer n h c ≡ taken (serve bytes)
+  serve-given : (c : Call) (bytes : ℕ) → Serves fixed h c bytes → answer fixed h c ≡ taken (serve bytes)
   serve-given c bytes (serves i s b f w) = request-answer i s b f ∙ rw (then-welcome i w)
 
-  drop-given : (c : Call) (bytes : ℕ) → Drops n h c bytes → answer n h c ≡ taken (dropped bytes)
+  drop-given : (c : Call) (bytes : ℕ) → Drops fixed h c bytes → answer fixed h c ≡ taken (dropped bytes)
   drop-given c bytes (drops i s b f w) =
       request-answer i s b f ∙ rw (false-if (not (weAreChoking h i) && theyAreInterested h i) (λ e. w (welcome-then i e)))
 
-  pub serve-exactly : (c : Call) (bytes : ℕ) → answer n h c ≡ taken (serve bytes) ↔ Serves n h c bytes
+  pub serve-exactly : (c : Call) (bytes : ℕ) → answer fixed h c ≡ taken (serve bytes) ↔ Serves fixed h c bytes
   serve-exactly c bytes = (λ e. subst (Asked c) e (asked-of c), serve-given c bytes)
 
-  pub drop-exactly : (c : Call) (bytes : ℕ) → answer n h c ≡ taken (dropped bytes) ↔ Drops n h c bytes
+  pub drop-exactly : (c : Call) (bytes : ℕ) → answer fixed h c ≡ taken (dropped bytes) ↔ Drops fixed h c bytes
   drop-exactly c bytes = (λ e. subst (Asked c) e (asked-of c), drop-given c bytes)

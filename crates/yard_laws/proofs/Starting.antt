@@ -21,10 +21,10 @@ use Rattle.yard_tables.specs.Step.{start}
 use Rattle.yard_tables.proofs.Counts.{count-none}
 use Rattle.yard_tables.proofs.Rows.{blank}
 use Rattle.yard_tables.proofs.Sizing.{Fitting, fitting}
-use Rattle.yard_laws.specs.History.{History, entry, event, pieces, sizesWith, seated}
+use Rattle.yard_laws.specs.History.{History, Fixed, entry, event, pieces, sizesWith, seated}
 use Rattle.yard_laws.specs.Says.{hasPiece, held, loaded, holders, headOf}
 use Rattle.yard_laws.specs.Expected.{no, startFits}
-use Rattle.yard_laws.specs.Run.{SizesFit}
+use Rattle.yard_laws.specs.Run.{SizesFit, fixedBy}
 use Rattle.yard_laws.proofs.Agreeing.{Agrees, quiet-agrees, counted-fits}
 use Rattle.yard_laws.proofs.Calls.{Kept}
 
@@ -38,7 +38,7 @@ abbrev pub fitsFor : ℕ → ℕ → ℕ → Yard → Bool
 fitsFor p l k y = sizesFit (emptied p l k y .head) (length (y .seats)) (length (y .rows)) (length (y .holders))
 
 pub empty-agrees : (h : History) (y : Yard) (p l k : ℕ) (w : List ℕ) → fitsFor p l k y ≡ true
-    → Agrees (length (y .seats)) (entry (start p l k) (taken done) w ∷ h) (emptied p l k y)
+    → Agrees (fixedBy y) (entry (start p l k) (taken done) w ∷ h) (emptied p l k y)
 unfolding event sizesWith
 empty-agrees h y p l k w ok =
     let n : ℕ = length (y .seats) in
@@ -94,9 +94,12 @@ by-both Q true false p f g = cannot true p refl
 by-both Q false true p f g = cannot false refl p
 by-both Q false false p f g = g refl
 
-module _ (n : ℕ) (h : History) (y : Yard) (agrees : Agrees n h y) (p l k : ℕ) where
-  fits-now : Fitting (headOf n h) n (length (y .rows)) (length (y .holders))
-  fits-now = fitting (headOf n h) n (length (y .rows)) (length (y .holders)) (counted-fits n h y agrees (headOf n h .taken) (headOf n h .complete))
+module _ (fixed : Fixed) (h : History) (y : Yard) (agrees : Agrees fixed h y) (p l k : ℕ) where
+  abbrev n : ℕ
+  n = fixed .seats
+
+  fits-now : Fitting (headOf fixed h) n (length (y .rows)) (length (y .holders))
+  fits-now = fitting (headOf fixed h) n (length (y .rows)) (length (y .holders)) (counted-fits fixed h y agrees (headOf fixed h .taken) (headOf fixed h .complete))
 
   fits-then : fitsFor p l k y ≡ true → startFits h p l k ≡ true
   fits-then e =
@@ -124,8 +127,8 @@ module _ (n : ℕ) (h : History) (y : Yard) (agrees : Agrees n h y) (p l k : ℕ
         holders-fit = fits-now .counts ∙ sym q;
       }
 
-  pub start-kept : (w : List ℕ) → Kept n h y agrees (start p l k) w (startOf p l k y) (cond (startFits h p l k) (taken done) (no sizes))
+  pub start-kept : (w : List ℕ) → Kept fixed h y agrees (start p l k) w (startOf p l k y) (cond (startFits h p l k) (taken done) (no sizes))
   unfolding startOf event sizesWith
-  start-kept w = by-both (Kept n h y agrees (start p l k) w) (fitsFor p l k y) (startFits h p l k) (same-test _ _ fits-then then-fits)
-      (λ e. (refl, subst (λ (m : ℕ). Agrees m (entry (start p l k) (taken done) w ∷ h) (emptied p l k y)) (agrees .seats-len) (empty-agrees h y p l k w e)))
-      (λ e. (refl, quiet-agrees n h y agrees (entry (start p l k) (refused sizes 0) w) (λ j. refl) (λ z. refl)))
+  start-kept w = by-both (Kept fixed h y agrees (start p l k) w) (fitsFor p l k y) (startFits h p l k) (same-test _ _ fits-then then-fits)
+      (λ e. (refl, subst (λ (m : ℕ). Agrees (record { seats = m }) (entry (start p l k) (taken done) w ∷ h) (emptied p l k y)) (agrees .seats-len) (empty-agrees h y p l k w e)))
+      (λ e. (refl, quiet-agrees fixed h y agrees (entry (start p l k) (refused sizes 0) w) (λ j. refl) (λ z. refl)))

@@ -15,7 +15,7 @@ use Rattle.peer_wire.specs.Frames.{found, readOf, meant}
 use Rattle.peer_wire.specs.Causes.{Few, Cut, TooLong, All, Right}
 use Rattle.yard_tables.specs.Rows.{width, bitAt}
 use Rattle.yard_tables.specs.Step.{Call, start, sit, leave, feed, choke, interest, missing, look, has, count}
-use Rattle.yard_laws.specs.History.{History}
+use Rattle.yard_laws.specs.History.{History, Fixed}
 use Rattle.yard_laws.specs.View.{View, byHistory}
 pub use Rattle.yard_laws.specs.View.{StartFits}
 
@@ -111,31 +111,31 @@ pub data ServesBy (v : View) : Call → ℕ → Type 0 where
 pub data DropsBy (v : View) : Call → ℕ → Type 0 where
   drops : (i : ℕ) (s : List ℕ) (bytes : ℕ) → AsksBy v i s bytes → (WelcomeBy v i → ⊥) → DropsBy v (feed i s) bytes
 
--- ---- the same by the history, on a yard of n seats; what asks for no seat's number has 0 there
+-- ---- the same by the history
 
-abbrev pub Sits : ℕ → History → ℕ → Type 0
-Sits n h i = SitsBy (byHistory n h) i
+abbrev pub Sits : Fixed → History → ℕ → Type 0
+Sits fixed h i = SitsBy (byHistory fixed h) i
 
-abbrev pub Nobody : ℕ → History → ℕ → Type 0
-Nobody n h i = NobodyBy (byHistory n h) i
+abbrev pub Nobody : Fixed → History → ℕ → Type 0
+Nobody fixed h i = NobodyBy (byHistory fixed h) i
 
-abbrev pub Fits : History → ℕ → ℕ → ℕ → Type 0
-Fits h p b k = FitsBy (byHistory 0 h) p b k
+abbrev pub Fits : Fixed → History → ℕ → ℕ → ℕ → Type 0
+Fits fixed h p b k = FitsBy (byHistory fixed h) p b k
 
-abbrev pub Cause : ℕ → History → Call → ℕ → Type 0
-Cause n h c number = CauseBy (byHistory n h) c number
+abbrev pub Cause : Fixed → History → Call → ℕ → Type 0
+Cause fixed h c number = CauseBy (byHistory fixed h) c number
 
-abbrev pub WaitCause : ℕ → History → Call → Type 0
-WaitCause n h c = WaitBy (byHistory n h) c
+abbrev pub WaitCause : Fixed → History → Call → Type 0
+WaitCause fixed h c = WaitBy (byHistory fixed h) c
 
-abbrev pub Welcome : History → ℕ → Type 0
-Welcome h i = WelcomeBy (byHistory 0 h) i
+abbrev pub Welcome : Fixed → History → ℕ → Type 0
+Welcome fixed h i = WelcomeBy (byHistory fixed h) i
 
-abbrev pub Asks : ℕ → History → ℕ → List ℕ → ℕ → Type 0
-Asks n h i s bytes = AsksBy (byHistory n h) i s bytes
+abbrev pub Asks : Fixed → History → ℕ → List ℕ → ℕ → Type 0
+Asks fixed h i s bytes = AsksBy (byHistory fixed h) i s bytes
 
-abbrev pub Serves : ℕ → History → Call → ℕ → Type 0
-Serves n h c bytes = ServesBy (byHistory n h) c bytes
+abbrev pub Serves : Fixed → History → Call → ℕ → Type 0
+Serves fixed h c bytes = ServesBy (byHistory fixed h) c bytes
 
-abbrev pub Drops : ℕ → History → Call → ℕ → Type 0
-Drops n h c bytes = DropsBy (byHistory n h) c bytes
+abbrev pub Drops : Fixed → History → Call → ℕ → Type 0
+Drops fixed h c bytes = DropsBy (byHistory fixed h) c bytes

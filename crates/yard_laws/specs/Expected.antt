@@ -19,7 +19,7 @@ use Rattle.yard_tables.specs.Step.{Call, start, sit, leave, feed, interest, mis
 use Rattle.yard_tables.specs.Step.{choke as chokes}
 use Rattle.yard_tables.specs.declared.Page.{Page}
 use Rattle.yard_tables.specs.declared.Seat.{Seat}
-use Rattle.yard_laws.specs.History.{History, pieces}
+use Rattle.yard_laws.specs.History.{History, Fixed, pieces}
 use Rattle.yard_laws.specs.View.{View, byHistory}
 use Rattle.yard_laws.specs.Says.{hasPiece, recordOf, holders, pageLines, pageOf, lowestWithout, leastOf}
 
@@ -99,37 +99,37 @@ module _ (v : View) where
   answerBy starts x (has i p) = cond (ltb i (v .seats)) (cond (ltb p (v .pieces)) (taken (holds (x .hasIt i p))) (no beyond)) (no seat)
   answerBy starts x (count p) = cond (ltb p (v .pieces)) (taken (heldBy (x .held p))) (no beyond)
 
--- ---- by the history, on a yard of n seats
+-- ---- by the history
 
 -- a further start: as many pieces as the tables have, legal lengths
 abbrev pub startFits : History → ℕ → ℕ → ℕ → Bool
 startFits h p l k = eqb p (pieces h) && (pieceLength l && (leb 1 k && leb k l))
 
-abbrev pub looksOf : ℕ → History → Looks
-looksOf n h = record {
-  page = pageOf n h;
-  scarcestPiece = leastOf (holders n h) (pieces h);
+abbrev pub looksOf : Fixed → History → Looks
+looksOf fixed h = record {
+  page = pageOf fixed h;
+  scarcestPiece = leastOf (holders fixed h) (pieces h);
   recordAt = recordOf h;
   hasIt = hasPiece h;
-  held = holders n h;
+  held = holders fixed h;
 }
 
-abbrev pub answer : ℕ → History → Call → Outcome Said
-answer n h c = answerBy (byHistory n h) (startFits h) (looksOf n h) c
+abbrev pub answer : Fixed → History → Call → Outcome Said
+answer fixed h c = answerBy (byHistory fixed h) (startFits h) (looksOf fixed h) c
 
 -- what it writes where it is taken: our mark's frame, a page's lines
-abbrev pub writes : ℕ → History → Call → List ℕ
-writes n h (start p l k) = []
-writes n h sit = []
-writes n h (leave i) = []
-writes n h (feed i s) = []
-writes n h (chokes i b space) = chokeFrame b
-writes n h (interest i b space) = interestFrame b
-writes n h (missing first space) = pageLines n h first space
-writes n h scarcest = []
-writes n h (look i) = []
-writes n h (has i p) = []
-writes n h (count p) = []
+abbrev pub writes : Fixed → History → Call → List ℕ
+writes fixed h (start p l k) = []
+writes fixed h sit = []
+writes fixed h (leave i) = []
+writes fixed h (feed i s) = []
+writes fixed h (chokes i b space) = chokeFrame b
+writes fixed h (interest i b space) = interestFrame b
+writes fixed h (missing first space) = pageLines fixed h first space
+writes fixed h scarcest = []
+writes fixed h (look i) = []
+writes fixed h (has i p) = []
+writes fixed h (count p) = []
 
-abbrev pub output : ℕ → History → Call → List ℕ
-output n h c = ifTaken (answer n h c) (writes n h c)
+abbrev pub output : Fixed → History → Call → List ℕ
+output fixed h c = ifTaken (answer fixed h c) (writes fixed h c)

@@ -26,6 +26,10 @@ entry c a w = record { call = c; answer = a; output = w }
 abbrev pub History : Type 0
 History = List Entry
 
+-- what no call of a run changes: how many seats the yard has
+pub record Fixed : Type 0 where
+  pub seats : ℕ
+
 -- ---- what a message says of its truck
 
 pub data Sort : Type 0 where

@@ -8,7 +8,7 @@ use Rattle.yard_tables.specs.Rows.{width, hasIn}
 use Rattle.yard_tables.specs.Seats.{cleared}
 use Rattle.yard_tables.specs.Tables.{Yard, done}
 use Rattle.yard_tables.specs.Step.{Call, start, step, written}
-use Rattle.yard_laws.specs.History.{Entry, History, entry, pieces, sizesSet}
+use Rattle.yard_laws.specs.History.{Entry, History, Fixed, entry, pieces, sizesSet}
 use Rattle.yard_laws.specs.Expected.{answer, output}
 pub use Rattle.yard_laws.specs.View.{SizesFit}
 use Rattle.yard_laws.specs.Says.{hasPiece, recordOf, holders, takenSeats, completeSeats}
@@ -21,6 +21,10 @@ pub record State : Type 0 where
 -- one call more: its answer is the yard's own, and so are the tables that it leaves
 unfoldable pub next : Call → State → State
 next c s = record { past = entry c (step c (s .yard) .answer) (written c (s .yard)) ∷ s .past; yard = step c (s .yard) .yard }
+
+-- what the tables y fix
+abbrev pub fixedBy : Yard → Fixed
+fixedBy y = record { seats = length (y .seats) }
 
 -- calls one after the other
 unfoldable pub run : List Call → State → State
@@ -41,22 +45,22 @@ calls [] cs = cs
 calls (e ∷ h) cs = calls h (e .call ∷ cs)
 
 -- after the start, each answer of a history, and what was written, is the one that the history before it says
-pub data Answered (n : ℕ) : History → Type 0 where
-  started : (e : Entry) → Answered n (e ∷ [])
-  and-then : (e : Entry) (h : History) → Answered n h → e .answer ≡ answer n h (e .call) → e .output ≡ output n h (e .call) → Answered n (e ∷ h)
+pub data Answered (fixed : Fixed) : History → Type 0 where
+  started : (e : Entry) → Answered fixed (e ∷ [])
+  and-then : (e : Entry) (h : History) → Answered fixed h → e .answer ≡ answer fixed h (e .call) → e .output ≡ output fixed h (e .call) → Answered fixed (e ∷ h)
 
--- the tables of n seats are what the history says, and no count passes what it could reach
-pub record Right (n : ℕ) (h : History) (y : Yard) : Type 0 where
-  pub seats-same : length (y .seats) ≡ n
-  pub holders-right : (p : ℕ) → p < pieces h → getD (y .holders) p 0 ≡ holders n h p
-  pub taken-right : y .head .taken ≡ takenSeats n h
-  pub complete-right : y .head .complete ≡ completeSeats n h
-  pub seat-right : (i : ℕ) → i < n → getD (y .seats) i cleared ≡ recordOf h i
-  pub row-right : (i p : ℕ) → i < n → p < pieces h → hasIn (width (pieces h)) (y .rows) i p ≡ hasPiece h i p
+-- the tables are what the history says, and no count passes what it could reach
+pub record Right (fixed : Fixed) (h : History) (y : Yard) : Type 0 where
+  pub seats-same : length (y .seats) ≡ fixed .seats
+  pub holders-right : (p : ℕ) → p < pieces h → getD (y .holders) p 0 ≡ holders fixed h p
+  pub taken-right : y .head .taken ≡ takenSeats fixed h
+  pub complete-right : y .head .complete ≡ completeSeats fixed h
+  pub seat-right : (i : ℕ) → i < fixed .seats → getD (y .seats) i cleared ≡ recordOf h i
+  pub row-right : (i p : ℕ) → i < fixed .seats → p < pieces h → hasIn (width (pieces h)) (y .rows) i p ≡ hasPiece h i p
   pub pieces-right : y .head .pieces ≡ pieces h
   pub piece-length-right : y .head .«piece_length» ≡ sizesSet h .pieceLength
   pub last-length-right : y .head .«last_length» ≡ sizesSet h .lastLength
-  pub holders-top : (p : ℕ) → p < pieces h → getD (y .holders) p 0 ≤ n
-  pub held-top : (i : ℕ) → i < n → getD (y .seats) i cleared .held ≤ pieces h
-  pub taken-top : y .head .taken ≤ n
-  pub complete-top : y .head .complete ≤ n
+  pub holders-top : (p : ℕ) → p < pieces h → getD (y .holders) p 0 ≤ fixed .seats
+  pub held-top : (i : ℕ) → i < fixed .seats → getD (y .seats) i cleared .held ≤ pieces h
+  pub taken-top : y .head .taken ≤ fixed .seats
+  pub complete-top : y .head .complete ≤ fixed .seats

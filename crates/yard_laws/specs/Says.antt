@@ -1,4 +1,4 @@
--- What a history says of a yard with so many seats: its counts, the missing trucks, the scarcest piece. Assumes nothing: these are definitions.
+-- What a history says of a yard, of which some things are fixed: its counts, the missing trucks, the scarcest piece. Assumes nothing: these are definitions.
 use mathlib.Core.Path.{_≡_}
 use mathlib.Core.Bool.{Bool, true, false, not, cond, _&&_}
 use mathlib.Core.List.{List, [], _∷_}
@@ -10,7 +10,7 @@ use Rattle.yard_tables.specs.Looks.{firstOr}
 use Rattle.yard_tables.specs.declared.Head.{Head}
 use Rattle.yard_tables.specs.declared.Seat.{Seat}
 use Rattle.yard_tables.specs.declared.Page.{Page}
-use Rattle.yard_laws.specs.History.{History, seated, announced, fresh, weAreChoking, weAreInterested, theyAreChoking, theyAreInterested, sizesSet, pieces}
+use Rattle.yard_laws.specs.History.{History, Fixed, seated, announced, fresh, weAreChoking, weAreInterested, theyAreChoking, theyAreInterested, sizesSet, pieces}
 
 -- ---- one truck
 
@@ -47,25 +47,25 @@ abbrev pub allOf : ℕ → (ℕ → Bool) → Bool
 allOf zero f = true
 allOf (suc n) f = allOf n f && f n
 
--- ---- counts over n seats
+-- ---- counts over the seats
 
 -- how many trucks have piece p
-abbrev pub holders : ℕ → History → ℕ → ℕ
-holders n h p = count n (λ i. hasPiece h i p)
+abbrev pub holders : Fixed → History → ℕ → ℕ
+holders fixed h p = count (fixed .seats) (λ i. hasPiece h i p)
 
-abbrev pub takenSeats : ℕ → History → ℕ
-takenSeats n h = count n (seated h)
+abbrev pub takenSeats : Fixed → History → ℕ
+takenSeats fixed h = count (fixed .seats) (seated h)
 
-abbrev pub completeSeats : ℕ → History → ℕ
-completeSeats n h = count n (loaded h)
+abbrev pub completeSeats : Fixed → History → ℕ
+completeSeats fixed h = count (fixed .seats) (loaded h)
 
-abbrev pub headOf : ℕ → History → Head
-headOf n h = record {
+abbrev pub headOf : Fixed → History → Head
+headOf fixed h = record {
   pieces = pieces h;
   «piece_length» = sizesSet h .pieceLength;
   «last_length» = sizesSet h .lastLength;
-  taken = takenSeats n h;
-  complete = completeSeats n h;
+  taken = takenSeats fixed h;
+  complete = completeSeats fixed h;
 }
 
 -- ---- the missing list
@@ -76,19 +76,19 @@ those f k zero = []
 those f k (suc m) = let r : List ℕ = those f (suc k) m in cond (f k) (k ∷ r) r
 
 -- the trucks that lack a piece, from a first seat on
-abbrev pub missingFrom : ℕ → History → ℕ → List ℕ
-missingFrom n h first = those (lacking h) first (n - first)
+abbrev pub missingFrom : Fixed → History → ℕ → List ℕ
+missingFrom fixed h first = those (lacking h) first (fixed .seats - first)
 
 -- a page's lines: as many as it has room for
-abbrev pub pageLines : ℕ → History → ℕ → ℕ → List ℕ
-pageLines n h first space = take space (missingFrom n h first)
+abbrev pub pageLines : Fixed → History → ℕ → ℕ → List ℕ
+pageLines fixed h first space = take space (missingFrom fixed h first)
 
--- the page: how many lines it has, how many trucks of the whole yard lack a piece, and the next that is not listed, or n
-abbrev pub pageOf : ℕ → History → ℕ → ℕ → Page
-pageOf n h first space = record {
-  written = length (pageLines n h first space);
-  total = count n (lacking h);
-  next = firstOr n (drop space (missingFrom n h first));
+-- the page: how many lines it has, how many trucks of the whole yard lack a piece, and the next that is not listed, or the number of seats
+abbrev pub pageOf : Fixed → History → ℕ → ℕ → Page
+pageOf fixed h first space = record {
+  written = length (pageLines fixed h first space);
+  total = count (fixed .seats) (lacking h);
+  next = firstOr (fixed .seats) (drop space (missingFrom fixed h first));
 }
 
 -- ---- the lowest

@@ -10,7 +10,7 @@ use Rattle.yard_tables.specs.Rows.{width}
 use Rattle.yard_tables.specs.Seats.{cleared}
 use Rattle.yard_tables.specs.Tables.{Yard}
 use Rattle.yard_tables.specs.Frames.{pieceSize}
-use Rattle.yard_laws.specs.History.{History, seated, fresh, weAreChoking, theyAreInterested, sizesSet}
+use Rattle.yard_laws.specs.History.{History, Fixed, seated, fresh, weAreChoking, theyAreInterested, sizesSet}
 use Rattle.yard_laws.specs.History.{pieces as piecesIn}
 
 pub record View : Type 1 where
@@ -36,10 +36,9 @@ lengthOf h p = cond (eqb (p + 1) (piecesIn h)) (sizesSet h .lastLength) (sizesSe
 abbrev pub StartFits : History → ℕ → ℕ → ℕ → Type 0
 StartFits h p l k = (p ≡ piecesIn h) × PieceLength l × (1 ≤ k) × (k ≤ l)
 
--- on a yard of n seats
-abbrev pub byHistory : ℕ → History → View
-byHistory n h = record {
-  seats = n;
+abbrev pub byHistory : Fixed → History → View
+byHistory fixed h = record {
+  seats = fixed .seats;
   sitsAt = seated h;
   silent = fresh h;
   choked = weAreChoking h;

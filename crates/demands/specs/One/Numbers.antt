@@ -67,6 +67,7 @@ use Rattle.yard_tables.specs.Tables.{Yard}
 use Rattle.yard_tables.specs.Step.{Call, start, sit, feed, missing, look, has, count}
 use Rattle.yard_laws.specs.History.{History, seated, fresh, pieces}
 use Rattle.yard_laws.specs.Causes.{Sits, Nobody, On, Marks, Says, SpeaksOf, Fits, StartFits}
+use Rattle.yard_laws.specs.Run.{fixedBy}
 use Rattle.yard_laws.specs.Damage.{Unfit, Damaged}
 use Rattle.yard_laws.proofs.Damage as damage
 use Rattle.demands_laws.specs.Causes.{Unchecked, Unsized, NoReplyText}
@@ -97,7 +98,7 @@ use Rattle.demands.specs.One.Doors.Sha1 as sha1
 
 -- what C gets of a yard, after an accepted start and any calls
 yard-given : (lent : Yard) (h : History) (t : Tables) → Made lent h (found t) → (c : Call) (r : ℕ) (z : Yard) → Permits t c r z
-    → (number : ℕ) → 1 ≤ number → number < 255 → r ≡ number ↔ At (length (lent .seats)) h c number
+    → (number : ℕ) → 1 ≤ number → number < 255 → r ≡ number ↔ At (fixedBy lent) h c number
 yard-given lent h t m c r z e number a b = number-given (permits-step t c r z e .0) number a b (runs.given lent h (found t) (made-run lent h (found t) m) c number)
 
 -- ---- calls that refuse as another does: each number below is then given as by that one
@@ -302,7 +303,7 @@ write-20 r out rest e p = Iff·trans (left-answer (as-framed r out rest e)) (fra
 
 -- given by yard, after an accepted start and any calls
 pub yard-20 : (lent : Yard) (h : History) (t : Tables) → Made lent h (found t) → (c : Call) (r : ℕ) (z : Yard) → Permits t c r z
-    → r ≡ 20 ↔ ((i : ℕ) × (s : List ℕ) × (c ≡ feed i s) × Sits (length (lent .seats)) h i × TooLong s)
+    → r ≡ 20 ↔ ((i : ℕ) × (s : List ℕ) × (c ≡ feed i s) × Sits (fixedBy lent) h i × TooLong s)
 yard-20 lent h t m c r z e = yard-given lent h t m c r z e 20 (omega arith) (omega arith)
 
 -- ---- 21: "payload length wrong for its id"
@@ -317,7 +318,7 @@ write-21 r out rest e p = Iff·trans (left-answer (as-framed r out rest e)) (fra
 
 -- given by yard, after an accepted start and any calls
 pub yard-21 : (lent : Yard) (h : History) (t : Tables) → Made lent h (found t) → (c : Call) (r : ℕ) (z : Yard) → Permits t c r z
-    → r ≡ 21 ↔ ((i : ℕ) × (s : List ℕ) × (c ≡ feed i s) × Sits (length (lent .seats)) h i × All s × (Right s → ⊥))
+    → r ≡ 21 ↔ ((i : ℕ) × (s : List ℕ) × (c ≡ feed i s) × Sits (fixedBy lent) h i × All s × (Right s → ⊥))
 yard-21 lent h t m c r z e = yard-given lent h t m c r z e 21 (omega arith) (omega arith)
 
 -- ---- 22: "handshake's first 20 bytes wrong"
@@ -336,14 +337,14 @@ handshake-23 bytes info r e h p = Iff·trans (same-answer e) (framing.handshake-
 
 -- given by yard, after an accepted start and any calls
 pub yard-30 : (lent : Yard) (h : History) (t : Tables) → Made lent h (found t) → (c : Call) (r : ℕ) (z : Yard) → Permits t c r z
-    → r ≡ 30 ↔ ((i : ℕ) × (s : List ℕ) × (b : List ℕ) × (bytes : ℕ) × (c ≡ feed i s) × Sits (length (lent .seats)) h i × Says s (bits b) bytes × (fresh h i ≡ false))
+    → r ≡ 30 ↔ ((i : ℕ) × (s : List ℕ) × (b : List ℕ) × (bytes : ℕ) × (c ≡ feed i s) × Sits (fixedBy lent) h i × Says s (bits b) bytes × (fresh h i ≡ false))
 yard-30 lent h t m c r z e = yard-given lent h t m c r z e 30 (omega arith) (omega arith)
 
 -- ---- 31: "piece, file or entry number too large"
 
 -- given by yard, after an accepted start and any calls
 pub yard-31 : (lent : Yard) (h : History) (t : Tables) → Made lent h (found t) → (c : Call) (r : ℕ) (z : Yard) → Permits t c r z
-    → r ≡ 31 ↔ (((i : ℕ) × (s : List ℕ) × (q : ℕ) × (bytes : ℕ) × (c ≡ feed i s) × Sits (length (lent .seats)) h i × Says s (have q) bytes × (pieces h ≤ q)) ⊎ (((i : ℕ) × (s : List ℕ) × (m : Message (List ℕ)) × (q : ℕ) × (b : ℕ) × (k : ℕ) × (bytes : ℕ) × (c ≡ feed i s) × Sits (length (lent .seats)) h i × Says s m bytes × SpeaksOf q b k m × (pieces h ≤ q)) ⊎ (((i : ℕ) × (q : ℕ) × (c ≡ has i q) × (i < (length (lent .seats))) × (pieces h ≤ q)) ⊎ ((q : ℕ) × (c ≡ count q) × (pieces h ≤ q)))))
+    → r ≡ 31 ↔ (((i : ℕ) × (s : List ℕ) × (q : ℕ) × (bytes : ℕ) × (c ≡ feed i s) × Sits (fixedBy lent) h i × Says s (have q) bytes × (pieces h ≤ q)) ⊎ (((i : ℕ) × (s : List ℕ) × (m : Message (List ℕ)) × (q : ℕ) × (b : ℕ) × (k : ℕ) × (bytes : ℕ) × (c ≡ feed i s) × Sits (fixedBy lent) h i × Says s m bytes × SpeaksOf q b k m × (pieces h ≤ q)) ⊎ (((i : ℕ) × (q : ℕ) × (c ≡ has i q) × (i < length (lent .seats)) × (pieces h ≤ q)) ⊎ ((q : ℕ) × (c ≡ count q) × (pieces h ≤ q)))))
 yard-31 lent h t m c r z e = yard-given lent h t m c r z e 31 (omega arith) (omega arith)
 
 -- given by torrent_blocks::block
@@ -378,21 +379,21 @@ piece-check-31 text n bytes r e q f p = rw f (Iff·trans (same-answer e) (conten
 
 -- given by yard, after an accepted start and any calls
 pub yard-32 : (lent : Yard) (h : History) (t : Tables) → Made lent h (found t) → (c : Call) (r : ℕ) (z : Yard) → Permits t c r z
-    → r ≡ 32 ↔ ((i : ℕ) × (s : List ℕ) × (b : List ℕ) × (bytes : ℕ) × (c ≡ feed i s) × Sits (length (lent .seats)) h i × Says s (bits b) bytes × (fresh h i ≡ true) × (length b ≡ width (pieces h) → ⊥))
+    → r ≡ 32 ↔ ((i : ℕ) × (s : List ℕ) × (b : List ℕ) × (bytes : ℕ) × (c ≡ feed i s) × Sits (fixedBy lent) h i × Says s (bits b) bytes × (fresh h i ≡ true) × (length b ≡ width (pieces h) → ⊥))
 yard-32 lent h t m c r z e = yard-given lent h t m c r z e 32 (omega arith) (omega arith)
 
 -- ---- 33: "spare bit set"
 
 -- given by yard, after an accepted start and any calls
 pub yard-33 : (lent : Yard) (h : History) (t : Tables) → Made lent h (found t) → (c : Call) (r : ℕ) (z : Yard) → Permits t c r z
-    → r ≡ 33 ↔ ((i : ℕ) × (s : List ℕ) × (b : List ℕ) × (bytes : ℕ) × (q : ℕ) × (c ≡ feed i s) × Sits (length (lent .seats)) h i × Says s (bits b) bytes × (fresh h i ≡ true) × (length b ≡ width (pieces h)) × (pieces h ≤ q) × (q < 8 * length b) × (bitAt b q ≡ true))
+    → r ≡ 33 ↔ ((i : ℕ) × (s : List ℕ) × (b : List ℕ) × (bytes : ℕ) × (q : ℕ) × (c ≡ feed i s) × Sits (fixedBy lent) h i × Says s (bits b) bytes × (fresh h i ≡ true) × (length b ≡ width (pieces h)) × (pieces h ≤ q) × (q < 8 * length b) × (bitAt b q ≡ true))
 yard-33 lent h t m c r z e = yard-given lent h t m c r z e 33 (omega arith) (omega arith)
 
 -- ---- 34: "block or file offset outside its bounds, or a piece to check of the wrong length"
 
 -- given by yard, after an accepted start and any calls
 pub yard-34 : (lent : Yard) (h : History) (t : Tables) → Made lent h (found t) → (c : Call) (r : ℕ) (z : Yard) → Permits t c r z
-    → r ≡ 34 ↔ ((i : ℕ) × (s : List ℕ) × (m : Message (List ℕ)) × (q : ℕ) × (b : ℕ) × (k : ℕ) × (bytes : ℕ) × (c ≡ feed i s) × Sits (length (lent .seats)) h i × Says s m bytes × SpeaksOf q b k m × (q < pieces h) × (Fits h q b k → ⊥))
+    → r ≡ 34 ↔ ((i : ℕ) × (s : List ℕ) × (m : Message (List ℕ)) × (q : ℕ) × (b : ℕ) × (k : ℕ) × (bytes : ℕ) × (c ≡ feed i s) × Sits (fixedBy lent) h i × Says s m bytes × SpeaksOf q b k m × (q < pieces h) × (Fits (fixedBy lent) h q b k → ⊥))
 yard-34 lent h t m c r z e = yard-given lent h t m c r z e 34 (omega arith) (omega arith)
 
 -- given by torrent_blocks::block
@@ -411,21 +412,21 @@ piece-check-34 text n bytes r e q f p = rw f (Iff·trans (same-answer e) (conten
 
 -- given by yard, after an accepted start and any calls
 pub yard-35 : (lent : Yard) (h : History) (t : Tables) → Made lent h (found t) → (c : Call) (r : ℕ) (z : Yard) → Permits t c r z
-    → r ≡ 35 ↔ ((c ≡ sit) × ((i : ℕ) → i < (length (lent .seats)) → seated h i ≡ true))
+    → r ≡ 35 ↔ ((c ≡ sit) × ((i : ℕ) → i < length (lent .seats) → seated h i ≡ true))
 yard-35 lent h t m c r z e = yard-given lent h t m c r z e 35 (omega arith) (omega arith)
 
 -- ---- 36: "seat number too large, or seat free"
 
 -- given by yard, after an accepted start and any calls
 pub yard-36 : (lent : Yard) (h : History) (t : Tables) → Made lent h (found t) → (c : Call) (r : ℕ) (z : Yard) → Permits t c r z
-    → r ≡ 36 ↔ (((i : ℕ) × On i c × Nobody (length (lent .seats)) h i) ⊎ (((first : ℕ) × (space : ℕ) × (c ≡ missing first space) × ((length (lent .seats)) < first)) ⊎ (((i : ℕ) × (c ≡ look i) × ((length (lent .seats)) ≤ i)) ⊎ ((i : ℕ) × (q : ℕ) × (c ≡ has i q) × ((length (lent .seats)) ≤ i)))))
+    → r ≡ 36 ↔ (((i : ℕ) × On i c × Nobody (fixedBy lent) h i) ⊎ (((first : ℕ) × (space : ℕ) × (c ≡ missing first space) × (length (lent .seats) < first)) ⊎ (((i : ℕ) × (c ≡ look i) × (length (lent .seats) ≤ i)) ⊎ ((i : ℕ) × (q : ℕ) × (c ≡ has i q) × (length (lent .seats) ≤ i)))))
 yard-36 lent h t m c r z e = yard-given lent h t m c r z e 36 (omega arith) (omega arith)
 
 -- ---- 37: "lent output too short"
 
 -- given by yard, after an accepted start and any calls
 pub yard-37 : (lent : Yard) (h : History) (t : Tables) → Made lent h (found t) → (c : Call) (r : ℕ) (z : Yard) → Permits t c r z
-    → r ≡ 37 ↔ ((i : ℕ) × (space : ℕ) × Marks i space c × Sits (length (lent .seats)) h i × (space < 5))
+    → r ≡ 37 ↔ ((i : ℕ) × (space : ℕ) × Marks i space c × Sits (fixedBy lent) h i × (space < 5))
 yard-37 lent h t m c r z e = yard-given lent h t m c r z e 37 (omega arith) (omega arith)
 
 -- given by torrent_blocks::block
@@ -480,7 +481,7 @@ pub handshake-wait : (bytes info : Lent (List ℕ)) (r : Greeting) → wire.read
 handshake-wait bytes info r e h = Iff·trans (same-answer e) (shake-wait-exactly (before info) (before bytes) h)
 
 -- given by yard, after an accepted start and any calls
-pub yard-wait : (lent : Yard) (h : History) (t : Tables) → Made lent h (found t) → (c : Call) (r : ℕ) (z : Yard) → Permits t c r z → r ≡ 255 ↔ ((i : ℕ) × (s : List ℕ) × (c ≡ feed i s) × Sits (length (lent .seats)) h i × (Few s ⊎ causes.Cut s))
+pub yard-wait : (lent : Yard) (h : History) (t : Tables) → Made lent h (found t) → (c : Call) (r : ℕ) (z : Yard) → Permits t c r z → r ≡ 255 ↔ ((i : ℕ) × (s : List ℕ) × (c ≡ feed i s) × Sits (fixedBy lent) h i × (Few s ⊎ causes.Cut s))
 yard-wait lent h t m c r z e =
     let g = made-run lent h (found t) m in
     Iff·trans (number-waits (permits-step t c r z e .0) (no-wait (found t) c)) (runs.waits lent h (found t) g c)
