@@ -3,11 +3,10 @@
 use mathlib.Core.Path.{_≡_, refl}
 use mathlib.Core.List.{List, [], _∷_}
 use Prim.Native.Nat.{ℕ}
-use Prim.Native.Char.{code}
-use Prim.Native.String as Text
 use Prim.Native.String.{String}
 use lib.ListN.{getD, replicate}
 use Rattle.refusal.specs.BigEndian.{bigEndian, bytesOf as numberBytes}
+use Rattle.refusal.specs.Texts.{bytes}
 use Rattle.refusal.specs.Paper.{Outcome, taken, refused}
 use Rattle.bencode_scalar.specs.Written.{keyLt, decimalIn}
 use Rattle.bencode_scalar.specs.Reading.{digitsVal, digitsLen, stringOf, closedOf, integerOf}
@@ -35,11 +34,6 @@ use Rattle.yard_laws.specs.Says.{holders, completeSeats, lowestWithout}
 use Rattle.yard_laws.specs.Expected.{answer}
 
 -- ---- what a row is
-
--- the bytes of a text
-unfoldable pub bytes : String → List ℕ
-bytes Text.[] = []
-bytes (Text._∷_ c s) = code c ∷ bytes s
 
 -- refused by a number, at a place
 infix 20 _at_
@@ -175,5 +169,5 @@ lent = record {
 
 -- every row gives its answer
 pub stars-hold : given stars lent lent ≡ asked stars
-unfolding given asked stars bytes blockOf byteOf lawful powerFrom sum fileLengths joinedFrom lengths endFrom partsFrom sizesIn step startOf sizesFit lowestFree sitOf seatedAt leaveOf atZero left feedOf messageOf haveOf bitfieldOf overTop announced eachFrom orBytes readOf sizedOf least most messageBy bigEndian numberBytes event sizesWith lowestWithout decode valueFrom itemsOf entriesOf kindOf stringOf closedOf integerOf keyOf digitsVal digitsLen keyLt countIn listingOf fileLines slashed escapedBy filesIn elementsIn lookup sameKey torrentOf topOf infoOf torrentSized lengthsOf fileOf elementsOf goodName clean decimalIn encode
+unfolding given asked stars blockOf byteOf lawful powerFrom sum fileLengths joinedFrom lengths endFrom partsFrom sizesIn step startOf sizesFit lowestFree sitOf seatedAt leaveOf atZero left feedOf messageOf haveOf bitfieldOf overTop announced eachFrom orBytes readOf sizedOf least most messageBy bigEndian numberBytes event sizesWith lowestWithout decode valueFrom itemsOf entriesOf kindOf stringOf closedOf integerOf keyOf digitsVal digitsLen keyLt countIn listingOf fileLines slashed escapedBy filesIn elementsIn lookup sameKey torrentOf topOf infoOf torrentSized lengthsOf fileOf elementsOf goodName clean decimalIn encode
 stars-hold = refl

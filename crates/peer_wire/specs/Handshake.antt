@@ -5,14 +5,15 @@ use Prim.Native.Nat.{ℕ}
 use lib.Dec.{ltb, eqb}
 use lib.ListN.{length, take, drop, replicate}
 use Rattle.refusal.specs.Numbers.{protocol, hash}
+use Rattle.refusal.specs.Texts.{bytes}
 use Rattle.refusal.specs.Paper.{Outcome, taken, refused, refusal}
 use Rattle.refusal.specs.declared.Part.{Part}
 use Rattle.peer_wire.specs.declared.Greeting.{Greeting}
 use Rattle.peer_wire.specs.declared.Greeting.the-variants.{Await, Hello, Refused}
 
--- 19, and "BitTorrent protocol"
+-- 19 and the words that it counts
 abbrev pub name : List ℕ
-name = 19 ∷ 66 ∷ 105 ∷ 116 ∷ 84 ∷ 111 ∷ 114 ∷ 114 ∷ 101 ∷ 110 ∷ 116 ∷ 32 ∷ 112 ∷ 114 ∷ 111 ∷ 116 ∷ 111 ∷ 99 ∷ 111 ∷ 108 ∷ []
+name = 19 ∷ bytes "BitTorrent protocol"
 
 -- the name, 8 free bytes, 20 of info hash, 20 of peer id
 abbrev pub handshake : List ℕ → List ℕ → List ℕ → List ℕ

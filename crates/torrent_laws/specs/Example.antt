@@ -2,35 +2,35 @@
 use mathlib.Core.List.{List, [], _∷_}
 use Prim.Native.Nat.{ℕ}
 use lib.IntN.{pos}
+use lib.ListN.{replicate}
+use Rattle.refusal.specs.Texts.{bytes}
 use Rattle.bencode.specs.Value.{Value, Items, Entries, str, int, list, dict, none, item, empty, entry}
 use Rattle.torrent_metainfo.specs.Keys.{announceKey, infoKey, filesKey, lengthKey, nameKey, pathKey, pieceLengthKey, piecesKey}
 use Rattle.torrent_laws.specs.Torrent.{OneFile, many, TorrentSays, stringItems}
 
 unfoldable pub text : List ℕ
 text =
-    100 ∷ 56 ∷ 58 ∷ 97 ∷ 110 ∷ 110 ∷ 111 ∷ 117 ∷ 110 ∷ 99 ∷ 101 ∷ 49 ∷ 53 ∷ 58 ∷ 104 ∷ 116 ∷ 116 ∷ 112 ∷ 58 ∷ 47 ∷ 47 ∷ 121 ∷ 97 ∷ 114 ∷ 100 ∷ 47 ∷ 97 ∷ 110 ∷ 110 ∷ 52 ∷ 58 ∷ 105 ∷ 110 ∷ 102 ∷ 111 ∷ 100 ∷ 53 ∷ 58 ∷ 102 ∷ 105 ∷ 108 ∷ 101 ∷ 115 ∷ 108 ∷ 100 ∷ 54 ∷ 58 ∷ 108 ∷ 101 ∷ 110 ∷ 103 ∷ 116 ∷ 104 ∷ 105 ∷ 50 ∷ 48 ∷ 48 ∷ 48 ∷ 48 ∷ 101 ∷ 52 ∷ 58 ∷ 112 ∷ 97 ∷ 116 ∷ 104 ∷ 108 ∷ 51 ∷ 58 ∷ 114 ∷ 116 ∷ 101 ∷ 49 ∷ 58 ∷ 97 ∷ 101 ∷ 101 ∷ 100 ∷ 54 ∷ 58 ∷ 108 ∷ 101 ∷ 110 ∷ 103 ∷ 116 ∷ 104 ∷ 105 ∷ 48 ∷ 101 ∷ 52 ∷ 58 ∷ 112 ∷ 97 ∷ 116 ∷ 104 ∷ 108 ∷ 49 ∷ 58 ∷ 98 ∷ 101 ∷ 101 ∷ 100 ∷ 54 ∷ 58 ∷ 108 ∷ 101 ∷ 110 ∷ 103 ∷ 116 ∷ 104 ∷ 105 ∷ 49 ∷ 50 ∷ 55 ∷ 54 ∷ 57 ∷ 101 ∷ 52 ∷ 58 ∷ 112 ∷ 97 ∷ 116 ∷ 104 ∷ 108 ∷ 49 ∷ 58 ∷ 99 ∷ 101 ∷ 101 ∷ 101 ∷ 52 ∷ 58 ∷ 110 ∷ 97 ∷ 109 ∷ 101 ∷ 51 ∷ 58 ∷ 112 ∷ 107 ∷ 103 ∷ 49 ∷ 50 ∷ 58 ∷ 112 ∷ 105 ∷ 101 ∷ 99 ∷ 101 ∷ 32 ∷ 108 ∷ 101 ∷ 110 ∷ 103 ∷ 116 ∷ 104 ∷ 105 ∷ 49 ∷ 54 ∷ 51 ∷ 56 ∷ 52 ∷ 101 ∷ 54 ∷ 58 ∷ 112 ∷ 105 ∷ 101 ∷ 99 ∷ 101 ∷ 115 ∷ 54 ∷ 48 ∷ 58 ∷ 65 ∷ 65 ∷ 65 ∷ 65 ∷ 65 ∷ 65 ∷ 65 ∷ 65 ∷ 65 ∷ 65 ∷ 65 ∷ 65 ∷ 65 ∷ 65 ∷ 65 ∷ 65 ∷ 65 ∷ 65 ∷ 65 ∷ 65 ∷ 65 ∷ 65 ∷ 65 ∷ 65 ∷ 65 ∷ 65 ∷ 65 ∷ 65 ∷ 65 ∷ 65 ∷ 65 ∷ 65 ∷ 65 ∷ 65 ∷ 65 ∷ 65 ∷ 65 ∷ 65 ∷ 65 ∷ 65 ∷ 65 ∷ 65 ∷ 65 ∷ 65 ∷ 65 ∷ 65 ∷ 65 ∷ 65 ∷ 65 ∷ 65 ∷ 65 ∷ 65 ∷ 65 ∷ 65 ∷ 65 ∷ 65 ∷ 65 ∷ 65 ∷ 65 ∷ 65 ∷ 101 ∷ 101 ∷ []
+    bytes "d8:announce15:http://yard/ann4:infod5:filesld6:lengthi20000e4:pathl3:rte1:aeed6:lengthi0e4:pathl1:beed6:lengthi12769e4:pathl1:ceee4:name3:pkg12:piece lengthi16384e6:pieces60:AAAAAAAAAAAAAAAAAAAAAAAAAAAAAAAAAAAAAAAAAAAAAAAAAAAAAAAAAAAAee"
 
--- http://yard/ann
 abbrev pub url : List ℕ
-url = 104 ∷ 116 ∷ 116 ∷ 112 ∷ 58 ∷ 47 ∷ 47 ∷ 121 ∷ 97 ∷ 114 ∷ 100 ∷ 47 ∷ 97 ∷ 110 ∷ 110 ∷ []
+url = bytes "http://yard/ann"
 
--- pkg
 abbrev pub pkg : List ℕ
-pkg = 112 ∷ 107 ∷ 103 ∷ []
+pkg = bytes "pkg"
 
 -- 60 letters A
 abbrev pub letters : List ℕ
-letters = 65 ∷ 65 ∷ 65 ∷ 65 ∷ 65 ∷ 65 ∷ 65 ∷ 65 ∷ 65 ∷ 65 ∷ 65 ∷ 65 ∷ 65 ∷ 65 ∷ 65 ∷ 65 ∷ 65 ∷ 65 ∷ 65 ∷ 65 ∷ 65 ∷ 65 ∷ 65 ∷ 65 ∷ 65 ∷ 65 ∷ 65 ∷ 65 ∷ 65 ∷ 65 ∷ 65 ∷ 65 ∷ 65 ∷ 65 ∷ 65 ∷ 65 ∷ 65 ∷ 65 ∷ 65 ∷ 65 ∷ 65 ∷ 65 ∷ 65 ∷ 65 ∷ 65 ∷ 65 ∷ 65 ∷ 65 ∷ 65 ∷ 65 ∷ 65 ∷ 65 ∷ 65 ∷ 65 ∷ 65 ∷ 65 ∷ 65 ∷ 65 ∷ 65 ∷ 65 ∷ []
+letters = replicate 60 65
 
 -- 20,000 bytes at rte/a, none at b, 12,769 at c
 abbrev pub fileA : OneFile
-fileA = record { size = 20000; path = (114 ∷ 116 ∷ 101 ∷ []) ∷ (97 ∷ []) ∷ [] }
+fileA = record { size = 20000; path = bytes "rte" ∷ bytes "a" ∷ [] }
 
 abbrev pub fileB : OneFile
-fileB = record { size = 0; path = (98 ∷ []) ∷ [] }
+fileB = record { size = 0; path = bytes "b" ∷ [] }
 
 abbrev pub fileC : OneFile
-fileC = record { size = 12769; path = (99 ∷ []) ∷ [] }
+fileC = record { size = 12769; path = bytes "c" ∷ [] }
 
 -- a file's dictionary
 abbrev pub fileEntries : OneFile → Entries

@@ -35,7 +35,8 @@ use Rattle.torrent_metainfo.specs.declared.Content.{Content}
 use Rattle.torrent_metainfo.specs.declared.Torrent.{Torrent}
 use Rattle.torrent_metainfo.proofs.Naming.{no-way}
 use Rattle.torrent_metainfo.proofs.Filing.{file-next}
-use Rattle.torrent_lines.specs.Lines.{bytesIn, numberIn, found, within, Listed, filesIn, filesBy, filesOf, lengthsIn, escaped, slashed, fileLine, fileLines, firstLine, filesWord, bytesWord, piecesWord, linesBy, refusedLine, torrentLines, valueLines, mostListed, mostPrinted, listingOf, plain}
+use Rattle.refusal.specs.Texts.{bytes}
+use Rattle.torrent_lines.specs.Lines.{bytesIn, numberIn, found, within, Listed, filesIn, filesBy, filesOf, lengthsIn, escaped, slashed, fileLine, fileLines, Totals, firstLine, linesBy, refusedLine, torrentLines, valueLines, mostListed, mostPrinted, listingOf, plain}
 use Rattle.torrent_lines.specs.Lines as lines
 use Rattle.torrent_lines.specs.Places.{FilesPrinted}
 use Rattle.bencode_writer.proofs.Escapes.{escaped-most}
@@ -82,9 +83,9 @@ files-most s d p o (item v vs) ns t e h =
       length-most 14 o (omega (arith, ap sum (c .2))),
       length-most 11 (f .length) (omega (arith, r .is, r .small)),
       length-append (fileLine o f) (fileLines (o + f .length) (filesIn vs)),
-      length-append (decimal o) (32 ∷ (decimal (f .length) ++ (32 ∷ (j ++ (10 ∷ []))))),
-      length-append (decimal (f .length)) (32 ∷ (j ++ (10 ∷ []))),
-      length-append j (10 ∷ []),
+      length-append (decimal o) (bytes " " ++ (decimal (f .length) ++ (bytes " " ++ (j ++ bytes "\n")))),
+      length-append (decimal (f .length)) (bytes " " ++ (j ++ bytes "\n")),
+      length-append j (bytes "\n"),
       length-append (encode v) (encodeItems vs),
     )
 
@@ -219,12 +220,16 @@ torrent-told s v f t e =
 -- ---- the listing
 
 abbrev pub firstOf : Torrent → List ℕ → List ℕ
-firstOf t b = firstLine b (t .content .files) (t .content .total) (t .«piece_count») (t .«piece_length»)
+firstOf t b = firstLine b (record { files = t .content .files; total = t .content .total; pieces = t .«piece_count»; size = t .«piece_length» })
 
-first-most : (b : List ℕ) (f n q l : ℕ) → f ≤ mostFiles → n ≤ 281474976710656 → q ≤ mostPieces → l ≤ longestPiece → length (firstLine b f n q l) ≤ 3 * length b + 59
-first-most b f n q l hf hn hq hl =
-    let x₃ = decimal q ++ (piecesWord ++ (decimal l ++ (10 ∷ []))) in
-    let x₂ = decimal n ++ (bytesWord ++ x₃) in
+first-most : (b : List ℕ) (t : Totals) → t .files ≤ mostFiles → t .total ≤ 281474976710656 → t .pieces ≤ mostPieces → t .size ≤ longestPiece → length (firstLine b t) ≤ 3 * length b + 59
+first-most b t hf hn hq hl =
+    let f = t .files in
+    let n = t .total in
+    let q = t .pieces in
+    let l = t .size in
+    let x₃ = decimal q ++ (bytes " pieces of " ++ (decimal l ++ bytes "\n")) in
+    let x₂ = decimal n ++ (bytes " bytes " ++ x₃) in
     omega (
       arith,
       escaped-most plain b,
@@ -232,11 +237,11 @@ first-most b f n q l hf hn hq hl =
       length-most 14 n (omega arith),
       length-most 4 q (omega arith),
       length-most 7 l (omega arith),
-      length-append (escaped b) (32 ∷ (decimal f ++ (filesWord ++ x₂))),
-      length-append (decimal f) (filesWord ++ x₂),
-      length-append (decimal n) (bytesWord ++ x₃),
-      length-append (decimal q) (piecesWord ++ (decimal l ++ (10 ∷ []))),
-      length-append (decimal l) (10 ∷ []),
+      length-append (escaped b) (bytes " " ++ (decimal f ++ (bytes " files " ++ x₂))),
+      length-append (decimal f) (bytes " files " ++ x₂),
+      length-append (decimal n) (bytes " bytes " ++ x₃),
+      length-append (decimal q) (bytes " pieces of " ++ (decimal l ++ bytes "\n")),
+      length-append (decimal l) (bytes "\n"),
     )
 
 module _ (s name : List ℕ) (fs : List Listed) (c : Content) where
@@ -270,8 +275,8 @@ module _ (s name : List ℕ) (fs : List Listed) (c : Content) where
         ap length (alone-lines (alone a f n e) a),
         escaped-most plain name,
         length-most 11 (c .total) (omega arith),
-        length-append (decimal (c .total)) (32 ∷ (escaped name ++ (10 ∷ []))),
-        length-append (escaped name) (10 ∷ []),
+        length-append (decimal (c .total)) (bytes " " ++ (escaped name ++ bytes "\n")),
+        length-append (escaped name) (bytes "\n"),
       )
   lines-most k (several a f n p i g m h) = omega arith
 
@@ -306,10 +311,10 @@ ready s b t e h k =
     ∙ ap (torrentLines (a .0)) (a .2)
     ∙ ap (λ (x : List ℕ). linesBy x (numberIn (within pieceLengthKey info)) fs) n
     ∙ ap (λ (x : ℕ). linesBy b x fs) (d .size)
-    ∙ ap (λ (x : ℕ). firstLine b (length fs) (sum (lengthsIn fs)) x (t .«piece_length») ++ fileLines 0 fs) pc
-    ∙ ap (λ (x : ℕ). firstLine b (length fs) x (t .«piece_count») (t .«piece_length») ++ fileLines 0 fs) tot
-    ∙ ap (λ (x : ℕ). firstLine b x (t .content .total) (t .«piece_count») (t .«piece_length») ++ fileLines 0 fs) cn in
-    let fm = first-most b (t .content .files) (t .content .total) (t .«piece_count») (t .«piece_length») (few .0) (few .1) (d .few) (d .little) in
+    ∙ ap (λ (x : ℕ). firstLine b (record { files = length fs; total = sum (lengthsIn fs); pieces = x; size = t .«piece_length» }) ++ fileLines 0 fs) pc
+    ∙ ap (λ (x : ℕ). firstLine b (record { files = length fs; total = x; pieces = t .«piece_count»; size = t .«piece_length» }) ++ fileLines 0 fs) tot
+    ∙ ap (λ (x : ℕ). firstLine b (record { files = x; total = t .content .total; pieces = t .«piece_count»; size = t .«piece_length» }) ++ fileLines 0 fs) cn in
+    let fm = first-most b (record { files = t .content .files; total = t .content .total; pieces = t .«piece_count»; size = t .«piece_length» }) (few .0) (few .1) (d .few) (d .little) in
     let lm = lines-most s b fs (t .content) m con in
     record {
       short = omega (arith, escaped-most plain b);

@@ -15,7 +15,8 @@ use Rattle.refusal.specs.Paper.{Outcome}
 use Rattle.bencode_writer.specs.Put.{left, putOf, placePast, Ran}
 use Rattle.bencode_writer.proofs.Decimals.{length-most}
 use Rattle.bencode_writer.proofs.Runs.{ran-length, ran-there, put-ran}
-use Rattle.torrent_lines.specs.Lines.{plain, escaped, slashed, filesWord, bytesWord, piecesWord, refusedWord, atWord}
+use Rattle.refusal.specs.Texts.{bytes}
+use Rattle.torrent_lines.specs.Lines.{plain, escaped, slashed}
 
 -- a byte past the output is counted and not stored
 pub ran-out : (b at : ℕ) (o : List ℕ) → length o ≤ at → Ran (b ∷ []) at o (at + 1) o
@@ -81,16 +82,16 @@ digits-there n h e f =
 
 -- ---- lines, as the code puts them together
 
-pub refused-joined : (n p : List ℕ) → refusedWord ++ ((n ++ atWord) ++ (p ++ (10 ∷ []))) ≡ refusedWord ++ (n ++ (atWord ++ (p ++ (10 ∷ []))))
-refused-joined n p = ap (λ (l : List ℕ). refusedWord ++ l) (append-assoc n atWord (p ++ (10 ∷ [])))
+pub refused-joined : (n p : List ℕ) → bytes "refused " ++ ((n ++ bytes " at ") ++ (p ++ bytes "\n")) ≡ bytes "refused " ++ (n ++ (bytes " at " ++ (p ++ bytes "\n")))
+refused-joined n p = ap (λ (l : List ℕ). bytes "refused " ++ l) (append-assoc n (bytes " at ") (p ++ bytes "\n"))
 
 pub first-joined : (e f t q l : List ℕ)
-    → e ++ (32 ∷ ((f ++ filesWord) ++ ((t ++ bytesWord) ++ ((q ++ piecesWord) ++ (l ++ (10 ∷ []))))))
-    ≡ e ++ (32 ∷ (f ++ (filesWord ++ (t ++ (bytesWord ++ (q ++ (piecesWord ++ (l ++ (10 ∷ [])))))))))
+    → e ++ (bytes " " ++ ((f ++ bytes " files ") ++ ((t ++ bytes " bytes ") ++ ((q ++ bytes " pieces of ") ++ (l ++ bytes "\n")))))
+    ≡ e ++ (bytes " " ++ (f ++ (bytes " files " ++ (t ++ (bytes " bytes " ++ (q ++ (bytes " pieces of " ++ (l ++ bytes "\n"))))))))
 first-joined e f t q l =
-    ap (λ (x : List ℕ). e ++ (32 ∷ x)) (append-assoc f filesWord ((t ++ bytesWord) ++ ((q ++ piecesWord) ++ (l ++ (10 ∷ []))))
-    ∙ ap (λ (x : List ℕ). f ++ (filesWord ++ x)) (append-assoc t bytesWord ((q ++ piecesWord) ++ (l ++ (10 ∷ []))) ∙ ap (λ (x : List ℕ). t ++ (bytesWord ++ x)) (append-assoc q piecesWord (l ++ (10 ∷ [])))))
+    ap (λ (x : List ℕ). e ++ (bytes " " ++ x)) (append-assoc f (bytes " files ") ((t ++ bytes " bytes ") ++ ((q ++ bytes " pieces of ") ++ (l ++ bytes "\n")))
+    ∙ ap (λ (x : List ℕ). f ++ (bytes " files " ++ x)) (append-assoc t (bytes " bytes ") ((q ++ bytes " pieces of ") ++ (l ++ bytes "\n")) ∙ ap (λ (x : List ℕ). t ++ (bytes " bytes " ++ x)) (append-assoc q (bytes " pieces of ") (l ++ bytes "\n"))))
 
-pub only-joined : (n name : List ℕ) → (48 ∷ 32 ∷ []) ++ ((n ++ (32 ∷ [])) ++ (escaped name ++ (10 ∷ []))) ≡ decimal 0 ++ (32 ∷ (n ++ (32 ∷ (slashed (map escaped (name ∷ [])) ++ (10 ∷ [])))))
+pub only-joined : (n name : List ℕ) → bytes "0 " ++ ((n ++ bytes " ") ++ (escaped name ++ bytes "\n")) ≡ decimal 0 ++ (bytes " " ++ (n ++ (bytes " " ++ (slashed (map escaped (name ∷ [])) ++ bytes "\n"))))
 unfolding decimalIn slashed
-only-joined n name = ap (λ (x : List ℕ). 48 ∷ 32 ∷ x) (append-assoc n (32 ∷ []) (escaped name ++ (10 ∷ [])))
+only-joined n name = ap (λ (x : List ℕ). bytes "0 " ++ x) (append-assoc n (bytes " ") (escaped name ++ bytes "\n"))

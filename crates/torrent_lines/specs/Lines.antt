@@ -2,6 +2,7 @@
 use mathlib.Core.Bool.{Bool, cond, _&&_, not}
 use mathlib.Core.List.{List, [], _∷_, _++_, map}
 use Prim.Native.Nat.{ℕ, _+_}
+use Rattle.refusal.specs.Texts.{bytes}
 use lib.Dec.{ltb, leb, eqb}
 use lib.IntN.{pos, negsuc}
 use lib.ListN.{length}
@@ -96,49 +97,41 @@ escaped bs = escapedBy plain bs
 unfoldable pub slashed : List (List ℕ) → List ℕ
 slashed [] = []
 slashed (x ∷ []) = x
-slashed (x ∷ y ∷ t) = x ++ (47 ∷ slashed (y ∷ t))
+slashed (x ∷ y ∷ t) = x ++ (bytes "/" ++ slashed (y ∷ t))
 
 -- offset, length and path of a file, and a line feed
 abbrev pub fileLine : ℕ → Listed → List ℕ
-fileLine o f = decimal o ++ (32 ∷ (decimal (f .length) ++ (32 ∷ (slashed (map escaped (f .path)) ++ (10 ∷ [])))))
+fileLine o f = decimal o ++ (bytes " " ++ (decimal (f .length) ++ (bytes " " ++ (slashed (map escaped (f .path)) ++ bytes "\n"))))
 
 -- one line a file: each begins where those before it end
 unfoldable pub fileLines : ℕ → List Listed → List ℕ
 fileLines o [] = []
 fileLines o (f ∷ fs) = fileLine o f ++ fileLines (o + f .length) fs
 
--- " files "
-abbrev pub filesWord : List ℕ
-filesWord = 32 ∷ 102 ∷ 105 ∷ 108 ∷ 101 ∷ 115 ∷ 32 ∷ []
+-- how many files, bytes and pieces there are, and how long a piece is
+pub record Totals : Type 0 where
+  pub files : ℕ
+  pub total : ℕ
+  pub pieces : ℕ
+  pub size : ℕ
 
--- " bytes "
-abbrev pub bytesWord : List ℕ
-bytesWord = 32 ∷ 98 ∷ 121 ∷ 116 ∷ 101 ∷ 115 ∷ 32 ∷ []
+abbrev pub firstLine : List ℕ → Totals → List ℕ
+firstLine name t =
+    escaped name ++ (bytes " " ++ (decimal (t .files) ++ (bytes " files " ++ (decimal (t .total) ++ (bytes " bytes "
+    ++ (decimal (t .pieces) ++ (bytes " pieces of " ++ (decimal (t .size) ++ bytes "\n"))))))))
 
--- " pieces of "
-abbrev pub piecesWord : List ℕ
-piecesWord = 32 ∷ 112 ∷ 105 ∷ 101 ∷ 99 ∷ 101 ∷ 115 ∷ 32 ∷ 111 ∷ 102 ∷ 32 ∷ []
-
--- name, files, total, pieces, piece length
-abbrev pub firstLine : List ℕ → ℕ → ℕ → ℕ → ℕ → List ℕ
-firstLine name files total pieces size =
-    escaped name ++ (32 ∷ (decimal files ++ (filesWord ++ (decimal total ++ (bytesWord ++ (decimal pieces ++ (piecesWord ++ (decimal size ++ (10 ∷ [])))))))))
+-- the totals of files in pieces of a size
+abbrev pub totalsOf : ℕ → List Listed → Totals
+totalsOf size fs = record { files = length fs; total = sum (lengthsIn fs); pieces = piecesOf (sum (lengthsIn fs)) size; size = size }
 
 abbrev pub linesBy : List ℕ → ℕ → List Listed → List ℕ
-linesBy name size fs = firstLine name (length fs) (sum (lengthsIn fs)) (piecesOf (sum (lengthsIn fs)) size) size ++ fileLines 0 fs
+linesBy name size fs = firstLine name (totalsOf size fs) ++ fileLines 0 fs
 
 abbrev pub linesOf : Value → List ℕ
 linesOf info = linesBy (bytesIn (within nameKey info)) (numberIn (within pieceLengthKey info)) (filesOf info)
 
--- "refused ", " at "
-abbrev pub refusedWord : List ℕ
-refusedWord = 114 ∷ 101 ∷ 102 ∷ 117 ∷ 115 ∷ 101 ∷ 100 ∷ 32 ∷ []
-
-abbrev pub atWord : List ℕ
-atWord = 32 ∷ 97 ∷ 116 ∷ 32 ∷ []
-
 abbrev pub refusedLine : ℕ → ℕ → List ℕ
-refusedLine number place = refusedWord ++ (decimal number ++ (atWord ++ (decimal place ++ (10 ∷ []))))
+refusedLine number place = bytes "refused " ++ (decimal number ++ (bytes " at " ++ (decimal place ++ bytes "\n")))
 
 -- ---- the listing
 

@@ -86,7 +86,7 @@ fn torrent(text: &[u8], t: Torrent, out: &mut [u8]) -> usize
 
 fn first_line(name: &[u8], t: Torrent, out: &mut [u8]) -> usize
     requires { ⌜ length (escaped (now name)) ≤ mostPrinted ⌝ }
-    ensures { λ r. ⌜ Ran (firstLine (now (name .entry)) (t .content .files) (t .content .total) (t .«piece_count») (t .«piece_length»)) 0 (now (out .entry)) r (now (out .exit)) ⌝ }
+    ensures { λ r. ⌜ Ran (firstLine (now (name .entry)) (record { files = t .content .files; total = t .content .total; pieces = t .«piece_count»; size = t .«piece_length» })) 0 (now (out .entry)) r (now (out .exit)) ⌝ }
 {
     let content = t.content;
     let a = ink::escaped(out, 0, name);

@@ -1,8 +1,9 @@
--- The keys that torrents have, byte by byte, and what a search for one tells. Assumes nothing: these are definitions.
+-- The keys that torrents have, and what a search for one tells. Assumes nothing: these are definitions.
 -- From `Tells` on they serve inner contracts alone and need not be believed: `tells-needed` and `tells-place` of torrent_metainfo/proofs/Telling.antt tie them to Rules.antt.
 use mathlib.Core.Path.{_≡_}
-use mathlib.Core.List.{List, [], _∷_}
+use mathlib.Core.List.{List}
 use Prim.Native.Nat.{ℕ}
+use Rattle.refusal.specs.Texts.{bytes}
 use Rattle.bencode_walk.specs.Stands.{Stands}
 use Rattle.bencode_walk.specs.Lookup.{Under, nothing, under}
 use Rattle.bencode_walk.specs.declared.Sought.{Sought}
@@ -10,37 +11,29 @@ use Rattle.bencode_walk.specs.declared.Sought.the-variants.{Found, Missing, Ref
 use Rattle.torrent_metainfo.specs.declared.Listing.{Listing}
 use Rattle.torrent_metainfo.specs.declared.Listing.the-variants.{Are, Refused as None}
 
--- announce
 abbrev pub announceKey : List ℕ
-announceKey = 97 ∷ 110 ∷ 110 ∷ 111 ∷ 117 ∷ 110 ∷ 99 ∷ 101 ∷ []
+announceKey = bytes "announce"
 
--- info
 abbrev pub infoKey : List ℕ
-infoKey = 105 ∷ 110 ∷ 102 ∷ 111 ∷ []
+infoKey = bytes "info"
 
--- files
 abbrev pub filesKey : List ℕ
-filesKey = 102 ∷ 105 ∷ 108 ∷ 101 ∷ 115 ∷ []
+filesKey = bytes "files"
 
--- length
 abbrev pub lengthKey : List ℕ
-lengthKey = 108 ∷ 101 ∷ 110 ∷ 103 ∷ 116 ∷ 104 ∷ []
+lengthKey = bytes "length"
 
--- name
 abbrev pub nameKey : List ℕ
-nameKey = 110 ∷ 97 ∷ 109 ∷ 101 ∷ []
+nameKey = bytes "name"
 
--- path
 abbrev pub pathKey : List ℕ
-pathKey = 112 ∷ 97 ∷ 116 ∷ 104 ∷ []
+pathKey = bytes "path"
 
--- piece length
 abbrev pub pieceLengthKey : List ℕ
-pieceLengthKey = 112 ∷ 105 ∷ 101 ∷ 99 ∷ 101 ∷ 32 ∷ 108 ∷ 101 ∷ 110 ∷ 103 ∷ 116 ∷ 104 ∷ []
+pieceLengthKey = bytes "piece length"
 
--- pieces
 abbrev pub piecesKey : List ℕ
-piecesKey = 112 ∷ 105 ∷ 101 ∷ 99 ∷ 101 ∷ 115 ∷ []
+piecesKey = bytes "pieces"
 
 -- a search tells of what is under its key: the place where the value stands, or that there is none
 abbrev pub Tells : List ℕ → ℕ → Under → Sought → Type 0

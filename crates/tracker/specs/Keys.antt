@@ -1,27 +1,22 @@
--- The keys of a reply, by their bytes. Assumes nothing: these are definitions.
-use mathlib.Core.List.{List, [], _∷_}
+-- The keys of a reply. Assumes nothing: these are definitions.
+use mathlib.Core.List.{List}
 use Prim.Native.Nat.{ℕ}
+use Rattle.refusal.specs.Texts.{bytes}
 
--- failure reason
 abbrev pub failureReason : List ℕ
-failureReason = 102 ∷ 97 ∷ 105 ∷ 108 ∷ 117 ∷ 114 ∷ 101 ∷ 32 ∷ 114 ∷ 101 ∷ 97 ∷ 115 ∷ 111 ∷ 110 ∷ []
+failureReason = bytes "failure reason"
 
--- interval
 abbrev pub interval : List ℕ
-interval = 105 ∷ 110 ∷ 116 ∷ 101 ∷ 114 ∷ 118 ∷ 97 ∷ 108 ∷ []
+interval = bytes "interval"
 
--- peers
 abbrev pub peers : List ℕ
-peers = 112 ∷ 101 ∷ 101 ∷ 114 ∷ 115 ∷ []
+peers = bytes "peers"
 
--- ip
 abbrev pub ip : List ℕ
-ip = 105 ∷ 112 ∷ []
+ip = bytes "ip"
 
--- peer id
 abbrev pub peerId : List ℕ
-peerId = 112 ∷ 101 ∷ 101 ∷ 114 ∷ 32 ∷ 105 ∷ 100 ∷ []
+peerId = bytes "peer id"
 
--- port
 abbrev pub port : List ℕ
-port = 112 ∷ 111 ∷ 114 ∷ 116 ∷ []
+port = bytes "port"
