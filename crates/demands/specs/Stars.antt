@@ -139,7 +139,7 @@ after c x = record { yard = step c (x .yard) .yard; past = entry c (answer two (
 -- the rows one after the other, with the yard before the last call and after it
 unfoldable pub given : List Star → Now → Now → List Given
 given [] before x = []
-given (block p o n a ∷ rows) before x = parts (blockOf files 16384 p o n) ∷ given rows before x
+given (block p o n a ∷ rows) before x = parts (blockOf files 16384 (spot p o) n) ∷ given rows before x
 given (byte f o a ∷ rows) before x = spots (byteOf files 16384 f o) ∷ given rows before x
 given (starts p a ∷ rows) before x =
     let o : Out = step (start p 16384 16384) (x .yard) in

@@ -466,7 +466,7 @@ piece-size-exact lengths pl p r c k = Iff·trans (same-answer c) (blocks-laws.si
 -- of torrent_blocks::byte: byte o of file f. Its piece and offset are its place in the joined content, and the block of that one byte is that byte of that file
 module _ (lengths : Lent (List ℕ)) (pl f o : ℕ) (r : Place) (c : blocks.byte-ensures lengths pl f o r) where
   pub byte-finds-piece : (x : Spot) → placePaper r ≡ taken x
-      → (x .piece * pl + x .offset ≡ sum (take f (before lengths)) + o) × (x .offset < pl) × (blockOf (joinedFiles (before lengths)) pl (x .piece) (x .offset) 1 ≡ taken (part f o 1 ∷ []))
+      → (x .piece * pl + x .offset ≡ sum (take f (before lengths)) + o) × (x .offset < pl) × (blockOf (joinedFiles (before lengths)) pl x 1 ≡ taken (part f o 1 ∷ []))
   byte-finds-piece x e = blocks-laws.byte-found (before lengths) pl f o x (sym c ∙ e)
 
   -- and every byte of every file has one

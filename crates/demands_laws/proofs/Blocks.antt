@@ -11,7 +11,7 @@ use lib.ListN.{length, getD, take, drop}
 use Rattle.refusal.specs.Paper.{Outcome, taken, refused}
 use Rattle.torrent_blocks.specs.Rules.{sum, Lawful, piecesOf, lawful}
 use Rattle.torrent_blocks.specs.Spans.{Span, FilePart, joinedFiles, heldIn, partsOf, part, nowhere, endOf}
-use Rattle.torrent_blocks.specs.Answers.{Spot, spotAt, pieces, keeps, lies, sizeOf, blockOf, byteOf, flat, partsWritten, left as parting, Left as Parting}
+use Rattle.torrent_blocks.specs.Answers.{Spot, spot, spotAt, pieces, keeps, lies, sizeOf, blockOf, byteOf, flat, partsWritten, left as parting, Left as Parting}
 use Rattle.torrent_blocks.specs.Covers.{Block, BlockCause, ByteCause, SizeCause}
 use Rattle.torrent_blocks.proofs.Legal.{is-lawful, lawful-is, piece-bounds}
 use Rattle.torrent_blocks.proofs.Whole.{byte-finds-piece, is-lies, lies-is, passed as all-passed}
@@ -23,7 +23,7 @@ use Rattle.demands_laws.proofs.Refusals.{at-zero}
 
 -- ---- refused
 
-pub block-refused : (files : List Span) (pl p o n : ℕ) (out : List ℕ) (k q : ℕ) → partsWritten (blockOf files pl p o n) out .answer ≡ refused k q ↔ (BlockCause files pl p o n (length out) k × (q ≡ 0))
+pub block-refused : (files : List Span) (pl p o n : ℕ) (out : List ℕ) (k q : ℕ) → partsWritten (blockOf files pl (spot p o) n) out .answer ≡ refused k q ↔ (BlockCause files pl (spot p o) n (length out) k × (q ≡ 0))
 block-refused files pl p o n out k q = at-zero (causes.block-refused-only files pl p o n out k q) (λ h. ap (λ (l : Parting). l .answer) (causes.block-refused-every files pl p o n out k h))
 
 pub byte-refused : (files : List Span) (pl f o k q : ℕ) → byteOf files pl f o ≡ refused k q ↔ (ByteCause files pl f o k × (q ≡ 0))
@@ -59,14 +59,14 @@ module _ (ns : List ℕ) (pl : ℕ) where
             (ps, refl, g, ap (λ (l : Parting). l .out) d ∙ ap (λ (i : ℕ). flat ps ++ drop (3 * i) o) (sym g), leb-true (3 * length ps) (length o) h)
         by false h d = let f : refused 37 0 ≡ taken k = sym (ap (λ (l : Parting). l .answer) d) ∙ t in no-way (cc)
 
-    pub block-parts : (a : Outcome ℕ) (out : List ℕ) → parting a out ≡ partsWritten (blockOf ss pl p q n) o → (k : ℕ) → a ≡ taken k
-        → (ps : List FilePart) × (blockOf ss pl p q n ≡ taken ps) × (k ≡ length ps) × (out ≡ flat ps ++ drop (3 * k) o) × (3 * length ps ≤ length o)
-    block-parts = parts-go (blockOf ss pl p q n)
+    pub block-parts : (a : Outcome ℕ) (out : List ℕ) → parting a out ≡ partsWritten (blockOf ss pl (spot p q) n) o → (k : ℕ) → a ≡ taken k
+        → (ps : List FilePart) × (blockOf ss pl (spot p q) n ≡ taken ps) × (k ≡ length ps) × (out ≡ flat ps ++ drop (3 * k) o) × (3 * length ps ≤ length o)
+    block-parts = parts-go (blockOf ss pl (spot p q) n)
 
     abbrev Taken : Type 0
     Taken = Lawful pl ns (piecesOf (sum ns) pl) × (p < piecesOf (sum ns) pl) × (1 ≤ n) × (n ≤ 16384) × (q + n ≤ min pl (sum ns - p * pl)) × (3 * length (partsOf ss (p * pl + q) n) ≤ length o)
 
-    block-taken : (a : Outcome ℕ) (out : List ℕ) → parting a out ≡ partsWritten (blockOf ss pl p q n) o → (k : ℕ) → a ≡ taken k → Taken
+    block-taken : (a : Outcome ℕ) (out : List ℕ) → parting a out ≡ partsWritten (blockOf ss pl (spot p q) n) o → (k : ℕ) → a ≡ taken k → Taken
     unfolding blockOf
     block-taken a out c k t =
         let b = block-parts a out c k t in
@@ -81,14 +81,14 @@ module _ (ns : List ℕ) (pl : ℕ) where
           subst (λ (x : List FilePart). 3 * length x ≤ length o) (sym (h .3)) (b .4),
         )
 
-    block-takes : Taken → (k : ℕ) × (partsWritten (blockOf ss pl p q n) o .answer ≡ taken k)
+    block-takes : Taken → (k : ℕ) × (partsWritten (blockOf ss pl (spot p q) n) o .answer ≡ taken k)
     unfolding blockOf partsWritten
     block-takes (f, h, a, b, e, g) =
         let i : p < pieces ss pl = omega (arith, h, count-is) in
         let l : Block (heldIn ss pl p) q n = record { some = a; most = b; ends = omega (arith, e, joined-held ns pl p) } in
         (length (partsOf ss (p * pl + q) n), rw (keeps-is ∙ is-lawful pl ns (piecesOf (sum ns) pl) f, lt-ltb p (pieces ss pl) i, is-lies (heldIn ss pl p) q n l, le-leb (3 * length (partsOf ss (p * pl + q) n)) (length o) g))
 
-    pub block-exact : (a : Outcome ℕ) (out : List ℕ) → parting a out ≡ partsWritten (blockOf ss pl p q n) o → ((k : ℕ) × (a ≡ taken k)) ↔ Taken
+    pub block-exact : (a : Outcome ℕ) (out : List ℕ) → parting a out ≡ partsWritten (blockOf ss pl (spot p q) n) o → ((k : ℕ) × (a ≡ taken k)) ↔ Taken
     block-exact a out c = (λ (k, t). block-taken a out c k t, λ h. let e = block-takes h in (e .0, ap (λ (x : Parting). x .answer) c ∙ e .1))
 
   module _ (p k : ℕ) where
@@ -134,7 +134,7 @@ module _ (ns : List ℕ) (pl : ℕ) where
         (spotAt pl (getD ss f nowhere .start + o), rw (keeps-is ∙ is-lawful pl ns (piecesOf (sum ns) pl) h, lt-ltb f (length ss) i, lt-ltb o (getD ss f nowhere .size) j))
 
     pub byte-found : (x : Spot) → byteOf ss pl f o ≡ taken x
-        → (x .piece * pl + x .offset ≡ sum (take f ns) + o) × (x .offset < pl) × (blockOf ss pl (x .piece) (x .offset) 1 ≡ taken (part f o 1 ∷ []))
+        → (x .piece * pl + x .offset ≡ sum (take f ns) + o) × (x .offset < pl) × (blockOf ss pl x 1 ≡ taken (part f o 1 ∷ []))
     unfolding byteOf
     byte-found x e =
         let b = byte-finds-piece ss pl (joined-laid ns pl) f o x e in

@@ -10,6 +10,7 @@ use Rattle.bencode.specs.Decode.{decode}
 use Rattle.bencode.specs.Answers.{checkOf}
 use Rattle.bencode_laws.proofs.Laws as bencode
 use Rattle.torrent_blocks.specs.Spans.{Span}
+use Rattle.torrent_blocks.specs.Answers.{spot}
 use Rattle.torrent_blocks.specs.Covers.{run, BlockCause, block-range, block-beyond, block-outside, block-room, ByteCause, byte-range, byte-beyond, byte-outside, SizeCause, size-range, size-beyond}
 use Rattle.peer_wire.specs.Causes.{ShakeCause, WriteCause, Cause as FrameCause}
 use Rattle.tracker.specs.Reply.{replyOf, counted, nthOf}
@@ -98,7 +99,7 @@ peer s n k p e = beyond-or ofReply k (λ l. reply s k p (peer-alike s n k p l .0
 -- ---- blocks
 
 module _ (files : List Span) (pl : ℕ) where
-  pub block : (p o n room k : ℕ) → BlockCause files pl p o n room k → In k (11 ∷ 31 ∷ 34 ∷ 37 ∷ [])
+  pub block : (p o n room k : ℕ) → BlockCause files pl (spot p o) n room k → In k (11 ∷ 31 ∷ 34 ∷ 37 ∷ [])
   block p o n room k (block-range h) = List·Memᴰ·head refl
   block p o n room k (block-beyond f h) = List·Memᴰ·tail (List·Memᴰ·head refl)
   block p o n room k (block-outside f g h) = List·Memᴰ·tail (List·Memᴰ·tail (List·Memᴰ·head refl))

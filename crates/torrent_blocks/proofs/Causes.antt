@@ -11,7 +11,7 @@ use Rattle.refusal.specs.Numbers as no
 use Rattle.refusal.proofs.Cases.{cannot, false-if}
 use Rattle.refusal.proofs.Outcomes.{not-refused, same-refusal}
 use Rattle.torrent_blocks.specs.Spans.{Span, lengths, partsOf, heldIn, nowhere}
-use Rattle.torrent_blocks.specs.Answers.{Spot, spotAt, pieces, keeps, lies, sizeOf, blockOf, byteOf, left, partsWritten}
+use Rattle.torrent_blocks.specs.Answers.{Spot, spot, spotAt, pieces, keeps, lies, sizeOf, blockOf, byteOf, left, partsWritten}
 use Rattle.torrent_blocks.specs.Covers.{Block, Rules, SizeCause, size-range, size-beyond, BlockCause, block-range, block-beyond, block-outside, block-room, ByteCause, byte-range, byte-beyond, byte-outside}
 use Rattle.torrent_blocks.proofs.Legal.{lawful-is, is-lawful}
 use Rattle.torrent_blocks.proofs.Whole.{lies-is, is-lies}
@@ -37,17 +37,17 @@ not-lies held o n h = false-if (lies held o n) (λ e. h (lies-is held o n e))
 -- ---- a block
 
 module _ (ss : List Span) (pl p o n : ℕ) (out : List ℕ) where
-  pub block-refused-only : (r q : ℕ) → partsWritten (blockOf ss pl p o n) out .answer ≡ refused r q → BlockCause ss pl p o n (length out) r × (q ≡ 0)
+  pub block-refused-only : (r q : ℕ) → partsWritten (blockOf ss pl (spot p o) n) out .answer ≡ refused r q → BlockCause ss pl (spot p o) n (length out) r × (q ≡ 0)
   unfolding blockOf partsWritten
   block-refused-only r q =
       by (keeps ss pl) (ltb p (pieces ss pl)) (lies (heldIn ss pl p) o n) (leb (3 * length (partsOf ss (p * pl + o) n)) (length out)) refl refl refl refl
     where
-      number : (k : ℕ) → _≡_ {A = Outcome ℕ} (refused k 0) (refused r q) → BlockCause ss pl p o n (length out) k → BlockCause ss pl p o n (length out) r × (q ≡ 0)
+      number : (k : ℕ) → _≡_ {A = Outcome ℕ} (refused k 0) (refused r q) → BlockCause ss pl (spot p o) n (length out) k → BlockCause ss pl (spot p o) n (length out) r × (q ≡ 0)
       number k e h = let s = same-refusal e in (rw (← s .0) h, sym (s .1))
 
       by : (a b c d : Bool) → keeps ss pl ≡ a → ltb p (pieces ss pl) ≡ b → lies (heldIn ss pl p) o n ≡ c → leb (3 * length (partsOf ss (p * pl + o) n)) (length out) ≡ d
           → partsWritten (cond a (cond b (cond c (taken (partsOf ss (p * pl + o) n)) (refused no.outside 0)) (refused no.beyond 0)) (refused no.range 0)) out .answer ≡ refused r q
-          → BlockCause ss pl p o n (length out) r × (q ≡ 0)
+          → BlockCause ss pl (spot p o) n (length out) r × (q ≡ 0)
       by true true true true f g h i e = not-refused (rw i at e)
       by true true true false f g h i e =
           number no.room (rw i at e) (block-room (rules-of ss pl f) (ltb-true _ _ g) (lies-is (heldIn ss pl p) o n h) (leb-false _ _ i))
@@ -57,7 +57,7 @@ module _ (ss : List Span) (pl p o n : ℕ) (out : List ℕ) where
       by false b c d f g h i e = number no.range e (block-range (breaks ss pl f))
 
   -- and the output is as it was
-  pub block-refused-every : (r : ℕ) → BlockCause ss pl p o n (length out) r → partsWritten (blockOf ss pl p o n) out ≡ left (refused r 0) out
+  pub block-refused-every : (r : ℕ) → BlockCause ss pl (spot p o) n (length out) r → partsWritten (blockOf ss pl (spot p o) n) out ≡ left (refused r 0) out
   unfolding blockOf partsWritten
   block-refused-every r (block-range h) = rw (not-keeps ss pl h)
   block-refused-every r (block-beyond f h) = rw (keeps-of ss pl f, le-ltb p (pieces ss pl) h)

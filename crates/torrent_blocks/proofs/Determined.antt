@@ -10,7 +10,7 @@ use Rattle.refusal.specs.Paper.{Outcome, taken, refused}
 use Rattle.refusal.specs.Numbers.{room}
 use Rattle.torrent_blocks.specs.Rules.{largest}
 use Rattle.torrent_blocks.specs.Spans.{Span, FilePart}
-use Rattle.torrent_blocks.specs.Answers.{Spot, partsPaper, placePaper, sizePaper, sizeOf, blockOf, byteOf, flat, Left, left, partsWritten}
+use Rattle.torrent_blocks.specs.Answers.{Spot, spot, partsPaper, placePaper, sizePaper, sizeOf, blockOf, byteOf, flat, Left, left, partsWritten}
 use Rattle.torrent_blocks.specs.declared.Parts.{Parts}
 use Rattle.torrent_blocks.specs.declared.Parts.the-variants.{Written, Refused}
 use Rattle.torrent_blocks.specs.declared.Place.{Place}
@@ -47,15 +47,15 @@ size-again : (r : Size) → sizeAs (sizePaper r) ≡ r
 size-again (Bytes n) = refl
 size-again (Unknown r) = refl
 
-module _ (ss : List Span) (pl p o n : ℕ) (out : List ℕ) (r : Parts) (l : List ℕ) (e : left (partsPaper r) l ≡ partsWritten (blockOf ss pl p o n) out) where
-  pub block-determined : (s : Parts) (m : List ℕ) → left (partsPaper s) m ≡ partsWritten (blockOf ss pl p o n) out → (r ≡ s) × (l ≡ m)
+module _ (ss : List Span) (pl p o n : ℕ) (out : List ℕ) (r : Parts) (l : List ℕ) (e : left (partsPaper r) l ≡ partsWritten (blockOf ss pl (spot p o) n) out) where
+  pub block-determined : (s : Parts) (m : List ℕ) → left (partsPaper s) m ≡ partsWritten (blockOf ss pl (spot p o) n) out → (r ≡ s) × (l ≡ m)
   block-determined s m f =
       (sym (parts-again r) ∙ ap (λ (x : Left). partsAs (x .answer)) (e ∙ sym f) ∙ parts-again s, ap (λ (x : Left). x .out) (e ∙ sym f))
 
   pub block-refusal-keeps : (k q : ℕ) → partsPaper r ≡ refused k q → l ≡ out
   unfolding partsWritten
   block-refusal-keeps k q h =
-      ap (λ (x : Left). x .out) e ∙ kept (blockOf ss pl p o n) (sym (ap (λ (x : Left). x .answer) e) ∙ h)
+      ap (λ (x : Left). x .out) e ∙ kept (blockOf ss pl (spot p o) n) (sym (ap (λ (x : Left). x .answer) e) ∙ h)
     where
       by : (t : Bool) (c : ℕ) (m : List ℕ) → cond t (left (taken c) m) (left (refused room 0) out) .answer ≡ refused k q
           → cond t (left (taken c) m) (left (refused room 0) out) .out ≡ out

@@ -73,12 +73,12 @@ length-flat [] = refl
 length-flat (p ∷ ps) = let e = length-flat ps in omega arith
 
 module _ (ns : List ℕ) (pl p o n : ℕ) (out : List ℕ) where
-  pub block-11 : {r : Parts} → r ≡ Refused (record { number = range; place = 0 }) → keeps (joinedFiles ns) pl ≡ false → left (partsPaper r) out ≡ partsWritten (blockOf (joinedFiles ns) pl p o n) out
+  pub block-11 : {r : Parts} → r ≡ Refused (record { number = range; place = 0 }) → keeps (joinedFiles ns) pl ≡ false → left (partsPaper r) out ≡ partsWritten (blockOf (joinedFiles ns) pl (spot p o) n) out
   unfolding blockOf partsWritten
   block-11 x e = rw (x, e)
 
   module _ (total : ℕ) (k : Known ns pl total) where
-    pub block-31 : {r : Parts} → r ≡ Refused (record { number = beyond; place = 0 }) → piecesOf total pl ≤ p → left (partsPaper r) out ≡ partsWritten (blockOf (joinedFiles ns) pl p o n) out
+    pub block-31 : {r : Parts} → r ≡ Refused (record { number = beyond; place = 0 }) → piecesOf total pl ≤ p → left (partsPaper r) out ≡ partsWritten (blockOf (joinedFiles ns) pl (spot p o) n) out
     unfolding blockOf partsWritten
     block-31 x h = rw (x, k .law, le-ltb p (pieces (joinedFiles ns) pl) (rw (k .count) h))
 
@@ -87,20 +87,20 @@ module _ (ns : List ℕ) (pl p o n : ℕ) (out : List ℕ) where
         held-is : heldIn (joinedFiles ns) pl p ≡ held
         held-is = omega (arith, joined-held ns pl p, k .is-sum)
 
-        pub block-34 : {r : Parts} → r ≡ Refused (record { number = outside; place = 0 }) → lies held o n ≡ false → left (partsPaper r) out ≡ partsWritten (blockOf (joinedFiles ns) pl p o n) out
+        pub block-34 : {r : Parts} → r ≡ Refused (record { number = outside; place = 0 }) → lies held o n ≡ false → left (partsPaper r) out ≡ partsWritten (blockOf (joinedFiles ns) pl (spot p o) n) out
         unfolding blockOf partsWritten
         block-34 x f = rw (x, k .law, lt-ltb p (pieces (joinedFiles ns) pl) (rw (k .count) h), held-is, f)
 
         module _ (f : lies held o n ≡ true) (from to m : ℕ) (ps : List FilePart) (q : from ≡ p * pl + o) (s : to ≡ from + n) (g : ps ≡ partsFrom 0 (joinedFiles ns) from to) (c : m ≡ length ps) where
-          block-taken : blockOf (joinedFiles ns) pl p o n ≡ taken ps
+          block-taken : blockOf (joinedFiles ns) pl (spot p o) n ≡ taken ps
           unfolding blockOf
           block-taken = rw (k .law, lt-ltb p (pieces (joinedFiles ns) pl) (rw (k .count) h), held-is, f, ← q, ← s, ← g)
 
-          pub block-37 : {r : Parts} → r ≡ Refused (record { number = room; place = 0 }) → length out / 3 < m → left (partsPaper r) out ≡ partsWritten (blockOf (joinedFiles ns) pl p o n) out
+          pub block-37 : {r : Parts} → r ≡ Refused (record { number = room; place = 0 }) → length out / 3 < m → left (partsPaper r) out ≡ partsWritten (blockOf (joinedFiles ns) pl (spot p o) n) out
           unfolding partsWritten
           block-37 x l = rw (x, block-taken, ← c, lt-leb (3 * m) (length out) (omega arith))
 
-          pub block-done : {out′ : List ℕ} → m ≤ length out / 3 → out′ ≡ sets out 0 (flat ps) → left (taken m) out′ ≡ partsWritten (blockOf (joinedFiles ns) pl p o n) out
+          pub block-done : {out′ : List ℕ} → m ≤ length out / 3 → out′ ≡ sets out 0 (flat ps) → left (taken m) out′ ≡ partsWritten (blockOf (joinedFiles ns) pl (spot p o) n) out
           unfolding partsWritten
           block-done l u =
               let w : length (flat ps) ≡ 3 * m = rw c (length-flat ps) in

@@ -14,7 +14,7 @@ use Rattle.refusal.specs.Limits.{longestBlock}
 use Rattle.refusal.proofs.Cases.{both}
 use Rattle.refusal.proofs.Outcomes.{not-taken}
 use Rattle.torrent_blocks.specs.Spans.{Span, FilePart, part, lengths, endOf, partsOf, heldIn, nowhere}
-use Rattle.torrent_blocks.specs.Answers.{Spot, spotAt, pieces, keeps, lies, blockOf, byteOf}
+use Rattle.torrent_blocks.specs.Answers.{Spot, spot, spotAt, pieces, keeps, lies, blockOf, byteOf}
 use Rattle.torrent_blocks.specs.Covers.{run, InSome, Laid, Covers, Block}
 use Rattle.torrent_blocks.proofs.Legal.{is-piece, lawful-is, piece-bounds}
 use Rattle.torrent_blocks.proofs.Covering.{covers, neat, one-part}
@@ -45,7 +45,7 @@ module _ (held o n : ℕ) where
 
 module _ (ss : List Span) (pl : ℕ) (laid : Laid ss pl) where
   -- the parts of a taken block are its bytes, once each and in order; none is empty, each lies within its file, and files ascend
-  pub block-covers : (p o n : ℕ) (ps : List FilePart) → blockOf ss pl p o n ≡ taken ps → Covers ss (p * pl + o) n ps
+  pub block-covers : (p o n : ℕ) (ps : List FilePart) → blockOf ss pl (spot p o) n ≡ taken ps → Covers ss (p * pl + o) n ps
   unfolding blockOf
   block-covers p o n ps e =
       let t = passed (keeps ss pl) (ltb p (pieces ss pl)) (lies (heldIn ss pl p) o n) (partsOf ss (p * pl + o) n) ps e in
@@ -60,7 +60,7 @@ module _ (ss : List Span) (pl : ℕ) (laid : Laid ss pl) where
       })
 
   -- a place in a file, as a block of one byte of its piece
-  one-block : (x : ℕ) → keeps ss pl ≡ true → InSome ss x → blockOf ss pl (x / pl) (x % pl) 1 ≡ taken (partsOf ss x 1)
+  one-block : (x : ℕ) → keeps ss pl ≡ true → InSome ss x → blockOf ss pl (spot (x / pl) (x % pl)) 1 ≡ taken (partsOf ss x 1)
   unfolding blockOf
   one-block x e h =
       let b = piece-bounds pl (lawful-is pl (lengths ss) (pieces ss pl) e .piece) in
@@ -72,7 +72,7 @@ module _ (ss : List Span) (pl : ℕ) (laid : Laid ss pl) where
 
   -- the piece and the offset of a file's byte are its place in the content, and the block of one byte there is that byte of that file
   pub byte-finds-piece : (f o : ℕ) (s : Spot) → byteOf ss pl f o ≡ taken s
-      → (s .piece * pl + s .offset ≡ getD ss f nowhere .start + o) × (blockOf ss pl (s .piece) (s .offset) 1 ≡ taken (part f o 1 ∷ []))
+      → (s .piece * pl + s .offset ≡ getD ss f nowhere .start + o) × (blockOf ss pl s 1 ≡ taken (part f o 1 ∷ []))
   unfolding byteOf
   byte-finds-piece f o s e =
       let x = getD ss f nowhere .start + o in

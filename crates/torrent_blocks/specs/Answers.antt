@@ -65,9 +65,11 @@ sizeOf ss pl p = ofPiece ss pl p (taken (heldIn ss pl p))
 abbrev pub lies : ℕ → ℕ → ℕ → Bool
 lies held o n = leb 1 n && (leb n longestBlock && leb (o + n) held)
 
--- the parts of a block of n bytes at offset o of piece p, before any output is looked at
-unfoldable pub blockOf : List Span → ℕ → ℕ → ℕ → ℕ → Outcome (List FilePart)
-blockOf ss pl p o n = ofPiece ss pl p (cond (lies (heldIn ss pl p) o n) (taken (partsOf ss (p * pl + o) n)) (refused outside 0))
+-- the parts of a block of n bytes at a spot, before any output is looked at
+unfoldable pub blockOf : List Span → ℕ → Spot → ℕ → Outcome (List FilePart)
+blockOf ss pl s n =
+    ofPiece ss pl (s .piece)
+    (cond (lies (heldIn ss pl (s .piece)) (s .offset) n) (taken (partsOf ss (s .piece * pl + s .offset) n)) (refused outside 0))
 
 -- the piece of a place in the content, and the offset there
 abbrev pub spotAt : ℕ → ℕ → Spot

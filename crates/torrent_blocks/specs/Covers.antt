@@ -8,7 +8,7 @@ use Rattle.refusal.specs.Numbers as no
 use Rattle.refusal.specs.Limits.{longestBlock}
 use Rattle.torrent_blocks.specs.Rules.{Lawful}
 use Rattle.torrent_blocks.specs.Spans.{Span, nowhere, lengths, FilePart, partsOf, heldIn}
-use Rattle.torrent_blocks.specs.Answers.{pieces}
+use Rattle.torrent_blocks.specs.Answers.{Spot, pieces}
 
 -- ---- parts
 
@@ -73,13 +73,13 @@ pub data SizeCause (ss : List Span) (pl p : ℕ) : ℕ → Type 0 where
   size-range : (Rules ss pl → ⊥) → SizeCause ss pl p no.range
   size-beyond : Rules ss pl → pieces ss pl ≤ p → SizeCause ss pl p no.beyond
 
--- of a block, whose output has room for so many numbers
-pub data BlockCause (ss : List Span) (pl p o n count : ℕ) : ℕ → Type 0 where
-  block-range : (Rules ss pl → ⊥) → BlockCause ss pl p o n count no.range
-  block-beyond : Rules ss pl → pieces ss pl ≤ p → BlockCause ss pl p o n count no.beyond
-  block-outside : Rules ss pl → p < pieces ss pl → (Block (heldIn ss pl p) o n → ⊥) → BlockCause ss pl p o n count no.outside
-  block-room : Rules ss pl → p < pieces ss pl → Block (heldIn ss pl p) o n → count < 3 * length (partsOf ss (p * pl + o) n)
-      → BlockCause ss pl p o n count no.room
+-- of a block of n bytes at a spot, whose output has room for so many numbers
+pub data BlockCause (ss : List Span) (pl : ℕ) (s : Spot) (n count : ℕ) : ℕ → Type 0 where
+  block-range : (Rules ss pl → ⊥) → BlockCause ss pl s n count no.range
+  block-beyond : Rules ss pl → pieces ss pl ≤ s .piece → BlockCause ss pl s n count no.beyond
+  block-outside : Rules ss pl → s .piece < pieces ss pl → (Block (heldIn ss pl (s .piece)) (s .offset) n → ⊥) → BlockCause ss pl s n count no.outside
+  block-room : Rules ss pl → s .piece < pieces ss pl → Block (heldIn ss pl (s .piece)) (s .offset) n
+      → count < 3 * length (partsOf ss (s .piece * pl + s .offset) n) → BlockCause ss pl s n count no.room
 
 -- of a file's byte
 pub data ByteCause (ss : List Span) (pl f o : ℕ) : ℕ → Type 0 where

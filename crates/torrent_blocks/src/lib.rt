@@ -12,7 +12,7 @@ ghost use Rattle.torrent_blocks.specs.Rules.{pieceLength, fileCount, pie
 ghost use Rattle.torrent_blocks.specs.Numberings.{widest, contentOffset, pieceNumber, pieceOffset, pieceBytes};
 ghost use Rattle.torrent_blocks.specs.Spans.{joinedFiles, partsFrom};
 ghost use Rattle.torrent_blocks.specs.Steps.{filesFrom, totalFrom, onwards};
-ghost use Rattle.torrent_blocks.specs.Answers.{partsPaper, placePaper, sizePaper, lies, sizeOf, blockOf, byteOf, flat, left, partsWritten};
+ghost use Rattle.torrent_blocks.specs.Answers.{spot, partsPaper, placePaper, sizePaper, lies, sizeOf, blockOf, byteOf, flat, left, partsWritten};
 use refusal::Refusal;
 use refusal::limit;
 use refusal::number;
@@ -54,7 +54,7 @@ pub fn block(
     count: u32,
     out: &mut [u64],
 ) -> Parts
-    ensures { λ r. ⌜ left (partsPaper r) (now (out .exit)) ≡ partsWritten (blockOf (joinedFiles (now (lengths .entry))) «piece_length» (piece .0) (offset .0) count) (now (out .entry)) ⌝ }
+    ensures { λ r. ⌜ left (partsPaper r) (now (out .exit)) ≡ partsWritten (blockOf (joinedFiles (now (lengths .entry))) «piece_length» (spot (piece .0) (offset .0)) count) (now (out .entry)) ⌝ }
 {
     // One pass over the lengths: the files before the block, those in it, those past it. Only once everything is checked
     // those in it are read again, to write. So the cost is linear in the files, and no memory is used but `out`.

@@ -4,7 +4,7 @@ use mathlib.Core.List.{List}
 use Prim.Native.Nat.{ℕ}
 use Rattle.refusal.specs.Paper.{Outcome, taken, refused, Left, left}
 use Rattle.torrent_blocks.specs.Spans.{joinedFiles}
-use Rattle.torrent_blocks.specs.Answers.{blockOf, partsWritten}
+use Rattle.torrent_blocks.specs.Answers.{spot, blockOf, partsWritten}
 use Rattle.torrent_blocks.specs.declared.Parts.the-variants.{Refused as Unlaid}
 use Rattle.torrent_blocks.proofs.Determined.{block-refusal-keeps}
 use Rattle.bencode_writer.specs.Put.{putOf}
@@ -59,8 +59,8 @@ write-reply-keeps n bs o = keeps (replyTextOf n bs o) o (λ k p e. reply-keeps n
 pub write-torrent-keeps : (f : Fields) (o : List ℕ) → Keeps (torrentTextOf f o) o
 write-torrent-keeps f o = keeps (torrentTextOf f o) o (λ n p e. torrent-keeps f o (Refused (record { number = n; place = p })) (same-left (torrentTextOf f o) n p e) n p refl .2)
 
-pub block-keeps : (ns : List ℕ) (pl p o n : ℕ) (out : List ℕ) → Keeps (partsWritten (blockOf (joinedFiles ns) pl p o n) out) out
+pub block-keeps : (ns : List ℕ) (pl p o n : ℕ) (out : List ℕ) → Keeps (partsWritten (blockOf (joinedFiles ns) pl (spot p o) n) out) out
 block-keeps ns pl p o n out = keeps l out (λ m q e. block-refusal-keeps (joinedFiles ns) pl p o n out (Unlaid (record { number = m; place = q })) (l .out) (same-left l m q e) m q refl)
   where
     l : Left ℕ
-    l = partsWritten (blockOf (joinedFiles ns) pl p o n) out
+    l = partsWritten (blockOf (joinedFiles ns) pl (spot p o) n) out

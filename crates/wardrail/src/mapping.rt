@@ -1,7 +1,7 @@
 // Where blocks fall, for C.
 ghost use Rattle.refusal.specs.Paper.{map};
 ghost use Rattle.torrent_blocks.specs.Spans.{joinedFiles};
-ghost use Rattle.torrent_blocks.specs.Answers.{blockOf, byteOf, sizeOf, partsWritten};
+ghost use Rattle.torrent_blocks.specs.Answers.{spot, blockOf, byteOf, sizeOf, partsWritten};
 ghost use Rattle.wardrail.specs.Said.{Tells};
 ghost use Rattle.wardrail.specs.Mapping.{spotDetail};
 ghost use Rattle.wardrail.specs.Writers.{Wrote};
@@ -26,7 +26,7 @@ pub extern "C" fn wardrail_block(
     out: &mut [u64],
     detail: &mut u64,
 ) -> u64
-    ensures { λ r. ⌜ Wrote (partsWritten (blockOf (joinedFiles (now (lengths .entry))) «piece_length» piece offset count) (now (out .entry))) (now (detail .entry)) r (now (detail .exit)) (now (out .exit)) ⌝ }
+    ensures { λ r. ⌜ Wrote (partsWritten (blockOf (joinedFiles (now (lengths .entry))) «piece_length» (spot piece offset) count) (now (out .entry))) (now (detail .entry)) r (now (detail .exit)) (now (out .exit)) ⌝ }
 {
     let parts = torrent_blocks::block(
         lengths,

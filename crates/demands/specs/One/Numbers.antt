@@ -26,7 +26,7 @@ use Rattle.hash_sha1.specs.declared.Agreement.{Agreement}
 use Rattle.hash_sha1.specs.declared.Hashed.{Hashed}
 use Rattle.hash_sha1.specs.declared.stream.Stream.{Stream}
 use Rattle.torrent_blocks.specs.Spans.{joinedFiles}
-use Rattle.torrent_blocks.specs.Answers.{partsPaper, placePaper, sizePaper}
+use Rattle.torrent_blocks.specs.Answers.{spot, partsPaper, placePaper, sizePaper}
 use Rattle.torrent_blocks.specs.Covers.{BlockCause, ByteCause, SizeCause}
 use Rattle.torrent_blocks.specs.declared.Parts.{Parts}
 use Rattle.torrent_blocks.specs.declared.PieceNumber.{PieceNumber}
@@ -230,7 +230,7 @@ pub reply-11 : (text : Lent (List ℕ)) (r : Reply) → tracker.read-ensures tex
 reply-11 text r e p = Iff·trans (same-answer e) (replies-laws.reply-own (before text) 11 p (omega arith))
 
 -- given by torrent_blocks::block
-pub block-11 : (lengths : Lent (List ℕ)) (pl : ℕ) (p : PieceNumber) (o : PieceOffset) (n : ℕ) (r : Parts) (out : Lent (List ℕ)) → blocks.block-ensures lengths pl p o n r out → (q : ℕ) → partsPaper r ≡ refused 11 q ↔ (BlockCause (joinedFiles (before lengths)) pl (p .0) (o .0) n (length (before out)) 11 × (q ≡ 0))
+pub block-11 : (lengths : Lent (List ℕ)) (pl : ℕ) (p : PieceNumber) (o : PieceOffset) (n : ℕ) (r : Parts) (out : Lent (List ℕ)) → blocks.block-ensures lengths pl p o n r out → (q : ℕ) → partsPaper r ≡ refused 11 q ↔ (BlockCause (joinedFiles (before lengths)) pl (spot (p .0) (o .0)) n (length (before out)) 11 × (q ≡ 0))
 block-11 lengths pl p o n r out e q = Iff·trans (left-answer e) (blocks-laws.block-refused (joinedFiles (before lengths)) pl (p .0) (o .0) n (before out) 11 q)
 
 -- given by torrent_blocks::byte
@@ -348,7 +348,7 @@ pub yard-31 : (lent : Yard) (h : History) (t : Tables) → Made lent h (found t)
 yard-31 lent h t m c r z e = yard-given lent h t m c r z e 31 (omega arith) (omega arith)
 
 -- given by torrent_blocks::block
-pub block-31 : (lengths : Lent (List ℕ)) (pl : ℕ) (p : PieceNumber) (o : PieceOffset) (n : ℕ) (r : Parts) (out : Lent (List ℕ)) → blocks.block-ensures lengths pl p o n r out → (q : ℕ) → partsPaper r ≡ refused 31 q ↔ (BlockCause (joinedFiles (before lengths)) pl (p .0) (o .0) n (length (before out)) 31 × (q ≡ 0))
+pub block-31 : (lengths : Lent (List ℕ)) (pl : ℕ) (p : PieceNumber) (o : PieceOffset) (n : ℕ) (r : Parts) (out : Lent (List ℕ)) → blocks.block-ensures lengths pl p o n r out → (q : ℕ) → partsPaper r ≡ refused 31 q ↔ (BlockCause (joinedFiles (before lengths)) pl (spot (p .0) (o .0)) n (length (before out)) 31 × (q ≡ 0))
 block-31 lengths pl p o n r out e q = Iff·trans (left-answer e) (blocks-laws.block-refused (joinedFiles (before lengths)) pl (p .0) (o .0) n (before out) 31 q)
 
 -- given by torrent_blocks::byte
@@ -397,7 +397,7 @@ pub yard-34 : (lent : Yard) (h : History) (t : Tables) → Made lent h (found t)
 yard-34 lent h t m c r z e = yard-given lent h t m c r z e 34 (omega arith) (omega arith)
 
 -- given by torrent_blocks::block
-pub block-34 : (lengths : Lent (List ℕ)) (pl : ℕ) (p : PieceNumber) (o : PieceOffset) (n : ℕ) (r : Parts) (out : Lent (List ℕ)) → blocks.block-ensures lengths pl p o n r out → (q : ℕ) → partsPaper r ≡ refused 34 q ↔ (BlockCause (joinedFiles (before lengths)) pl (p .0) (o .0) n (length (before out)) 34 × (q ≡ 0))
+pub block-34 : (lengths : Lent (List ℕ)) (pl : ℕ) (p : PieceNumber) (o : PieceOffset) (n : ℕ) (r : Parts) (out : Lent (List ℕ)) → blocks.block-ensures lengths pl p o n r out → (q : ℕ) → partsPaper r ≡ refused 34 q ↔ (BlockCause (joinedFiles (before lengths)) pl (spot (p .0) (o .0)) n (length (before out)) 34 × (q ≡ 0))
 block-34 lengths pl p o n r out e q = Iff·trans (left-answer e) (blocks-laws.block-refused (joinedFiles (before lengths)) pl (p .0) (o .0) n (before out) 34 q)
 
 -- given by torrent_blocks::byte
@@ -430,7 +430,7 @@ pub yard-37 : (lent : Yard) (h : History) (t : Tables) → Made lent h (found t)
 yard-37 lent h t m c r z e = yard-given lent h t m c r z e 37 (omega arith) (omega arith)
 
 -- given by torrent_blocks::block
-pub block-37 : (lengths : Lent (List ℕ)) (pl : ℕ) (p : PieceNumber) (o : PieceOffset) (n : ℕ) (r : Parts) (out : Lent (List ℕ)) → blocks.block-ensures lengths pl p o n r out → (q : ℕ) → partsPaper r ≡ refused 37 q ↔ (BlockCause (joinedFiles (before lengths)) pl (p .0) (o .0) n (length (before out)) 37 × (q ≡ 0))
+pub block-37 : (lengths : Lent (List ℕ)) (pl : ℕ) (p : PieceNumber) (o : PieceOffset) (n : ℕ) (r : Parts) (out : Lent (List ℕ)) → blocks.block-ensures lengths pl p o n r out → (q : ℕ) → partsPaper r ≡ refused 37 q ↔ (BlockCause (joinedFiles (before lengths)) pl (spot (p .0) (o .0)) n (length (before out)) 37 × (q ≡ 0))
 block-37 lengths pl p o n r out e q = Iff·trans (left-answer e) (blocks-laws.block-refused (joinedFiles (before lengths)) pl (p .0) (o .0) n (before out) 37 q)
 
 -- given by the writers of `bencode_writer`, a keepalive, a handshake and the listing: bytes w put at a place

@@ -2,7 +2,7 @@
 use mathlib.Core.List.{List}
 use mathlib.Core.Path.{_≡_}
 use Prim.Native.Nat.{ℕ}
-use Rattle.torrent_blocks.specs.Answers.{partsPaper, blockOf, left, partsWritten, placePaper, byteOf, sizePaper, sizeOf}
+use Rattle.torrent_blocks.specs.Answers.{spot, partsPaper, blockOf, left, partsWritten, placePaper, byteOf, sizePaper, sizeOf}
 use Rattle.torrent_blocks.specs.Spans.{joinedFiles}
 use Rattle.torrent_blocks.specs.declared.Parts.{Parts}
 use Rattle.torrent_blocks.specs.declared.PieceNumber.{PieceNumber}
@@ -15,7 +15,7 @@ use Rattle.demands.specs.One.{Lent, now, Determined1, Keeps1, Refused, D
 -- torrent_blocks::block
 abbrev pub block-ensures : (lengths : Lent (List ℕ)) («piece_length» : ℕ) (piece : PieceNumber) (offset : PieceOffset) (count : ℕ) → Parts → Lent (List ℕ) → Type 0
 block-ensures lengths «piece_length» piece offset count r out =
-    left (partsPaper r) (now (out .exit)) ≡ partsWritten (blockOf (joinedFiles (now (lengths .entry))) «piece_length» (piece .0) (offset .0) count) (now (out .entry))
+    left (partsPaper r) (now (out .exit)) ≡ partsWritten (blockOf (joinedFiles (now (lengths .entry))) «piece_length» (spot (piece .0) (offset .0)) count) (now (out .entry))
 
 pub block-determined : (lengths : Lent (List ℕ)) («piece_length» : ℕ) (piece : PieceNumber) (offset : PieceOffset) (count : ℕ) → Determined1 (block-ensures lengths «piece_length» piece offset count)
 block-determined lengths «piece_length» piece offset count out r r′ out₁ out₂ e f = laws.block-determined _ _ _ _ _ _ r _ e r′ _ f

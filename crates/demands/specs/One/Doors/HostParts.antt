@@ -5,7 +5,7 @@ use Prim.Native.Nat.{ℕ}
 use Rattle.refusal.specs.Paper.{map}
 use Rattle.peer_wire.specs.Frames.{readOf}
 use Rattle.peer_wire.specs.Handshake.{shakeOf}
-use Rattle.torrent_blocks.specs.Answers.{blockOf, partsWritten, byteOf, sizeOf}
+use Rattle.torrent_blocks.specs.Answers.{spot, blockOf, partsWritten, byteOf, sizeOf}
 use Rattle.torrent_blocks.specs.Spans.{joinedFiles}
 use Rattle.torrent_metainfo.specs.Reading.{fileAt}
 use Rattle.torrent_contents.specs.Files.{entryOf}
@@ -100,7 +100,7 @@ handshake-keeps bytes info r detail e k = kept.tells-keeps e k
 -- wardrail::mapping::wardrail_block
 abbrev pub block-ensures : (lengths : Lent (List ℕ)) («piece_length» piece offset count : ℕ) → ℕ → Lent (List ℕ) → Lent ℕ → Type 0
 block-ensures lengths «piece_length» piece offset count r out detail =
-    Wrote (partsWritten (blockOf (joinedFiles (now (lengths .entry))) «piece_length» piece offset count) (now (out .entry))) (now (detail .entry)) r (now (detail .exit)) (now (out .exit))
+    Wrote (partsWritten (blockOf (joinedFiles (now (lengths .entry))) «piece_length» (spot piece offset) count) (now (out .entry))) (now (detail .entry)) r (now (detail .exit)) (now (out .exit))
 
 pub block-determined : (lengths : Lent (List ℕ)) («piece_length» piece offset count : ℕ) → Determined2 (block-ensures lengths «piece_length» piece offset count)
 block-determined lengths «piece_length» piece offset count out detail r r′ out₁ out₂ detail₁ detail₂ e f = said.wrote-determined e f
