@@ -32,7 +32,7 @@ pub fn check_row(
     };
     let mut p = 0;
     while p < pieces {
-        let end = end_of(p, pieces);
+        let end = bits::end_of(p, pieces);
         news = check_byte(rows, said, holders, at, p, end, top, news);
         p = end;
     }
@@ -46,7 +46,7 @@ pub fn raise_row(rows: &[u8], said: &[u8], holders: &mut [u16], at: usize, piece
 {
     let mut p = 0;
     while p < pieces {
-        let end = end_of(p, pieces);
+        let end = bits::end_of(p, pieces);
         raise_byte(rows, said, holders, at, p, end);
         p = end;
     }
@@ -78,17 +78,6 @@ pub fn spare_set(said: &[u8], pieces: usize) -> bool
         p += 1;
     }
     found
-}
-
-// Where the byte of piece p ends, or the pieces do.
-fn end_of(p: usize, pieces: usize) -> usize
-    requires { ⌜ (p < pieces) × (p % 8 ≡ 0) × (pieces ≤ 65536) ⌝ }
-    ensures { λ r. ⌜ (r ≤ pieces) × (p < r) × (r ≤ p + 8) × (r < pieces → r % 8 ≡ 0) ⌝ }
-{
-    if pieces - p < 8 {
-        return pieces;
-    }
-    p + 8
 }
 
 // The pieces from p to end, all of one byte.

@@ -50,7 +50,7 @@ pub fn some_zero(rows: &[u8], holders: &[u16], at: usize, pieces: usize) -> bool
     let mut found = false;
     let mut p = 0;
     while p < pieces {
-        let end = end_of(p, pieces);
+        let end = bits::end_of(p, pieces);
         found = byte_zero(rows, holders, at, p, end, found);
         p = end;
     }
@@ -64,7 +64,7 @@ pub fn lower(rows: &[u8], holders: &mut [u16], at: usize, pieces: usize)
 {
     let mut p = 0;
     while p < pieces {
-        let end = end_of(p, pieces);
+        let end = bits::end_of(p, pieces);
         lower_byte(rows, holders, at, p, end);
         p = end;
     }
@@ -102,17 +102,6 @@ fn lower_byte(rows: &[u8], holders: &mut [u16], at: usize, p: usize, end: usize)
         holders[q] = leaving::lower_to(holders[q], bits::bit_of(byte, q));
         q += 1;
     }
-}
-
-// Where the byte of piece p ends, or the pieces do.
-fn end_of(p: usize, pieces: usize) -> usize
-    requires { ⌜ (p < pieces) × (p % 8 ≡ 0) × (pieces ≤ 65536) ⌝ }
-    ensures { λ r. ⌜ (r ≤ pieces) × (p < r) × (r ≤ p + 8) × (r < pieces → r % 8 ≡ 0) ⌝ }
-{
-    if pieces - p < 8 {
-        return pieces;
-    }
-    p + 8
 }
 
 fn one_zero(found: bool, has: bool, count: u16) -> bool

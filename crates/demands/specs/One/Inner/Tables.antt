@@ -1,7 +1,7 @@
 -- Demand 1 of `yard_tables`: what the yard's calls share. Assumes nothing.
 use mathlib.Core.Bool.{Bool}
 use mathlib.Core.Path.{_≡_, sym, _∙_}
-use Prim.Native.Nat.{ℕ, _-_, _%_, _^_}
+use Prim.Native.Nat.{ℕ, _+_, _-_, _*_, _/_, _%_, _^_, min}
 use Rattle.refusal.specs.Paper.{taken}
 use Rattle.yard_tables.specs.Counting.{bit}
 use Rattle.yard_tables.specs.Frames.{blockFits, requested}
@@ -43,6 +43,13 @@ mask-ensures p r = r ≡ 2 ^ (7 - p % 8)
 
 pub mask-determined : (p : ℕ) → Determined (mask-ensures p)
 mask-determined p r r′ e f = e ∙ sym f
+
+-- yard_tables::bits::end_of
+abbrev pub end-of-ensures : (p pieces : ℕ) → ℕ → Type 0
+end-of-ensures p pieces r = r ≡ min (8 * (p / 8) + 8) pieces
+
+pub end-of-determined : (p pieces : ℕ) → Determined (end-of-ensures p pieces)
+end-of-determined p pieces r r′ e f = e ∙ sym f
 
 -- yard_tables::block::block_step
 abbrev pub block-step-ensures : (h : Head) (s : Seat) (p : ℕ) (fits : Bool) (a : Answer) → Stepped → Type 0

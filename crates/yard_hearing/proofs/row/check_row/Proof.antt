@@ -17,17 +17,14 @@ abbrev μ-loop : tie.MeasureT-loop
 loop-holds : tie.Need-loop-holds Inv-loop μ-loop
 loop-holds c = (search needs, (λ l. refl), checked-start (c .before .before .before .args .rows .now) (c .before .before .before .args .at) (c .before .before .before .args .said .now) (c .before .before .before .args .holders .now) (c .before .before .before .args .top))
 
-end-of-requires : tie.Need-end-of-requires Inv-loop μ-loop
-end-of-requires c κs = (search needs, c .before .loop .inv .1 (c .loop-test .taken), search needs)
-
 check-byte-requires : tie.Need-check-byte-requires Inv-loop μ-loop
 check-byte-requires c κs = (omega arith, omega arith, omega (arith, c .before .before .before .before .before .before .pre .2), search needs, search needs, c .before .before .loop .inv .1 (c .before .loop-test .taken), omega arith, c .before .before .loop .inv .2)
 
 loop-again : tie.Need-loop-again Inv-loop μ-loop
-loop-again c = (search needs, c .before .end-of .ensures .3, c .check-byte .ensures)
+loop-again c = (search needs, (λ l. omega arith), c .check-byte .ensures)
 
 returns : tie.Need-returns Inv-loop μ-loop
 returns c = let e : c .before .loop .p ≡ c .before .before .before .before .before .args .pieces = omega arith in c .before .loop .inv .2 ∙ ap (checked (c .before .before .before .before .before .args .rows .now) (c .before .before .before .before .before .args .at) (c .before .before .before .before .before .args .said .now) (c .before .before .before .before .before .args .holders .now) (c .before .before .before .before .before .args .top)) e
 
 pub check-row-spec : {M : Type 1} → statement M
-check-row-spec = tie.close (tie.spec Inv-loop μ-loop loop-holds end-of-requires check-byte-requires (λ c. search needs) loop-again returns)
+check-row-spec = tie.close (tie.spec Inv-loop μ-loop loop-holds (λ c κs. search needs) check-byte-requires (λ c. search needs) loop-again returns)

@@ -16,17 +16,14 @@ abbrev μ-loop : tie.MeasureT-loop
 loop-holds : tie.Need-loop-holds Inv-loop μ-loop
 loop-holds c = (search needs, (λ l. refl), refl)
 
-end-of-requires : tie.Need-end-of-requires Inv-loop μ-loop
-end-of-requires c κs = (search needs, c .before .loop .inv .1 (c .loop-test .taken), search needs)
-
 byte-zero-requires : tie.Need-byte-zero-requires Inv-loop μ-loop
 byte-zero-requires c κs = (omega arith, omega (arith, c .before .before .before .before .before .pre .1), search needs, search needs, c .before .before .loop .inv .1 (c .before .loop-test .taken), omega arith, c .before .before .loop .inv .2)
 
 loop-again : tie.Need-loop-again Inv-loop μ-loop
-loop-again c = (search needs, c .before .end-of .ensures .3, c .byte-zero .ensures)
+loop-again c = (search needs, (λ l. omega arith), c .byte-zero .ensures)
 
 returns : tie.Need-returns Inv-loop μ-loop
 returns c = let e : c .before .loop .p ≡ c .before .before .before .before .args .pieces = omega arith in c .before .loop .inv .2 ∙ ap (someZero (c .before .before .before .before .args .rows .now) (c .before .before .before .before .args .at) (c .before .before .before .before .args .holders .now)) e
 
 pub some-zero-spec : {M : Type 1} → statement M
-some-zero-spec = tie.close (tie.spec Inv-loop μ-loop loop-holds end-of-requires byte-zero-requires (λ c. search needs) loop-again returns)
+some-zero-spec = tie.close (tie.spec Inv-loop μ-loop loop-holds (λ c κs. search needs) byte-zero-requires (λ c. search needs) loop-again returns)
