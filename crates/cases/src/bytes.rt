@@ -3,9 +3,17 @@ ghost use Prim.Native.Nat.{_≤_, _<_};
 ghost use lib.ListN.{length};
 use crate::words::find;
 use crate::words::value;
+use crate::words::word;
 
-// Writes the bytes of a word from `at` on, as many as there is room for, and answers the place past them.
-pub fn write_out(space: &mut [u8], at: usize, word: &[u8]) -> usize
+// Writes the bytes of word k of a line from `at` on, as many as there is room for, and answers the place past them.
+pub fn write_word(space: &mut [u8], at: usize, line: &[u8], k: usize) -> usize
+    requires { ⌜ at ≤ length (now space) ⌝ }
+    ensures { λ r. ⌜ (at ≤ r) × (r ≤ length (now (space .entry))) ⌝ }
+{
+    write_out(space, at, word(line, k, b' '))
+}
+
+fn write_out(space: &mut [u8], at: usize, word: &[u8]) -> usize
     requires { ⌜ at ≤ length (now space) ⌝ }
     ensures { λ r. ⌜ (at ≤ r) × (r ≤ length (now (space .entry))) ⌝ }
 {

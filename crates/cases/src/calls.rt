@@ -1,6 +1,8 @@
 // The lines of the script, one after the other, and what each of them calls.
+ghost use Prim.Native.Nat.{_≤_};
+ghost use lib.ListN.{length};
 use crate::blocks;
-use crate::bytes::write_out;
+use crate::bytes::write_word;
 use crate::hashes;
 use crate::replies;
 use crate::report;
@@ -52,11 +54,38 @@ fn one(line: &[u8], space: &mut [u8]) {
 
 fn ask(line: &[u8], space: &mut [u8], brief: bool) {
     let call = number_of(words::word(line, 0, b' '));
-    let a = write_out(space, 0, words::word(line, 1, b' '));
-    let b = write_out(space, a, words::word(line, 2, b' '));
-    let c = write_out(space, b, words::word(line, third(call), b' '));
-    answer(call, line, brief, &space[0..a], &space[a..b], &space[b..c]);
+    let ends = fill(space, line, third(call));
+    share(call, line, brief, space, ends);
     report::name(report::NEWLINE);
+}
+
+// Where each of the words of bytes ends in the space.
+struct Ends {
+    first: usize,
+    second: usize,
+    third: usize,
+}
+
+fn fill(space: &mut [u8], line: &[u8], last: usize) -> Ends
+    ensures { λ r. ⌜ (r .first ≤ r .second) × (r .second ≤ r .third) × (r .third ≤ length (now (space .entry))) ⌝ }
+{
+    let first = write_word(space, 0, line, 1);
+    let second = write_word(space, first, line, 2);
+    let third = write_word(space, second, line, last);
+    Ends {
+        first,
+        second,
+        third,
+    }
+}
+
+fn share(call: usize, line: &[u8], brief: bool, space: &[u8], ends: Ends)
+    requires { ⌜ (ends .first ≤ ends .second) × (ends .second ≤ ends .third) × (ends .third ≤ length (now space)) ⌝ }
+{
+    let a = ends.first;
+    let b = ends.second;
+    let c = ends.third;
+    answer(call, line, brief, &space[0..a], &space[a..b], &space[b..c]);
 }
 
 // The number of a call.

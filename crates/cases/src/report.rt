@@ -43,24 +43,22 @@ pub const LISTED: usize = 17;
 
 pub const CHANGED: usize = 18;
 
-pub const OTHERWISE: usize = 19;
+pub const STRING: usize = 19;
 
-pub const STRING: usize = 20;
+pub const LONG: usize = 20;
 
-pub const LONG: usize = 21;
+pub const LIST: usize = 21;
 
-pub const LIST: usize = 22;
+pub const DICTIONARY: usize = 22;
 
-pub const DICTIONARY: usize = 23;
+pub const END: usize = 23;
 
-pub const END: usize = 24;
-
-pub const NO_CALL: usize = 25;
+pub const NO_CALL: usize = 24;
 
 // Word k. One text has them all, since each literal costs the check.
 pub fn name(k: usize) {
     nth(
-        b"refused | at |taken | |-|:|\n|/|yes|no|failure |none |wait| keepalive| single | files |compact |list | output changed| otherwise by its own writer|s|n|l|d|e|no call|",
+        b"refused | at |taken | |-|:|\n|/|yes|no|failure |none |wait| keepalive| single | files |compact |list | output changed|s|n|l|d|e|no call|",
         k,
     );
 }

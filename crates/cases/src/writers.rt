@@ -36,9 +36,6 @@ fn within(out: &mut [u8], call: usize, line: &[u8], brief: bool, x: &[u8], y: &[
     let room = least(words::number(line, room_at(call)), out.len());
     let r = put(call, line, &mut out[0..room], x, y, z);
     show(r, &out[0..room], brief);
-    if call == calls::WRITE_FRAME {
-        again(words::word(line, 1, b' '), y, r, &out[0..room]);
-    }
 }
 
 // The word that is the room.
@@ -73,20 +70,16 @@ fn torrent(line: &[u8], out: &mut [u8], announce: &[u8], name: &[u8], pieces: &[
     )
 }
 
-// A frame by its id, or a keepalive.
+// A frame by the writer of its kind where the payload has its shape, and else by that of any frame, which alone C has.
 fn frame(out: &mut [u8], word: &[u8], payload: &[u8]) -> Put {
-    if is_keepalive(word) {
+    if words::find(word, 0, b'k') < word.len() {
         return write::keepalive(out);
     }
-    write::raw(out, id(word), payload)
-}
-
-fn is_keepalive(word: &[u8]) -> bool {
-    words::find(word, 0, b'k') < word.len()
-}
-
-fn id(word: &[u8]) -> u8 {
-    (words::value(word) % 256) as u8
+    let id = (words::value(word) % 256) as u8;
+    if shaped(id, payload.len()) {
+        return by_kind(out, id, payload);
+    }
+    write::raw(out, id, payload)
 }
 
 // The bytes written, or the refusal.
@@ -124,18 +117,6 @@ fn marks(from: usize, out: &[u8]) {
     }
 }
 
-// The same frame by the writer of its own kind, where the payload has its shape, which has to leave the same.
-fn again(word: &[u8], payload: &[u8], r: Put, out: &[u8]) {
-    if is_keepalive(word) {
-        return;
-    }
-    let id = id(word);
-    if shaped(id, payload.len()) {
-        let mut space = [MARK; 16500];
-        compare(&mut space, id, payload, r, out);
-    }
-}
-
 fn shaped(id: u8, len: usize) -> bool {
     match id {
         4 => len == 4,
@@ -144,28 +125,6 @@ fn shaped(id: u8, len: usize) -> bool {
         7 => 8 <= len,
         8 => len == 12,
         _ => len == 0,
-    }
-}
-
-fn compare(space: &mut [u8], id: u8, payload: &[u8], r: Put, out: &[u8]) {
-    let room = out.len();
-    if space.len() < room {
-        return;
-    }
-    let own = by_kind(&mut space[0..room], id, payload);
-    if told(own) != told(r) {
-        return report::name(report::OTHERWISE);
-    }
-    if !check::same(&space[0..room], out) {
-        report::name(report::OTHERWISE);
-    }
-}
-
-// What an answer tells, as a number.
-fn told(r: Put) -> usize {
-    match r {
-        Put::To(n) => n,
-        Put::Refused(r) => 100000 + r.number as usize,
     }
 }
 
