@@ -11,9 +11,10 @@ use Rattle.yard_tables.specs.declared.Head.{Head}
 use Rattle.yard_tables.specs.declared.Seat.{Seat}
 use Rattle.yard_telling.specs.Telling.{codeOf, toldOf}
 use Rattle.yard_telling.specs.declared.Told.{Told}
-use Rattle.yard_laws.specs.History.{History, entry}
+use Rattle.yard_laws.specs.History.{History, sizesOf, entry}
 use Rattle.yard.proofs.Looking.{missing-changes-nothing, scarcest-changes-nothing, look-changes-nothing, has-changes-nothing, count-changes-nothing}
-use Rattle.demands_laws.proofs.Runs.{Run, begins, goes-on}
+use Rattle.yard_laws.specs.Run.{Run, begins, goes-on}
+use Rattle.demands_laws.proofs.Runs.{start-taken}
 use Rattle.demands.specs.One.{Lent, before, after}
 use Rattle.demands.specs.One.Doors.Yard as yard
 
@@ -102,6 +103,8 @@ telling-step t c r told (tells-has i p n u e) = e .0
 telling-step t c r told (tells-count p n u e) = e .0
 
 pub made-run : (lent : Yard) (h : History) (y : Yard) → Made lent h y → Run lent h y
-made-run lent h y (started t p l k z f e) = let m = permits-step t (Call.start p l k) 0 z e in begins lent p l k z
-    (m .0 ∙ ap (λ (x : Yard). codeOf (step (Call.start p l k) x .answer)) f) (m .1 ∙ ap (λ (x : Yard). step (Call.start p l k) x .yard) f)
-made-run lent h y (called g t c r z m e) = goes-on lent g (found t) c z (made-run lent g (found t) m) (permits-step t c r z e .1)
+made-run lent h y (started t p l k z f e) =
+    let m = permits-step t (Call.start p l k) 0 z e in
+    begins (sizesOf p l k) z (start-taken (sizesOf p l k) lent (sym (m .0 ∙ ap (λ (x : Yard). codeOf (step (Call.start p l k) x .answer)) f)))
+    (m .1 ∙ ap (λ (x : Yard). step (Call.start p l k) x .yard) f)
+made-run lent h y (called g t c r z m e) = goes-on g (found t) c z (made-run lent g (found t) m) (permits-step t c r z e .1)

@@ -30,8 +30,8 @@ use Rattle.yard_tables.specs.Frames.{overTop, announced, haveOf, bitfieldOf, me
 use Rattle.yard_tables.specs.Seating.{startOf, lowestFree, seatedAt, sitOf, atZero, left, leaveOf}
 use Rattle.yard_tables.specs.Step.{Call, start, sit, leave, feed, step}
 use Rattle.yard_laws.specs.History.{History, Fixed, entry, event, sizesWith}
-use Rattle.yard_laws.specs.Says.{holders, completeSeats, lowestWithout}
-use Rattle.yard_laws.specs.Expected.{answer}
+use Rattle.yard_laws.specs.Says.{holders, completeSeats}
+use Rattle.yard_laws.specs.Expected.{answer, lowestWithout}
 
 -- ---- what a row is
 

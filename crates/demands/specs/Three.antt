@@ -2,29 +2,31 @@
 -- Nothing is asked of what stands in the tables that are lent first: the first call of a run is a start that is accepted, and from there on the tables are handed
 -- from call to call as each leaves them. A history holds the calls with their answers, the newest first; `seated`, `announced`, `fresh` and the four marks are
 -- recursions on it that look at no table (yard_laws/specs/History.antt).
-use mathlib.Core.Path.{_≡_, sym, ap, ap₂, _∙_}
+use mathlib.Core.Path.{_≡_, refl, sym, ap, _∙_}
 use mathlib.Core.Logic.{_↔_, Iff·trans}
 use mathlib.Core.Bool.{true, false, not, _&&_}
 use mathlib.Core.List.{List, _++_, List·Memᴰ as In}
 use Prim.Native.Nat.{ℕ, _*_, _≤_, _<_, min}
-use lib.Dec.{eqb}
 use lib.ListN.{length, getD, take, drop}
 use lib.Seq.{sets}
 use Rattle.refusal.specs.Paper.{Outcome, taken, refused}
-use Rattle.yard_tables.specs.Counting.{count, Least}
+use Rattle.yard_tables.specs.Counting.{count, some}
 use Rattle.yard_tables.specs.Rows.{width, hasIn}
 use Rattle.yard_tables.specs.Seats.{cleared}
 use Rattle.yard_tables.specs.Looks.{firstOr}
-use Rattle.yard_tables.specs.Tables.{Yard, Said, wait, done, serve, dropped, listed, scarce, seated as givesSeat}
-use Rattle.yard_tables.specs.Step.{Call, start, sit, missing, scarcest, look, step, written}
+use Rattle.yard_tables.specs.Tables.{Yard, Said, wait, serve, dropped, listed, scarce, seated as givesSeat}
+use Rattle.yard_tables.specs.Step.{Call, sit, missing, scarcest, look, step, written}
+use Rattle.yard_tables.specs.declared.Head.{Head}
 use Rattle.yard_tables.specs.declared.Seat.{Seat}
 use Rattle.yard_tables.specs.declared.Page.{Page}
-use Rattle.yard_laws.specs.History.{History, Fixed, seated, announced, fresh, weAreChoking, weAreInterested, theyAreChoking, theyAreInterested, pieces, sizesSet}
-use Rattle.yard_laws.specs.Says.{allOf, Ascending, recordOf, holders, Lowest}
+use Rattle.yard_laws.specs.History.{History, Fixed, sizesOf, seated, announced, fresh, weAreChoking, weAreInterested, theyAreChoking, theyAreInterested, pieces, sizesSet}
+use Rattle.yard_laws.specs.Says.{allOf, Ascending, holders}
 use Rattle.yard_laws.specs.Expected.{answer, output}
 use Rattle.yard_laws.specs.Causes.{Cause, WaitCause, Serves, Drops}
-use Rattle.yard_laws.specs.Given.{Gives}
-use Rattle.yard_laws.specs.Run.{SizesFit, fixedBy, after as afterwards}
+use Rattle.yard_laws.specs.Given.{Gives, Writes}
+use Rattle.yard_laws.specs.Run.{SizesFit, fixedBy}
+use Rattle.yard_laws.proofs.Agreeing.{Agrees}
+use Rattle.yard_laws.proofs.Calls.{sizes-here}
 use Rattle.yard_laws.proofs.Theorem as theorem
 use Rattle.yard_laws.proofs.Demand as demand
 use Rattle.yard_laws.proofs.Pages as pages
@@ -33,7 +35,7 @@ use Rattle.yard_telling.specs.declared.Told.{Told}
 use Rattle.demands_laws.proofs.Refusals.{same-answer}
 use Rattle.demands_laws.proofs.Tables.{no-wait}
 use Rattle.demands_laws.proofs.Runs as runs
-use Rattle.demands_laws.proofs.Runs.{start-taken, tables-fit}
+use Rattle.demands_laws.proofs.Runs.{start-taken}
 use Rattle.demands_laws.proofs.Numbered.{number-refuses, number-waits, at-any-place, page-told}
 use Rattle.demands_laws.proofs.Paging.{page-total, page-listed}
 use Rattle.demands_laws.proofs.Loaded.{nobody-lacks}
@@ -42,8 +44,10 @@ use Rattle.demands.specs.One.Doors.Yard as yard
 use Rattle.demands.specs.Program.{Tables, found, Permits, Telling, Made, permits-step, telling-step, made-run}
 
 -- a start is accepted exactly when the sizes are legal and the lent tables have them, whatever stands in the tables
-pub start-exact : (p l k : ℕ) (t : Tables) (r : ℕ) → yard.start-ensures p l k r (t .head) (t .seats) (t .rows) (t .holders) → r ≡ 0 ↔ SizesFit p l k (found t)
-start-exact p l k t r c = let x = theorem.accepted-exactly p l k (found t) in (λ e. x .0 (start-taken p l k (found t) (sym (c .0) ∙ e)), λ s. c .0 ∙ ap codeOf (x .1 s))
+pub start-exact : (p l k : ℕ) (t : Tables) (r : ℕ) → yard.start-ensures p l k r (t .head) (t .seats) (t .rows) (t .holders) → r ≡ 0 ↔ SizesFit (sizesOf p l k) (found t)
+start-exact p l k t r c =
+    let x = theorem.accepted-exactly (sizesOf p l k) (found t) in
+    (λ e. x .0 (start-taken (sizesOf p l k) (found t) (sym (c .0) ∙ e)), λ s. c .0 ∙ ap codeOf (x .1 s))
 
 -- a page's list (13) is one: ascending lists with the same members are equal
 pub ascending-unique : (first : ℕ) (l m : List ℕ) → Ascending first l → Ascending first m → ((j : ℕ) → In j l ↔ In j m) → l ≡ m
@@ -52,7 +56,7 @@ ascending-unique first l m = pages.ascending-unique l m
 -- the history fixes the tables, rows byte for byte with their spare bits: two programs whose calls and answers were the same, on tables of as many seats, have the same
 -- tables, whatever stood in them first
 pub tables-fixed : (lent other : Yard) (h : History) (y z : Yard) → Made lent h y → Made other h z → fixedBy lent ≡ fixedBy other → y ≡ z
-tables-fixed lent other h y z m k e = runs.run-same lent other h y z e (made-run lent h y m) (made-run other h z k)
+tables-fixed lent other h y z m k e = runs.run-same lent other e h h y z (made-run lent h y m) (made-run other h z k) refl
 
 -- `lent` are the tables as they were lent first; after any calls h is the history, and y are the tables
 module _ (lent : Yard) (h : History) (y : Yard) (made : Made lent h y) where
@@ -63,23 +67,23 @@ module _ (lent : Yard) (h : History) (y : Yard) (made : Made lent h y) where
   abbrev seats : ℕ
   seats = fixed .seats
 
-  -- what is so of every run is so of this one (`Made`: Program.antt)
-  here : (P : History → Yard → Type 0) → ((p l k : ℕ) → step (start p l k) lent .answer ≡ taken done → (cs : List Call) → P (afterwards p l k lent cs .past) (afterwards p l k lent cs .yard)) → P h y
-  here = runs.here lent h y (made-run lent h y made)
+  -- what the program made is a run (`Made`: Program.antt), and so the tables agree with the history
+  agrees : Agrees fixed h y
+  agrees = theorem.run-agrees lent h y (made-run lent h y made)
 
   -- ---- 10. "The yard's counts are what the history of calls says."
 
   -- a piece's holders: the trucks now seated that have announced it since they last sat down
   pub holders-right : (p : ℕ) → p < pieces h → getD (y .holders) p 0 ≡ count seats (λ i. seated h i && announced h i p)
-  holders-right = here (λ g z. (p : ℕ) → p < pieces g → getD (z .holders) p 0 ≡ count seats (λ i. seated g i && announced g i p)) (λ p l k ok cs. demand.holders-right p l k lent ok cs)
+  holders-right = agrees .holders-is
 
   -- the seats taken
   pub seated-right : y .head .taken ≡ count seats (λ i. seated h i)
-  seated-right = here (λ g z. z .head .taken ≡ count seats (seated g)) (λ p l k ok cs. demand.seated-right p l k lent ok cs)
+  seated-right = demand.seated-right fixed h y agrees
 
   -- the seats complete: their trucks have announced every piece
   pub complete-right : y .head .complete ≡ count seats (λ i. seated h i && allOf (pieces h) (announced h i))
-  complete-right = here (λ g z. z .head .complete ≡ count seats (λ i. seated g i && allOf (pieces g) (announced g i))) (λ p l k ok cs. demand.loaded-right p l k lent ok cs)
+  complete-right = demand.complete-right fixed h y agrees
 
   -- each seat's record
   pub seat-right : (i : ℕ) → i < seats → getD (y .seats) i cleared ≡ record {
@@ -91,26 +95,22 @@ module _ (lent : Yard) (h : History) (y : Yard) (made : Made lent h y) where
     «peer_interested» = theyAreInterested h i;
     held = count (pieces h) (λ p. seated h i && announced h i p);
   }
-  seat-right = here (λ g z. (i : ℕ) → i < seats → getD (z .seats) i cleared ≡ recordOf g i) (λ p l k ok cs. demand.seat-right p l k lent ok cs)
+  seat-right i l = agrees .seat-is i
 
   -- each piece's bit in each seat's row
   pub row-right : (i p : ℕ) → i < seats → p < pieces h → hasIn (width (pieces h)) (y .rows) i p ≡ (seated h i && announced h i p)
-  row-right = here (λ g z. (i p : ℕ) → i < seats → p < pieces g → hasIn (width (pieces g)) (z .rows) i p ≡ (seated g i && announced g i p)) (λ p l k ok cs. theorem.right p l k lent ok cs .row-right)
+  row-right = agrees .row-is
 
   -- the sizes that the head holds, and those of the tables
   pub sizes-right : (length (y .seats) ≡ seats) × (y .head .pieces ≡ pieces h) × (y .head .«piece_length» ≡ sizesSet h .pieceLength) × (y .head .«last_length» ≡ sizesSet h .lastLength)
-  sizes-right = here (λ g z. (length (z .seats) ≡ seats) × (z .head .pieces ≡ pieces g) × (z .head .«piece_length» ≡ sizesSet g .pieceLength) × (z .head .«last_length» ≡ sizesSet g .lastLength))
-      (λ p l k ok cs. let r = theorem.right p l k lent ok cs in (r .seats-same, r .pieces-right, r .piece-length-right, r .last-length-right))
+  sizes-right = (agrees .seats-len, ap (λ (k : Head). k .pieces) (agrees .head-is), ap (λ (k : Head). k .«piece_length») (agrees .head-is), ap (λ (k : Head). k .«last_length») (agrees .head-is))
 
   pub tables-right : (length (y .rows) ≡ seats * width (pieces h)) × (length (y .holders) ≡ pieces h)
-  tables-right =
-      let f = tables-fit lent h y (made-run lent h y made) in
-      let z = sizes-right in
-      (f .row ∙ ap₂ (λ (n p : ℕ). n * width p) (z .0) (z .1), f .counts ∙ z .1)
+  tables-right = let f = sizes-here fixed h y agrees in (f .row, f .counts)
 
   -- every call's answer, and all that it writes, is the one that the history before it says: document 01's checks in their order, with no table in them
   pub answer-right : (c : Call) → step c y .answer ≡ answer fixed h c
-  answer-right c = here (λ g z. step c z .answer ≡ answer fixed g c) (λ p l k ok cs. theorem.answered p l k lent ok cs c)
+  answer-right = theorem.answered fixed h y agrees
 
   -- and so are the number that C gets of it, the record and the seat. `Permits t c r z`: the contract of the call c on the tables t permits the number r
   pub number-right : (t : Tables) → found t ≡ y → (c : Call) (r : ℕ) (z : Yard) → Permits t c r z → r ≡ codeOf (answer fixed h c)
@@ -124,40 +124,42 @@ module _ (lent : Yard) (h : History) (y : Yard) (made : Made lent h y) where
   shown-right t f i r seen e = e .0 .1 ∙ ap (λ (x : Yard). shownOf (step (look i) x .answer) (before seen)) f ∙ ap (λ (a : Outcome Said). shownOf a (before seen)) (answer-right (look i))
 
   pub written-right : (c : Call) → written c y ≡ output fixed h c
-  written-right c = here (λ g z. written c z ≡ output fixed g c) (λ p l k ok cs. theorem.wrote p l k lent ok cs c)
+  written-right = theorem.wrote fixed h y agrees
 
   -- ---- 11. "Tops: S for head and holder counts, P for held."
 
   pub tops : ((p : ℕ) → p < pieces h → getD (y .holders) p 0 ≤ seats) × ((i : ℕ) → i < seats → getD (y .seats) i cleared .held ≤ pieces h) × (y .head .taken ≤ seats) × (y .head .complete ≤ seats)
-  tops = here (λ g z. ((p : ℕ) → p < pieces g → getD (z .holders) p 0 ≤ seats) × ((i : ℕ) → i < seats → getD (z .seats) i cleared .held ≤ pieces g) × (z .head .taken ≤ seats) × (z .head .complete ≤ seats))
-      (λ p l k ok cs. demand.tops p l k lent ok cs)
+  tops = demand.tops fixed h y agrees
 
   -- no count passes the number it could truly reach: a piece has no more holders than trucks sit, no more seats are complete than taken, no truck has more pieces
   -- than there are
   pub reach : ((p : ℕ) → p < pieces h → getD (y .holders) p 0 ≤ y .head .taken) × (y .head .complete ≤ y .head .taken) × ((i : ℕ) → i < seats → getD (y .seats) i cleared .held ≤ pieces h)
-  reach = here (λ g z. ((p : ℕ) → p < pieces g → getD (z .holders) p 0 ≤ z .head .taken) × (z .head .complete ≤ z .head .taken) × ((i : ℕ) → i < seats → getD (z .seats) i cleared .held ≤ pieces g))
-      (λ p l k ok cs. demand.reach p l k lent ok cs)
+  reach = demand.reach fixed h y agrees
 
   -- ---- 12. A refusal or a wait has its listed cause in the history, and where a cause holds it is given, in document 01's order
 
   module _ (c : Call) where
     pub fair : (number place : ℕ) → step c y .answer ≡ refused number place ↔ (Cause fixed h c number × (place ≡ 0))
-    fair number place = here (λ g z. step c z .answer ≡ refused number place ↔ (Cause fixed g c number × (place ≡ 0))) (λ p l k ok cs. demand.fair p l k lent ok cs c number place)
+    fair = demand.fair fixed h y agrees c
 
     pub fair-wait : step c y .answer ≡ taken wait ↔ WaitCause fixed h c
-    fair-wait = here (λ g z. step c z .answer ≡ taken wait ↔ WaitCause fixed g c) (λ p l k ok cs. demand.fair-wait p l k lent ok cs c)
+    fair-wait = demand.fair-wait fixed h y agrees c
 
     -- without a cause the call is taken
     pub fair-taken : ((number : ℕ) → Cause fixed h c number → ⊥) → (a : Said) × (step c y .answer ≡ taken a)
-    fair-taken = here (λ g z. ((number : ℕ) → Cause fixed g c number → ⊥) → (a : Said) × (step c z .answer ≡ taken a)) (λ p l k ok cs. demand.fair-taken p l k lent ok cs c)
+    fair-taken = demand.fair-taken fixed h y agrees c
 
     -- with the answer that is given: which, and with which numbers, is said beside the causes (yard_laws/specs/Given.antt)
     pub given-right : (a : Said) → step c y .answer ≡ taken a ↔ Gives fixed h c a
-    given-right = here (λ g z. (a : Said) → step c z .answer ≡ taken a ↔ Gives fixed g c a) (λ p l k ok cs. demand.given-right p l k lent ok cs c)
+    given-right = demand.given-right fixed h y agrees c
+
+    -- and with what it writes, which is said there too
+    pub writes-right : (w : List ℕ) → written c y ≡ w ↔ Writes fixed h c w
+    writes-right = demand.writes-right fixed h y agrees c
 
     -- none is 39
     pub never-damaged : (place : ℕ) → step c y .answer ≡ refused 39 place → ⊥
-    never-damaged = here (λ g z. (place : ℕ) → step c z .answer ≡ refused 39 place → ⊥) (λ p l k ok cs. demand.never-damaged p l k lent ok cs c)
+    never-damaged = demand.never-damaged fixed h y agrees c
 
     -- as C sees it, r being the number that it gets: 255 is a wait, and any other but 0 a refusal
     module _ (t : Tables) (f : found t ≡ y) (r : ℕ) (z : Yard) (e : Permits t c r z) where
@@ -172,25 +174,23 @@ module _ (lent : Yard) (h : History) (y : Yard) (made : Made lent h y) where
 
     -- "A request is answered "serve" exactly if we don't choke and they are interested, else "drop"."
     pub serves-right : (bytes : ℕ) → step c y .answer ≡ taken (serve bytes) ↔ Serves fixed h c bytes
-    serves-right bytes = here (λ g z. step c z .answer ≡ taken (serve bytes) ↔ Serves fixed g c bytes) (λ p l k ok cs. demand.serves-right p l k lent ok cs c bytes)
+    serves-right = demand.serves-right fixed h y agrees c
 
     pub drops-right : (bytes : ℕ) → step c y .answer ≡ taken (dropped bytes) ↔ Drops fixed h c bytes
-    drops-right bytes = here (λ g z. step c z .answer ≡ taken (dropped bytes) ↔ Drops fixed g c bytes) (λ p l k ok cs. demand.drops-right p l k lent ok cs c bytes)
+    drops-right = demand.drops-right fixed h y agrees c
 
   -- "Sitting down takes the lowest free seat": seat i is one, a truck sits at each lower seat, and none at i
   pub sits-lowest : (i : ℕ) → step sit y .answer ≡ taken (givesSeat i) → (i < seats) × ((j : ℕ) → j < i → seated h j ≡ true) × (seated h i ≡ false)
-  sits-lowest i q =
-      let x = here (λ g z. step sit z .answer ≡ taken (givesSeat i) → Lowest (seated g) seats i × (i < seats)) (λ p l k ok cs. demand.sits-lowest p l k lent ok cs i) q in
-      (x .1, x .0 .below, x .0 .lacks (x .1))
+  sits-lowest i q = let (l, x) = demand.sits-lowest fixed h y agrees i q in (l, x .below, x .lacks l)
 
   -- ---- 13. "As many as fit; with it how many were written, the yard's whole missing total from seat 0, and the next unlisted missing seat at or after the first, or S."
 
   -- a page of any room from a first seat on; l is the missing list from there: ascending, with every seat whose truck lacks a piece and no other
   pub missing-total : (t : Tables) → found t ≡ y → (first r : ℕ) (page : Lent (List ℕ)) (told : Lent Told) → yard.missing-ensures (t .seats) (t .rows) (t .holders) first r (t .head) page told
       → (x : Page) → step (missing first (length (before page))) y .answer ≡ taken (listed x)
-      → (x .total ≡ count seats (λ i. seated h i && not (eqb (count (pieces h) (λ p. seated h i && announced h i p)) (pieces h))))
+      → (x .total ≡ count seats (λ i. seated h i && some (pieces h) (λ p. not (announced h i p))))
       × ((l : List ℕ) × Ascending first l
-      × ((j : ℕ) → In j l ↔ ((first ≤ j) × (j < seats) × ((seated h j && not (eqb (count (pieces h) (λ p. seated h j && announced h j p)) (pieces h))) ≡ true)))
+      × ((j : ℕ) → In j l ↔ ((first ≤ j) × (j < seats) × ((seated h j && some (pieces h) (λ p. not (announced h j p))) ≡ true)))
       × (x .written ≡ min (length (before page)) (length l))
       × (after page ≡ take (length (before page)) l ++ drop (x .written) (before page))
       × (x .next ≡ firstOr seats (drop (length (before page)) l)))
@@ -219,6 +219,4 @@ module _ (lent : Yard) (h : History) (y : Yard) (made : Made lent h y) where
       → (p < pieces h)
       × ((q : ℕ) → q < pieces h → count seats (λ i. seated h i && announced h i p) ≤ count seats (λ i. seated h i && announced h i q))
       × ((q : ℕ) → q < p → count seats (λ i. seated h i && announced h i p) < count seats (λ i. seated h i && announced h i q))
-  scarcest-right p q =
-      let x = here (λ g z. step scarcest z .answer ≡ taken (scarce p) → Least (holders fixed g) (pieces g) p) (λ a l k ok cs. demand.scarcest-right a l k lent ok cs p) q in
-      (x .within, x .least, x .first)
+  scarcest-right p q = let x = demand.scarcest-right fixed h y agrees p q in (x .within, x .least, x .first)

@@ -88,7 +88,7 @@ module _ (s : List ℕ) (n : ℕ) (x : Torrent) (e : readOf s ≡ taken x) where
   unfolding nth
   one-within one z = one-file one ∙ ap (λ (k : ℕ). nth k (oneEntry x ∷ [])) z
 
-  pub one-beyond : x .content .single ≡ true → 1 ≤ n → entryOf s n ≡ refused 31 0
+  one-beyond : x .content .single ≡ true → 1 ≤ n → entryOf s n ≡ refused 31 0
   one-beyond one l = one-file one ∙ nth-beyond n (oneEntry x ∷ []) l
 
 -- the bytes of a part, by how many they are

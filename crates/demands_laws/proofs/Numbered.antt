@@ -9,8 +9,7 @@ use Rattle.yard_tables.specs.Tables.{Said, wait, done, used, serve, dropped, se
 use Rattle.yard_tables.specs.Step.{missing}
 use Rattle.yard_tables.specs.declared.Page.{Page}
 use Rattle.yard_laws.specs.History.{History, Fixed}
-use Rattle.yard_laws.specs.Says.{pageOf}
-use Rattle.yard_laws.specs.Expected.{answer}
+use Rattle.yard_laws.specs.Expected.{pageFrom, answer}
 use mathlib.Core.Logic.{_⊎_, inl, inr, _↔_, Iff·trans}
 use Rattle.yard_telling.specs.Telling.{codeOfSaid, codeOf, toldOf, Looks}
 use Rattle.yard_telling.specs.declared.Told.{Told}
@@ -67,8 +66,8 @@ module _ {a : Outcome Said} {r : ℕ} (e : r ≡ codeOf a) (number : ℕ) (some 
 page-there : (fixed : Fixed) (h : History) (first space : ℕ) → codeOf (answer fixed h (missing first space)) ≡ 0 → (x : Page) × (answer fixed h (missing first space) ≡ taken (listed x))
 page-there fixed h first space e = go (leb first (fixed .seats)) e
   where
-    go : (b : Bool) → codeOf (cond b (taken (listed (pageOf fixed h first space))) (refused 36 0)) ≡ 0 → (x : Page) × (cond b (taken (listed (pageOf fixed h first space))) (refused 36 0) ≡ taken (listed x))
-    go true q = (pageOf fixed h first space, refl)
+    go : (b : Bool) → codeOf (cond b (taken (listed (pageFrom fixed h first space))) (refused 36 0)) ≡ 0 → (x : Page) × (cond b (taken (listed (pageFrom fixed h first space))) (refused 36 0) ≡ taken (listed x))
+    go true q = (pageFrom fixed h first space, refl)
     go false q = absurd (omega (arith, q))
 
 -- and its record has its total

@@ -16,17 +16,17 @@ use Rattle.yard_tables.specs.Tables.{listed}
 use Rattle.yard_tables.specs.Step.{missing, ifTaken}
 use Rattle.yard_tables.specs.declared.Page.{Page}
 use Rattle.yard_laws.specs.History.{History, Fixed}
-use Rattle.yard_laws.specs.Says.{Ascending, lacking, missingFrom, pageLines, pageOf}
-use Rattle.yard_laws.specs.Expected.{answer, output}
-use Rattle.yard_laws.proofs.Pages.{listed-lacks, lacking-listed, list-ascends}
+use Rattle.yard_laws.specs.Says.{Ascending, lacking}
+use Rattle.yard_laws.specs.Expected.{missingFrom, pageFrom, answer, output}
+use Rattle.yard_laws.proofs.Pages.{missing-is}
 use Rattle.refusal.proofs.Cases.{no-way}
 
 -- the total is of all seats, whatever the page
 pub page-total : (fixed : Fixed) (h : History) (first space : ℕ) (x : Page) → answer fixed h (missing first space) ≡ taken (listed x) → x .total ≡ count (fixed .seats) (lacking h)
 page-total fixed h first space x e = go (leb first (fixed .seats)) e
   where
-    go : (b : Bool) → cond b (taken (listed (pageOf fixed h first space))) (refused 36 0) ≡ taken (listed x) → x .total ≡ count (fixed .seats) (lacking h)
-    go true q = let d : pageOf fixed h first space ≡ x = cc in ap (λ (y : Page). y .total) (sym d)
+    go : (b : Bool) → cond b (taken (listed (pageFrom fixed h first space))) (refused 36 0) ≡ taken (listed x) → x .total ≡ count (fixed .seats) (lacking h)
+    go true q = let d : pageFrom fixed h first space ≡ x = cc in ap (λ (y : Page). y .total) (sym d)
     go false q = no-way (cc)
 
 module _ (fixed : Fixed) (h : History) (first : ℕ) (page out : List ℕ) (x : Page) where
@@ -47,17 +47,17 @@ module _ (fixed : Fixed) (h : History) (first : ℕ) (page out : List ℕ) (x : 
   pub page-listed : answer fixed h (missing first (length page)) ≡ taken (listed x) → out ≡ sets page 0 (output fixed h (missing first (length page))) → Listed
   page-listed e w = go (leb first (fixed .seats)) refl e w
     where
-      go : (b : Bool) → leb first (fixed .seats) ≡ b → cond b (taken (listed (pageOf fixed h first (length page)))) (refused 36 0) ≡ taken (listed x)
-          → out ≡ sets page 0 (ifTaken (cond b (taken (listed (pageOf fixed h first (length page)))) (refused 36 0)) (pageLines fixed h first (length page))) → Listed
+      go : (b : Bool) → leb first (fixed .seats) ≡ b → cond b (taken (listed (pageFrom fixed h first (length page)))) (refused 36 0) ≡ taken (listed x)
+          → out ≡ sets page 0 (ifTaken (cond b (taken (listed (pageFrom fixed h first (length page)))) (refused 36 0)) (take (length page) list)) → Listed
       go true t q v =
-          let l = leb-true first (fixed .seats) t in
-          let d : pageOf fixed h first (length page) ≡ x = cc in
+          let m = missing-is fixed h first (leb-true first (fixed .seats) t) in
+          let d : pageFrom fixed h first (length page) ≡ x = cc in
           let k : x .written ≡ length (take (length page) list) = ap (λ (y : Page). y .written) (sym d) in (
             page-total fixed h first (length page) x e,
             (
               list,
-              list-ascends fixed h first l,
-              λ j. (listed-lacks fixed h first l j, λ (a, b, c). lacking-listed fixed h first l j a b c),
+              m .ascends,
+              m .members,
               k ∙ length-take (length page) list,
               stands v ∙ ap (λ (i : ℕ). take (length page) list ++ drop i page) (sym k),
               ap (λ (y : Page). y .next) (sym d),

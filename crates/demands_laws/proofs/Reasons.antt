@@ -8,7 +8,7 @@ use Rattle.peer_wire.specs.Message.{Message, have, bitfield as bits}
 use Rattle.peer_wire.specs.Causes.{TooLong, All, Right}
 use Rattle.yard_tables.specs.Rows.{width, bitAt}
 use Rattle.yard_tables.specs.Step.{Call, start, sit, feed, missing, look, has, count}
-use Rattle.yard_laws.specs.History.{History, Fixed, seated, fresh, pieces}
+use Rattle.yard_laws.specs.History.{History, Fixed, sizesOf, seated, fresh, pieces}
 use Rattle.yard_laws.specs.Causes.{Sits, Nobody, On, Marks, Says, SpeaksOf, Fits, StartFits, Cause, too-long, wrong-payload, not-first, no-such-have, no-such-block, no-such-has, no-such-count, wrong-length, spare-bit, past-piece, all-taken, nobody, past-list, past-look, past-has, no-room, unfit}
 use lib.Dec.{eqb}
 use mathlib.Core.Bool.{Bool, true, false}
@@ -54,7 +54,7 @@ module _ (fixed : Fixed) (h : History) where
   At37 c = ((i : ℕ) × (space : ℕ) × Marks i space c × Sits fixed h i × (space < 5))
 
   abbrev At38 : Call → Type 0
-  At38 c = ((q : ℕ) × (l : ℕ) × (k : ℕ) × (c ≡ start q l k) × (StartFits h q l k → ⊥))
+  At38 c = ((q : ℕ) × (l : ℕ) × (k : ℕ) × (c ≡ start q l k) × (StartFits h (sizesOf q l k) → ⊥))
 
   -- what is said at a number
   abbrev pub At : Call → ℕ → Type 0

@@ -5,7 +5,6 @@ use mathlib.Core.Bool.{Bool, true, _&&_}
 use mathlib.Core.List.{List, _∷_}
 use Prim.Native.Nat.{ℕ, _+_, _<_}
 use native.Mathlib.Omega.{arith}
-use lib.Dec.{eqb}
 use lib.ListN.{length, getD, set, length-set}
 use lib.Seq.{getD-set-same, getD-set-other, set-getD}
 use Rattle.refusal.specs.Paper.{taken}
@@ -18,7 +17,7 @@ use Rattle.yard_tables.specs.declared.Head.{Head}
 use Rattle.yard_tables.specs.declared.Seat.{Seat}
 use Rattle.yard_tables.proofs.Counts.{count-ext, count-change}
 use Rattle.yard_laws.specs.History.{Entry, History, Fixed, Event, nothing, event, seated, announced, fresh, weAreChoking, weAreInterested, theyAreChoking, theyAreInterested, pieces, Sizes, sizesSet, sizesWith, seatedBy, announcedBy, freshBy, chokingBy, wantingBy, chokedBy, wantedBy}
-use Rattle.yard_laws.specs.Says.{hasPiece, held, loaded, recordOf, holders, takenSeats, completeSeats, headOf}
+use Rattle.yard_laws.specs.Says.{allOf, hasPiece, held, loaded, recordOf, holders, takenSeats, completeSeats, headOf}
 
 -- the tables y agree with the history h
 pub record Agrees (fixed : Fixed) (h : History) (y : Yard) : Type 0 where
@@ -39,7 +38,7 @@ module _ (v : Event) (h : History) (i : ℕ) where
   heldThen = count (pieces h) hasThen
 
   abbrev pub loadedThen : Bool
-  loadedThen = seatedBy v (seated h i) && eqb heldThen (pieces h)
+  loadedThen = seatedBy v (seated h i) && allOf (pieces h) (λ p. announcedBy v p (announced h i p))
 
   abbrev pub recordThen : Seat
   recordThen = record {
@@ -63,14 +62,14 @@ headBy z t c = record { pieces = z .pieces; «piece_length» = z .pieceLength; �
 
 -- the sizes stay, so the pieces do
 module _ (h : History) (e : Entry) (same : (z : Sizes) → sizesWith e z ≡ z) where
-  pub pieces-same : pieces (e ∷ h) ≡ pieces h
+  pieces-same : pieces (e ∷ h) ≡ pieces h
   pieces-same = ap (λ (z : Sizes). z .pieces) (same (sizesSet h))
 
   module _ (i : ℕ) (v : Event) (is : event i e ≡ v) where
-    pub seated-then : seated (e ∷ h) i ≡ seatedBy v (seated h i)
+    seated-then : seated (e ∷ h) i ≡ seatedBy v (seated h i)
     seated-then = rw is
 
-    pub has-then : (p : ℕ) → hasPiece (e ∷ h) i p ≡ hasThen v h i p
+    has-then : (p : ℕ) → hasPiece (e ∷ h) i p ≡ hasThen v h i p
     has-then p = rw is
 
     held-then : held (e ∷ h) i ≡ heldThen v h i
@@ -78,13 +77,12 @@ module _ (h : History) (e : Entry) (same : (z : Sizes) → sizesWith e z ≡ z) 
         ap (λ (m : ℕ). count m (hasPiece (e ∷ h) i)) pieces-same
         ∙ count-ext (hasPiece (e ∷ h) i) (hasThen v h i) (pieces h) (λ p q. has-then p)
 
-    pub loaded-then : loaded (e ∷ h) i ≡ loadedThen v h i
+    loaded-then : loaded (e ∷ h) i ≡ loadedThen v h i
     loaded-then =
-        ap (λ (b : Bool). b && eqb (held (e ∷ h) i) (pieces (e ∷ h))) seated-then
-        ∙ ap (λ (m : ℕ). seatedBy v (seated h i) && eqb m (pieces (e ∷ h))) held-then
-        ∙ ap (λ (m : ℕ). seatedBy v (seated h i) && eqb (heldThen v h i) m) pieces-same
+        ap (λ (m : ℕ). seated (e ∷ h) i && allOf m (announced (e ∷ h) i)) pieces-same
+        ∙ ap (λ (x : Event). seatedBy x (seated h i) && allOf (pieces h) (λ p. announcedBy x p (announced h i p))) is
 
-    pub record-then : recordOf (e ∷ h) i ≡ recordThen v h i
+    record-then : recordOf (e ∷ h) i ≡ recordThen v h i
     record-then = ap (λ (k : ℕ). holding k (recordOf (e ∷ h) i)) held-then ∙ rw is
 
 -- ---- a call that changes one seat: the counts go with what the seat has

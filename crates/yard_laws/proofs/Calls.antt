@@ -34,11 +34,12 @@ use Rattle.yard_tables.proofs.Counts.{count-ext, count-none, count-le, count-ha
 use Rattle.yard_tables.proofs.Rows.{bit-here, bit-other, bits-here, bits-other, none-here, none-other}
 use Rattle.yard_tables.proofs.Sizing.{Fitting, fitting}
 use Rattle.yard_tables.proofs.Sweeps.{length-each, getD-each}
-use Rattle.yard_laws.specs.History.{History, Fixed, entry, Event, nothing, came, gone, heard, weChoke, weWant, event, announces, seated, announced, fresh, pieces, Sizes, sizesWith, seatedBy}
+use Rattle.yard_laws.specs.History.{History, Fixed, entry, Event, nothing, came, gone, heard, weChoke, weWant, event, announces, seated, announced, fresh, pieces, Sizes, sizesWith, seatedBy, announcedBy}
 use Rattle.yard_laws.specs.Says.{hasPiece, held, loaded, recordOf, holders, takenSeats, completeSeats, headOf}
 use Rattle.torrent_blocks.specs.Answers.{lies}
 use Rattle.yard_laws.specs.View.{byHistory}
 use Rattle.yard_laws.specs.Expected.{no, sitsBy, blockBy, requestBy, messageBy, frameBy, markBy}
+use Rattle.yard_laws.proofs.Loading.{all-held}
 use Rattle.yard_laws.proofs.Agreeing.{Agrees, One, Becomes, at, putBack, hasThen, heldThen, loadedThen, recordThen, change-agrees, quiet-back, counted-fits}
 
 -- ---- tests
@@ -111,7 +112,11 @@ module _ (fixed : Fixed) (h : History) (y : Yard) (agrees : Agrees fixed h y) wh
   in-row p l = omega arith
 
   loaded-seated : (i : ℕ) → seated h i ≡ true → loaded h i ≡ eqb (held h i) (pieces h)
-  loaded-seated i sat = rw sat
+  loaded-seated i sat = all-held (seated h i) (announced h i) (pieces h) ∙ ap (λ (b : Bool). b && eqb (held h i) (pieces h)) sat
+
+  -- by the count of its pieces
+  then-held : (v : Event) (i : ℕ) → loadedThen v h i ≡ (seatedBy v (seated h i) && eqb (heldThen v h i) (pieces h))
+  then-held v i = all-held (seatedBy v (seated h i)) (λ p. announcedBy v p (announced h i p)) (pieces h)
 
   -- ---- an event that leaves who sits there, and what he has
   steady : (v : Event) (i : ℕ) (s : Seat) → i < n → seatedBy v (seated h i) ≡ seated h i → ((p : ℕ) → hasThen v h i p ≡ hasPiece h i p)
@@ -121,7 +126,7 @@ module _ (fixed : Fixed) (h : History) (y : Yard) (agrees : Agrees fixed h y) wh
       record {
         head-by = refl;
         taken-by = ap (λ (t : Bool). takenSeats fixed h + bit t) (sym a);
-        complete-by = ap (λ (t : Bool). completeSeats fixed h + bit t) (ap₂ (λ (t : Bool) (m : ℕ). t && eqb m (pieces h)) (sym a) k);
+        complete-by = ap (λ (t : Bool). completeSeats fixed h + bit t) (all-held (seated h i) (announced h i) (pieces h) ∙ ap₂ (λ (t : Bool) (m : ℕ). t && eqb m (pieces h)) (sym a) k ∙ sym (then-held v i));
         seat-by = e ∙ ap (λ (m : ℕ). holding m (recordThen v h i)) k;
         rows-len = refl;
         row-here = λ p q. agrees .row-is i p l q ∙ sym (b p);
@@ -171,7 +176,9 @@ module _ (fixed : Fixed) (h : History) (y : Yard) (agrees : Agrees fixed h y) wh
         lt-leb n (getD (y .holders) p 0) (omega (arith, agrees .holders-is p q, not-bit (hasPiece h i p) k, count-lacks (λ j. hasPiece h j p) n i l))))))
 
     completes-is : bit (completes i (announces m) (at fixed h y agrees i)) + bit (loaded h i) ≡ bit (loadedThen (heard m) h i)
-    completes-is = rw (sat, ← held-more) (go (held h i) more-pieces held-top)
+    completes-is =
+        let a : loadedThen (heard m) h i ≡ eqb (held h i + more-pieces) (pieces h) = then-held (heard m) i ∙ rw (sat, held-more) in
+        omega (arith, ap bit a, ap bit (loaded-seated i sat), go (held h i) more-pieces held-top)
       where
         go : (a b : ℕ) → a + b ≤ pieces h → bit (ltb 0 b && eqb (a + b) (pieces h)) + bit (eqb a (pieces h)) ≡ bit (eqb (a + b) (pieces h))
         go a zero q = let e : a + 0 ≡ a = omega arith in rw e (omega arith)
@@ -305,10 +312,11 @@ module _ (fixed : Fixed) (h : History) (y : Yard) (agrees : Agrees fixed h y) wh
   unfolding seatedAt
   came-becomes i l f =
       let k : heldThen came h i ≡ 0 = none-then came i (λ p. omega arith) in
+      let none : loadedThen came h i ≡ false = then-held came i ∙ rw (k, ne-eqb 0 (pieces h) (λ e. omega (arith, sizes-here .some))) in
       record {
         head-by = refl;
         taken-by = rw f (omega arith);
-        complete-by = rw (f, k, ne-eqb 0 (pieces h) (λ e. omega (arith, sizes-here .some)));
+        complete-by = rw (f, none);
         seat-by = ap (λ (m : ℕ). holding m (recordThen came h i)) (sym k);
         rows-len = length-without i;
         row-here = λ p q. none-here (width (pieces h)) n (y .rows) (sizes-here .row) i l p (in-row p q);

@@ -26,6 +26,7 @@ use Rattle.yard_tables.specs.Tables.{seated as givesSeat}
 use Rattle.yard_tables.specs.Step.{Call, start, sit, leave, feed, interest, missing, scarcest, look, has, count}
 use Rattle.yard_tables.specs.Step.{choke as chokes}
 use Rattle.yard_tables.proofs.Counts.{some-one, some-every}
+use Rattle.yard_laws.specs.History.{Sizes, sizesOf}
 use Rattle.yard_laws.specs.Expected.{no, Looks, sitsBy, blockBy, requestBy, messageBy, frameBy, markBy, freeBy, answerBy}
 use Rattle.yard_laws.specs.View.{View}
 use Rattle.yard_laws.specs.Causes.{SitsBy, NobodyBy, On, Marks, Says, SpeaksOf, FitsBy, CauseBy, WaitBy}
@@ -79,8 +80,8 @@ IfWait (heldBy m) Q = Unit
 IfWait (scarce p) Q = Unit
 
 -- starts decides which sizes a start may have
-module _ (v : View) (starts : ℕ → ℕ → ℕ → Bool) (x : Looks)
-    (fits-start : (p l k : ℕ) → v .MayStart p l k → starts p l k ≡ true) (start-fits : (p l k : ℕ) → starts p l k ≡ true → v .MayStart p l k) where
+module _ (v : View) (starts : Sizes → Bool) (x : Looks)
+    (fits-start : (z : Sizes) → v .MayStart z → starts z ≡ true) (start-fits : (z : Sizes) → starts z ≡ true → v .MayStart z) where
   abbrev Caused : Call → Outcome Said → Type 0
   Caused c (taken a) = IfWait a (WaitBy v c)
   Caused c (refused number place) = CauseBy v c number × (place ≡ 0)
@@ -131,7 +132,7 @@ module _ (v : View) (starts : ℕ → ℕ → ℕ → Bool) (x : Looks)
       (λ e. (nobody c i o (none-sits v i e), refl))
 
   caused : (c : Call) → Caused c (answerBy v starts x c)
-  caused (start p l k) = by-test (Caused (start p l k)) (starts p l k) (λ e. tt) (λ e. (unfit p l k (λ f. cannot _ e (fits-start p l k f)), refl))
+  caused (start p l k) = by-test (Caused (start p l k)) (starts (sizesOf p l k)) (λ e. tt) (λ e. (unfit p l k (λ f. cannot _ e (fits-start (sizesOf p l k) f)), refl))
   caused sit = by-test (Caused sit) (leb (v .seats) (freeBy v))
       (λ e. (all-taken (λ i l. lowest-is (v .sitsAt) (v .seats) .below i (omega (arith, leb-true (v .seats) (freeBy v) e))), refl))
       (λ e. tt)
@@ -189,7 +190,7 @@ module _ (v : View) (starts : ℕ → ℕ → ℕ → Bool) (x : Looks)
   full-seats f = lowest-unique (v .sitsAt) (v .seats) _ _ (record { within = omega arith; below = f; lacks = λ l. absurd (omega arith) }) (lowest-is (v .sitsAt) (v .seats))
 
   pub cause-given : (c : Call) (number : ℕ) → CauseBy v c number → answerBy v starts x c ≡ refused number 0
-  cause-given c number (unfit p l k f) = rw (false-if (starts p l k) (λ e. f (start-fits p l k e)))
+  cause-given c number (unfit p l k f) = rw (false-if (starts (sizesOf p l k)) (λ e. f (start-fits (sizesOf p l k) e)))
   cause-given c number (all-taken f) = rw (← full-seats f, le-leb (v .seats) (v .seats) (omega arith))
   cause-given c number (nobody d i o f) = nobody-answer d i o f
   cause-given c number (past-list first space l) = rw (lt-leb first (v .seats) l)

@@ -29,6 +29,7 @@ use Rattle.yard_tables.specs.Looks.{seatOf as lookOf}
 use Rattle.yard_tables.specs.Step.{Call, start, sit, leave, feed, interest, missing, scarcest, look, has, count, step}
 use Rattle.yard_tables.specs.Step.{choke as chokes}
 use Rattle.yard_tables.specs.declared.Seat.{Seat}
+use Rattle.yard_laws.specs.History.{sizesOf}
 use Rattle.yard_laws.specs.Causes.{Says}
 use Rattle.yard_tables.proofs.Counts.{count-none, count-has, some-one, some-every}
 use Rattle.yard_laws.specs.Damage.{Fit, Unfit, seatOf, Taken, Free, inRow, Announces, by-have, by-bitfield, New, gained, Damaged}
@@ -81,11 +82,11 @@ module _ (y : Yard) where
 
   pub fit-is : fits ≡ true → Fit y
   unfolding sizesFit
-  fit-is e = fits-sized pieces (y .head .«piece_length») (y .head .«last_length») y e
+  fit-is e = fits-sized (sizesOf pieces (y .head .«piece_length») (y .head .«last_length»)) y e
 
   pub is-fit : Fit y → fits ≡ true
   unfolding sizesFit
-  is-fit f = sized-fits pieces (y .head .«piece_length») (y .head .«last_length») y f
+  is-fit f = sized-fits (sizesOf pieces (y .head .«piece_length») (y .head .«last_length»)) y f
 
   -- seat i and the tables around it
   abbrev pub seatAt : ℕ → Around
@@ -260,8 +261,8 @@ module _ (y : Yard) where
 
   tells : (c : Call) → Told c (step c y .answer)
   unfolding step startOf sitOf leaveOf feedOf scarcestOf lookOf hasOf countOf
-  tells (start p l k) = by-test (λ (o : Out). Told (start p l k) (o .answer)) (fitsFor p l k y) (λ e. tt)
-      (λ e. (refl, λ q. absurd (omega arith), λ q f. cannot _ e (sized-fits p l k y f)))
+  tells (start p l k) = by-test (λ (o : Out). Told (start p l k) (o .answer)) (fitsFor (sizesOf p l k) y) (λ e. tt)
+      (λ e. (refl, λ q. absurd (omega arith), λ q f. cannot _ e (sized-fits (sizesOf p l k) y f)))
   tells sit = sized-tells sit (lowestFree (y .seats)) _ (λ f. f) (λ fit. by-test (Tells sit) (leb n (lowestFree (y .seats))) (λ e. plain sit full (omega arith))
       (λ e. by-test (Tells sit) (leb n (y .head .taken))
       (λ d. damage sit (taken-top (lowestFree (y .seats)) fit (lowest-free (leb-false n (lowestFree (y .seats)) e)) (omega (arith, leb-true n (y .head .taken) d)))) (λ d. tt)))
@@ -284,7 +285,7 @@ module _ (y : Yard) where
 
   pub unfit-given : (c : Call) → Unfit y c → step c y .answer ≡ refused sizes 0
   unfolding step startOf sitOf leaveOf feedOf markOf scarcestOf lookOf hasOf countOf
-  unfit-given (start p l k) f = rw (false-if (fitsFor p l k y) (λ e. f (fits-sized p l k y e)))
+  unfit-given (start p l k) f = rw (false-if (fitsFor (sizesOf p l k) y) (λ e. f (fits-sized (sizesOf p l k) y e)))
   unfit-given sit f = unsized (lowestFree (y .seats)) _ f
   unfit-given (leave i) f = unsized i _ f
   unfit-given (feed i s) f = unsized i _ f

@@ -1,144 +1,114 @@
--- DEMAND 3, statement by statement: after an accepted start on any tables y and after any calls cs. Assumes nothing.
-use mathlib.Core.Path.{_≡_, refl, sym, ap, _∙_, subst}
+-- DEMAND 3, statement by statement: what is so of tables y that agree with a history h, as they do after an accepted start and any calls
+-- (`run-agrees`: Theorem.antt). Assumes nothing.
+use mathlib.Core.Path.{_≡_, sym, ap, _∙_}
 use mathlib.Core.Logic.{_↔_}
-use mathlib.Core.Bool.{Bool, true, false, cond, _&&_}
 use mathlib.Core.List.{List}
 use Prim.Native.Nat.{ℕ, _≤_, _<_}
 use native.Mathlib.Omega.{arith}
-use borrow.Author.Tests.{le-leb, leb-false}
-use lib.Dec.{leb, eqb}
 use lib.ListN.{getD}
-use Rattle.refusal.specs.Paper.{taken, refused}
-use Rattle.refusal.specs.Numbers.{damaged, seat, full}
+use Rattle.refusal.specs.Paper.{Outcome, taken, refused}
+use Rattle.refusal.specs.Numbers.{damaged}
 use Rattle.refusal.proofs.Cases.{both}
 use Rattle.yard_tables.specs.Counting.{count, Least}
-use Rattle.yard_tables.proofs.Counts.{count-ext, count-sub}
+use Rattle.yard_tables.proofs.Counts.{count-le, count-sub}
 use Rattle.yard_tables.specs.Seats.{cleared}
-use Rattle.yard_tables.specs.Tables.{Yard, Said, wait, serve, dropped, listed, scarce, seated}
-use Rattle.yard_tables.specs.Step.{Call, sit, missing, scarcest, step}
-use Rattle.yard_tables.specs.Step.{written as writtenIn}
-use Rattle.yard_tables.specs.declared.Page.{Page}
-use Rattle.yard_laws.specs.History.{History, Fixed, announced, pieces}
-use Rattle.yard_laws.specs.History.{seated as sitsAt}
-use Rattle.yard_laws.specs.Says.{hasPiece, held, loaded, allOf, lacking, recordOf, holders, pageLines, pageOf, leastOf, Lowest}
-use Rattle.yard_laws.specs.View.{byHistory}
-use Rattle.yard_laws.specs.Expected.{no, freeBy, answer}
+use Rattle.yard_tables.specs.Tables.{Yard, Said, wait, serve, dropped, scarce, seated as givesSeat}
+use Rattle.yard_tables.specs.Step.{Call, sit, scarcest, step, written}
+use Rattle.yard_tables.specs.declared.Head.{Head}
+use Rattle.yard_tables.specs.declared.Seat.{Seat}
+use Rattle.yard_laws.specs.History.{History, Fixed, seated, announced, pieces}
+use Rattle.yard_laws.specs.Says.{hasPiece, loaded, allOf, holders, Lowest}
+use Rattle.yard_laws.specs.Expected.{answer}
 use Rattle.yard_laws.specs.Causes.{Cause, WaitCause, Serves, Drops}
-use Rattle.yard_laws.specs.Run.{Accepted, fixedBy, after}
-use Rattle.yard_laws.proofs.Theorem.{right, answered, wrote, some-pieces}
-use Rattle.yard_laws.proofs.Lowest.{lowest-is, least-some}
-use Rattle.yard_laws.proofs.Fair.{refused-exactly, wait-exactly-when, taken-without}
-use Rattle.yard_laws.proofs.Fair.{never-damaged as undamaged}
-use Rattle.yard_laws.specs.Given.{Gives}
+use Rattle.yard_laws.specs.Given.{Gives, seats, picks, Writes}
+use Rattle.yard_laws.proofs.Agreeing.{Agrees}
+use Rattle.yard_laws.proofs.Calls.{sizes-here}
+use Rattle.yard_laws.proofs.Theorem.{answered, wrote}
+use Rattle.yard_laws.proofs.Fair.{refused-exactly, wait-exactly-when, taken-without, never-damaged as undamaged}
 use Rattle.yard_laws.proofs.Serving.{serve-exactly, drop-exactly}
-use Rattle.yard_laws.proofs.Given.{given-exactly}
-use Rattle.yard_laws.proofs.Loading.{loaded-all}
+use Rattle.yard_laws.proofs.Given.{given-exactly, writes-exactly}
 
-module _ (p l k : ℕ) (y : Yard) (ok : Accepted p l k y) (cs : List Call) where
-  abbrev fixed : Fixed
-  fixed = fixedBy y
-
+module _ (fixed : Fixed) (h : History) (y : Yard) (agrees : Agrees fixed h y) where
   -- S
-  abbrev seats : ℕ
-  seats = fixed .seats
+  abbrev n : ℕ
+  n = fixed .seats
 
-  abbrev past : History
-  past = after p l k y cs .past
+  -- ---- 10: who sits, and who is complete
 
-  abbrev now : Yard
-  now = after p l k y cs .yard
+  pub seated-right : y .head .taken ≡ count n (seated h)
+  seated-right = ap (λ (k : Head). k .taken) (agrees .head-is)
 
-  -- ---- 10: each piece's holder count is the number of trucks now seated that have announced it since they last sat down
-
-  pub holders-right : (q : ℕ) → q < pieces past → getD (now .holders) q 0 ≡ count seats (λ i. sitsAt past i && announced past i q)
-  holders-right = right p l k y ok cs .holders-right
-
-  pub seated-right : now .head .taken ≡ count seats (sitsAt past)
-  seated-right = right p l k y ok cs .taken-right
-
-  pub complete-right : now .head .complete ≡ count seats (loaded past)
-  complete-right = right p l k y ok cs .complete-right
-
-  -- each seat's marks, and how many pieces its truck has
-  pub seat-right : (i : ℕ) → i < seats → getD (now .seats) i cleared ≡ recordOf past i
-  seat-right = right p l k y ok cs .seat-right
-
-  -- the seats complete are those whose trucks have announced every piece
-  pub loaded-right : now .head .complete ≡ count seats (λ i. sitsAt past i && allOf (pieces past) (announced past i))
-  loaded-right = complete-right ∙ count-ext (loaded past) (λ i. sitsAt past i && allOf (pieces past) (announced past i)) seats (λ i m. loaded-all past i)
+  pub complete-right : y .head .complete ≡ count n (loaded h)
+  complete-right = ap (λ (k : Head). k .complete) (agrees .head-is)
 
   -- ---- 11: no count passes what it could reach
 
-  pub tops : ((q : ℕ) → q < pieces past → getD (now .holders) q 0 ≤ seats) × ((i : ℕ) → i < seats → getD (now .seats) i cleared .held ≤ pieces past)
-      × (now .head .taken ≤ seats) × (now .head .complete ≤ seats)
-  tops = let r = right p l k y ok cs in (r .holders-top, r .held-top, r .taken-top, r .complete-top)
+  held-top : (i : ℕ) → getD (y .seats) i cleared .held ≤ pieces h
+  held-top i =
+      let e : getD (y .seats) i cleared .held ≡ count (pieces h) (hasPiece h i) = ap (λ (s : Seat). s .held) (agrees .seat-is i) in
+      omega (arith, e, count-le (hasPiece h i) (pieces h))
+
+  pub tops : ((p : ℕ) → p < pieces h → getD (y .holders) p 0 ≤ n) × ((i : ℕ) → i < n → getD (y .seats) i cleared .held ≤ pieces h) × (y .head .taken ≤ n) × (y .head .complete ≤ n)
+  tops = (
+    λ p l. omega (arith, agrees .holders-is p l, count-le (λ i. hasPiece h i p) n),
+    λ i l. held-top i,
+    omega (arith, seated-right, count-le (seated h) n),
+    omega (arith, complete-right, count-le (loaded h) n),
+  )
 
   -- a piece has no more holders than trucks sit, no more seats are complete than taken, and no truck holds more pieces than there are
-  pub reach : ((q : ℕ) → q < pieces past → getD (now .holders) q 0 ≤ now .head .taken) × (now .head .complete ≤ now .head .taken) × ((i : ℕ) → i < seats → getD (now .seats) i cleared .held ≤ pieces past)
-  reach =
-      let r = right p l k y ok cs in (
-        λ q m. omega (arith, r .holders-right q m, r .taken-right, count-sub (λ i. hasPiece past i q) (sitsAt past) seats (λ i e. both (sitsAt past i) (announced past i q) e .0)),
-        omega (arith, r .complete-right, r .taken-right, count-sub (loaded past) (sitsAt past) seats (λ i e. both (sitsAt past i) (eqb (held past i) (pieces past)) e .0)),
-        r .held-top,
-      )
+  pub reach : ((p : ℕ) → p < pieces h → getD (y .holders) p 0 ≤ y .head .taken) × (y .head .complete ≤ y .head .taken) × ((i : ℕ) → i < n → getD (y .seats) i cleared .held ≤ pieces h)
+  reach = (
+    λ p l. omega (arith, agrees .holders-is p l, seated-right, count-sub (λ i. hasPiece h i p) (seated h) n (λ i e. both (seated h i) (announced h i p) e .0)),
+    omega (arith, complete-right, seated-right, count-sub (loaded h) (seated h) n (λ i e. both (seated h i) (allOf (pieces h) (announced h i)) e .0)),
+    λ i l. held-top i,
+  )
 
   -- ---- 12: every refusal and every wait has its listed cause, and where a cause holds it is given; without one the call is taken
 
-  pub fair : (c : Call) (number place : ℕ) → step c now .answer ≡ refused number place ↔ (Cause fixed past c number × (place ≡ 0))
-  fair c number place = let e = answered p l k y ok cs c in let f = refused-exactly fixed past c number place in (λ q. f .0 (sym e ∙ q), λ q. e ∙ f .1 q)
+  module _ (c : Call) where
+    -- what is so of the answer by the history is so of the yard's
+    so : {Q : Type 0} {a : Outcome Said} → answer fixed h c ≡ a ↔ Q → step c y .answer ≡ a ↔ Q
+    so f = let e = answered fixed h y agrees c in (λ q. f .0 (sym e ∙ q), λ q. e ∙ f .1 q)
 
-  pub fair-wait : (c : Call) → step c now .answer ≡ taken wait ↔ WaitCause fixed past c
-  fair-wait c = let e = answered p l k y ok cs c in let f = wait-exactly-when fixed past c in (λ q. f .0 (sym e ∙ q), λ q. e ∙ f .1 q)
+    pub fair : (number place : ℕ) → step c y .answer ≡ refused number place ↔ (Cause fixed h c number × (place ≡ 0))
+    fair number place = so (refused-exactly fixed h c number place)
 
-  pub fair-taken : (c : Call) → ((number : ℕ) → Cause fixed past c number → ⊥) → (a : Said) × (step c now .answer ≡ taken a)
-  fair-taken c f = let t = taken-without fixed past c f in (t .0, answered p l k y ok cs c ∙ t .1)
+    pub fair-wait : step c y .answer ≡ taken wait ↔ WaitCause fixed h c
+    fair-wait = so (wait-exactly-when fixed h c)
 
-  -- and the answer is the one that is given
-  pub given-right : (c : Call) (a : Said) → step c now .answer ≡ taken a ↔ Gives fixed past c a
-  given-right c a =
-      let e = answered p l k y ok cs c in
-      let f = given-exactly fixed past (some-pieces p l k y ok cs) c a in
-      (λ q. f .0 (sym e ∙ q), λ q. e ∙ f .1 q)
+    pub fair-taken : ((number : ℕ) → Cause fixed h c number → ⊥) → (a : Said) × (step c y .answer ≡ taken a)
+    fair-taken f = let t = taken-without fixed h c f in (t .0, answered fixed h y agrees c ∙ t .1)
 
-  pub never-damaged : (c : Call) (place : ℕ) → step c now .answer ≡ refused damaged place → ⊥
-  never-damaged c place e = undamaged fixed past c place (sym (answered p l k y ok cs c) ∙ e)
+    -- and the answer is the one that is given
+    pub given-right : (a : Said) → step c y .answer ≡ taken a ↔ Gives fixed h c a
+    given-right a = so (given-exactly fixed h (sizes-here fixed h y agrees .some) c a)
 
-  -- a request is served exactly if we don't choke and they are interested
-  pub serves-right : (c : Call) (bytes : ℕ) → step c now .answer ≡ taken (serve bytes) ↔ Serves fixed past c bytes
-  serves-right c bytes = let e = answered p l k y ok cs c in let f = serve-exactly fixed past c bytes in (λ q. f .0 (sym e ∙ q), λ q. e ∙ f .1 q)
+    -- and it writes what is said beside it
+    pub writes-right : (w : List ℕ) → written c y ≡ w ↔ Writes fixed h c w
+    writes-right w = let e = wrote fixed h y agrees c in let f = writes-exactly fixed h c w in (λ q. f .0 (sym e ∙ q), λ q. e ∙ f .1 q)
 
-  pub drops-right : (c : Call) (bytes : ℕ) → step c now .answer ≡ taken (dropped bytes) ↔ Drops fixed past c bytes
-  drops-right c bytes = let e = answered p l k y ok cs c in let f = drop-exactly fixed past c bytes in (λ q. f .0 (sym e ∙ q), λ q. e ∙ f .1 q)
+    pub never-damaged : (place : ℕ) → step c y .answer ≡ refused damaged place → ⊥
+    never-damaged place e = undamaged fixed h c place (sym (answered fixed h y agrees c) ∙ e)
+
+    -- a request is served exactly if we don't choke and they are interested
+    pub serves-right : (bytes : ℕ) → step c y .answer ≡ taken (serve bytes) ↔ Serves fixed h c bytes
+    serves-right bytes = so (serve-exactly fixed h c bytes)
+
+    pub drops-right : (bytes : ℕ) → step c y .answer ≡ taken (dropped bytes) ↔ Drops fixed h c bytes
+    drops-right bytes = so (drop-exactly fixed h c bytes)
 
   -- a seat that is given is the lowest free one
-  pub sits-lowest : (i : ℕ) → step sit now .answer ≡ taken (seated i) → Lowest (sitsAt past) seats i × (i < seats)
-  sits-lowest i e = go (leb seats (freeBy (byHistory fixed past))) refl (sym (answered p l k y ok cs sit) ∙ e)
+  pub sits-lowest : (i : ℕ) → step sit y .answer ≡ taken (givesSeat i) → (i < n) × Lowest (seated h) n i
+  sits-lowest i e = go (given-right sit (givesSeat i) .0 e)
     where
-      go : (b : Bool) → leb seats (freeBy (byHistory fixed past)) ≡ b → cond b (no full) (taken (seated (freeBy (byHistory fixed past)))) ≡ taken (seated i) → Lowest (sitsAt past) seats i × (i < seats)
-      go true q f = let z : _≡_ {A = ℕ} 0 1 = cc in absurd (omega arith)
-      go false q f =
-          let d : freeBy (byHistory fixed past) ≡ i = cc in
-          (subst (Lowest (sitsAt past) seats) d (lowest-is (sitsAt past) seats), omega (arith, d, leb-false seats (freeBy (byHistory fixed past)) q))
-
-  -- ---- 13: each page, whatever its room
-
-  pub page-right : (first space : ℕ) → first ≤ seats → step (missing first space) now .answer ≡ taken (listed (pageOf fixed past first space))
-  page-right first space f = answered p l k y ok cs (missing first space) ∙ ap (λ (b : Bool). cond b (taken (listed (pageOf fixed past first space))) (no seat)) (le-leb first seats f)
-
-  pub page-lines : (first space : ℕ) → first ≤ seats → writtenIn (missing first space) now ≡ pageLines fixed past first space
-  page-lines first space f = wrote p l k y ok cs (missing first space) ∙ rw (le-leb first seats f)
-
-  pub missing-total : (first space : ℕ) (page : Page) → step (missing first space) now .answer ≡ taken (listed page) → page .total ≡ count seats (lacking past)
-  missing-total first space page e = go (leb first seats) (sym (answered p l k y ok cs (missing first space)) ∙ e)
-    where
-      go : (b : Bool) → cond b (taken (listed (pageOf fixed past first space))) (no seat) ≡ taken (listed page) → page .total ≡ count seats (lacking past)
-      go true q = let d : pageOf fixed past first space ≡ page = cc in ap (λ (x : Page). x .total) (sym d)
-      go false q = let z : _≡_ {A = ℕ} 0 1 = cc in absurd (omega arith)
+      go : Gives fixed h sit (givesSeat i) → (i < n) × Lowest (seated h) n i
+      go (seats _ l w) = (l, w)
 
   -- ---- 14: the smallest number among the pieces with fewest holders
 
-  pub scarcest-right : (q : ℕ) → step scarcest now .answer ≡ taken (scarce q) → Least (holders fixed past) (pieces past) q
-  scarcest-right q e =
-      let d : taken (scarce (leastOf (holders fixed past) (pieces past))) ≡ taken (scarce q) = sym (answered p l k y ok cs scarcest) ∙ e in
-      let f : leastOf (holders fixed past) (pieces past) ≡ q = cc in
-      subst (Least (holders fixed past) (pieces past)) f (least-some (holders fixed past) (pieces past) (some-pieces p l k y ok cs))
+  pub scarcest-right : (p : ℕ) → step scarcest y .answer ≡ taken (scarce p) → Least (holders fixed h) (pieces h) p
+  scarcest-right p e = go (given-right scarcest (scarce p) .0 e)
+    where
+      go : Gives fixed h scarcest (scarce p) → Least (holders fixed h) (pieces h) p
+      go (picks _ w) = w

@@ -15,22 +15,22 @@ use Rattle.torrent_blocks.proofs.Legal.{is-piece-length, piece-length-is}
 use Rattle.peer_wire.specs.Message.{Message}
 use Rattle.yard_tables.specs.Tables.{Said, wait}
 use Rattle.yard_tables.specs.Step.{Call, feed}
-use Rattle.yard_laws.specs.History.{History, Fixed, pieces}
+use Rattle.yard_laws.specs.History.{History, Fixed, Sizes, pieces}
 use Rattle.yard_laws.specs.View.{StartFits, byHistory}
 use Rattle.yard_laws.specs.Expected.{startFits, looksOf, sitsBy, messageBy, answer}
 use Rattle.yard_laws.specs.Causes.{Sits, Says, Fits, Cause, WaitCause}
 use Rattle.yard_laws.proofs.Caused as caused
 
-module _ (h : History) (p l k : ℕ) where
-  pub fits-start : StartFits h p l k → startFits h p l k ≡ true
-  fits-start f = both-true _ _ (eq-eqb p (pieces h) (f .0)) (both-true _ _ (is-piece-length l (f .1)) (both-true _ _ (le-leb 1 k (f .2)) (le-leb k l (f .3))))
+module _ (h : History) (z : Sizes) where
+  pub fits-start : StartFits h z → startFits h z ≡ true
+  fits-start f = both-true _ _ (eq-eqb (z .pieces) (pieces h) (f .0)) (both-true _ _ (is-piece-length (z .pieceLength) (f .1)) (both-true _ _ (le-leb 1 (z .lastLength) (f .2)) (le-leb (z .lastLength) (z .pieceLength) (f .3))))
 
-  pub start-fits : startFits h p l k ≡ true → StartFits h p l k
+  pub start-fits : startFits h z ≡ true → StartFits h z
   start-fits e =
-      let a = and-eq-true-iff (eqb p (pieces h)) _ .0 e in
-      let b = and-eq-true-iff (pieceLength l) _ .0 (a .1) in
-      let c = and-eq-true-iff (leb 1 k) (leb k l) .0 (b .1) in
-      (eqb-true p (pieces h) (a .0), piece-length-is l (b .0), leb-true 1 k (c .0), leb-true k l (c .1))
+      let a = and-eq-true-iff (eqb (z .pieces) (pieces h)) _ .0 e in
+      let b = and-eq-true-iff (pieceLength (z .pieceLength)) _ .0 (a .1) in
+      let c = and-eq-true-iff (leb 1 (z .lastLength)) (leb (z .lastLength) (z .pieceLength)) .0 (b .1) in
+      (eqb-true (z .pieces) (pieces h) (a .0), piece-length-is (z .pieceLength) (b .0), leb-true 1 (z .lastLength) (c .0), leb-true (z .lastLength) (z .pieceLength) (c .1))
 
 module _ (fixed : Fixed) (h : History) where
   pub sits-then : (i : ℕ) → sitsBy (byHistory fixed h) i ≡ true → Sits fixed h i

@@ -1,13 +1,13 @@
--- A call is taken with an answer exactly when that answer is given by the history. Assumes nothing.
+-- A call is taken with an answer exactly when that answer is given by the history, and writes what is said beside it. Assumes nothing.
 use mathlib.Core.Path.{_≡_, refl, sym, ap, _∙_, subst}
 use mathlib.Core.Logic.{_⊎_, inl, inr, _↔_}
 use mathlib.Core.Bool.{Bool, true, false, not, cond, _&&_}
-use mathlib.Core.List.{List}
+use mathlib.Core.List.{List, []}
 use Prim.Native.Nat.{ℕ, _≤_, _<_}
 use native.Mathlib.Omega.{arith}
 use borrow.Author.Tests.{lt-ltb, le-ltb, ltb-true, ltb-false, le-leb, leb-true, leb-false, lt-leb}
 use lib.Dec.{eqb, ltb, leb}
-use lib.ListN.{length}
+use lib.ListN.{length, take}
 use Rattle.refusal.specs.Paper.{Outcome, taken, refused}
 use Rattle.refusal.specs.Numbers.{late, beyond, bitfield, spare, outside, full, seat, room, sizes}
 use Rattle.refusal.proofs.Cases.{by-bool, no-way}
@@ -16,22 +16,23 @@ use Rattle.peer_wire.specs.Message.{Message, keepalive, choke, unchoke, interes
 use Rattle.peer_wire.specs.Frames.{Found, found, readOf, meant, wait as more}
 use Rattle.yard_tables.specs.Rows.{width}
 use Rattle.yard_tables.specs.Frames.{spareSet}
-use Rattle.yard_tables.specs.Tables.{Said, wait, done, used, serve, dropped, wrote, scarce, seated as givesSeat}
-use Rattle.yard_tables.specs.Step.{Call, start, sit, leave, feed, interest, missing, scarcest, look, has, count, choke as chokes}
+use Rattle.yard_tables.specs.Tables.{Said, wait, done, used, serve, dropped, wrote, listed, scarce, seated as givesSeat}
+use Rattle.yard_tables.specs.Step.{Call, start, sit, leave, feed, interest, missing, scarcest, look, has, count, chokeFrame, interestFrame, ifTaken, choke as chokes}
 use Rattle.yard_tables.proofs.Scarce.{least-unique}
-use Rattle.yard_laws.specs.History.{History, Fixed, seated, fresh, weAreChoking, theyAreInterested, pieces}
-use Rattle.yard_laws.specs.Says.{holders}
+use Rattle.yard_laws.specs.History.{History, Fixed, sizesOf, seated, fresh, weAreChoking, theyAreInterested, pieces}
+use Rattle.yard_laws.specs.Says.{holders, pageOf}
 use Rattle.yard_laws.specs.View.{byHistory}
-use Rattle.yard_laws.specs.Expected.{no, startFits, sitsBy, blockBy, requestBy, messageBy, frameBy, markBy, freeBy, answer}
+use Rattle.yard_laws.specs.Expected.{no, startFits, sitsBy, blockBy, requestBy, messageBy, frameBy, markBy, freeBy, answer, missingFrom, pageFrom, writes, output}
 use Rattle.yard_laws.specs.Causes.{Sits, Marks, Says, Cause, WaitCause, Serves, Drops}
 use Rattle.yard_laws.specs.Causes.ServesBy.{serves as answered-serve}
 use Rattle.yard_laws.specs.Causes.DropsBy.{drops as answered-drop}
 use Rattle.yard_laws.specs.Causes.Marks.{choking, wanting}
 use Rattle.yard_laws.specs.Causes.WaitBy.{cut-off}
-use Rattle.yard_laws.specs.Given.{Gives, begins, leaves, seats, waits, serves, drops, hears, marks, lists, picks, records, tells, counts}
+use Rattle.yard_laws.specs.Given.{Gives, begins, leaves, seats, waits, serves, drops, hears, marks, lists, picks, records, tells, counts, Silent, starting, sitting, leaving, hearing, picking, looking, asking, counting, Writes}
 use Rattle.yard_laws.proofs.Lowest.{lowest-is, lowest-unique, least-some}
-use Rattle.yard_laws.proofs.Fair.{sits-then, then-sits, start-fits, fits-start, frame-says, wait-exactly-when, cause-given, taken-without}
+use Rattle.yard_laws.proofs.Fair.{sits-then, then-sits, start-fits, fits-start, frame-says, refused-exactly, wait-exactly-when, cause-given, taken-without}
 use Rattle.yard_laws.proofs.Serving.{serve-exactly, drop-exactly}
+use Rattle.yard_laws.proofs.Pages.{missing-is, missing-unique}
 use Rattle.yard_laws.proofs.Damage.{skip}
 use Rattle.yard_laws.proofs.OnTables.{not-both}
 
@@ -129,17 +130,21 @@ module _ (fixed : Fixed) (h : History) where
         waited (cut-off j t g w) = waits j t g w
     frame-given (taken (found m bytes)) r q = message-given (meant s m) bytes (record { at = m; reads = r; means = refl })
 
-  mark-given : (c : Call) (i space : ℕ) (a : Said) → Marks i space c → markBy (byHistory fixed h) i space ≡ taken a → Gives fixed h c a
-  mark-given c i space a m e =
+  mark-taken : (i space : ℕ) (a : Said) → markBy (byHistory fixed h) i space ≡ taken a → Sits fixed h i × (5 ≤ space) × (wrote 5 ≡ a)
+  mark-taken i space a e =
       let s = inner i 5 a (sitsBy (byHistory fixed h) i) _ seat e in
-      go (ltb space 5) refl (s .1) (sits-then fixed h i (s .0))
+      let r = go (ltb space 5) refl (s .1) in
+      (sits-then fixed h i (s .0), r .0, r .1)
     where
-      go : (t : Bool) → ltb space 5 ≡ t → cond t (no room) (taken (wrote 5)) ≡ taken a → Sits fixed h i → Gives fixed h c a
-      go true r q here = absurd (not-both a room 0 (sym q))
-      go false r q here = same c (wrote 5) a (taken-same (wrote 5) a q) (marks c i space m here (ltb-false space 5 r))
+      go : (t : Bool) → ltb space 5 ≡ t → cond t (no room) (taken (wrote 5)) ≡ taken a → (5 ≤ space) × (wrote 5 ≡ a)
+      go true r q = absurd (not-both a room 0 (sym q))
+      go false r q = (ltb-false space 5 r, taken-same (wrote 5) a q)
+
+  mark-given : (c : Call) (i space : ℕ) (a : Said) → Marks i space c → markBy (byHistory fixed h) i space ≡ taken a → Gives fixed h c a
+  mark-given c i space a m e = let (here, l, q) = mark-taken i space a e in same c (wrote 5) a q (marks c i space m here l)
 
   given-of : (c : Call) (a : Said) → 0 < pieces h → answer fixed h c ≡ taken a → Gives fixed h c a
-  given-of (start p l k) a z e = let w = way 0 0 a (startFits h p l k) done sizes e in same _ _ a (w .1) (begins p l k (start-fits h p l k (w .0)))
+  given-of (start p l k) a z e = let w = way 0 0 a (startFits h (sizesOf p l k)) done sizes e in same _ _ a (w .1) (begins p l k (start-fits h (sizesOf p l k) (w .0)))
   given-of sit a z e = go (leb n (freeBy (byHistory fixed h))) refl e
     where
       go : (t : Bool) → leb n (freeBy (byHistory fixed h)) ≡ t → cond t (no full) (taken (givesSeat (freeBy (byHistory fixed h)))) ≡ taken a → Gives fixed h sit a
@@ -151,7 +156,10 @@ module _ (fixed : Fixed) (h : History) where
       frame-given i s (sits-then fixed h i (w .0)) a e (readOf s) refl (w .1)
   given-of (chokes i b space) a z e = mark-given (chokes i b space) i space a (choking b) e
   given-of (interest i b space) a z e = mark-given (interest i b space) i space a (wanting b) e
-  given-of (missing first space) a z e = let w = way 0 0 a (leb first n) _ seat e in same _ _ a (w .1) (lists first space (leb-true first n (w .0)))
+  given-of (missing first space) a z e =
+      let w = way 0 0 a (leb first n) _ seat e in
+      let l = leb-true first n (w .0) in
+      same _ _ a (w .1) (lists first space (missingFrom fixed h first) l (missing-is fixed h first l))
   given-of scarcest a z e = same scarcest _ a (taken-same _ a e) (picks _ (least-some (holders fixed h) (pieces h) z))
   given-of (look i) a z e = let w = way 0 0 a (ltb i n) _ seat e in same _ _ a (w .1) (records i (ltb-true i n (w .0)))
   given-of (has i p) a z e =
@@ -174,7 +182,7 @@ module _ (fixed : Fixed) (h : History) where
       t .1 ∙ ap taken (sym (heard-used i bytes (t .0) m o (sym (frame-says fixed h i s m bytes here f) ∙ t .1)))
 
   given-is : (c : Call) (a : Said) → Gives fixed h c a → answer fixed h c ≡ taken a
-  given-is c a (begins p l k f) = rw (fits-start h p l k f)
+  given-is c a (begins p l k f) = rw (fits-start h (sizesOf p l k) f)
   given-is c a (leaves i here) = rw (then-sits fixed h i here)
   given-is c a (seats i l w) =
       let e : freeBy (byHistory fixed h) ≡ i = lowest-unique (seated h) n _ _ (lowest-is (seated h) n) w in
@@ -184,7 +192,9 @@ module _ (fixed : Fixed) (h : History) where
   given-is c a (drops i s bytes f w) = drop-exactly fixed h (feed i s) bytes .1 (answered-drop i s bytes f w)
   given-is c a (hears i s m bytes here f o none) = hear-is i s m bytes here f o none
   given-is c a (marks d i space m here l) = mark-is d i space m here l
-  given-is c a (lists first space l) = rw (le-leb first n l)
+  given-is c a (lists first space l f m) =
+      ap (λ (b : Bool). cond b (taken (listed (pageFrom fixed h first space))) (no seat)) (le-leb first n f)
+      ∙ ap (λ (k : List ℕ). taken (listed (pageOf fixed h space k))) (missing-unique fixed h first _ l (missing-is fixed h first f) m)
   given-is c a (picks p l) =
       ap (λ (k : ℕ). taken (scarce k)) (least-unique (holders fixed h) (pieces h) _ p (least-some (holders fixed h) (pieces h) (omega (arith, l .within))) l)
   given-is c a (records i l) = rw (lt-ltb i n l)
@@ -193,3 +203,53 @@ module _ (fixed : Fixed) (h : History) where
 
   pub given-exactly : 0 < pieces h → (c : Call) (a : Said) → answer fixed h c ≡ taken a ↔ Gives fixed h c a
   given-exactly z c a = (given-of c a z, given-is c a)
+
+  -- ---- what is written
+
+  taken-writes : (c : Call) (a : Said) → answer fixed h c ≡ taken a → Writes fixed h c (writes fixed h c)
+  taken-writes (start p l k) a e = Writes.quiet _ (starting p l k)
+  taken-writes sit a e = Writes.quiet _ sitting
+  taken-writes (leave i) a e = Writes.quiet _ (leaving i)
+  taken-writes (feed i s) a e = Writes.quiet _ (hearing i s)
+  taken-writes (chokes i b space) a e = let (here, l, q) = mark-taken i space a e in Writes.chokes i b space here l
+  taken-writes (interest i b space) a e = let (here, l, q) = mark-taken i space a e in Writes.wants i b space here l
+  taken-writes (missing first space) a e =
+      let l = leb-true first n (way 0 0 a (leb first n) _ seat e .0) in
+      Writes.lines first space (missingFrom fixed h first) l (missing-is fixed h first l)
+  taken-writes scarcest a e = Writes.quiet _ picking
+  taken-writes (look i) a e = Writes.quiet _ (looking i)
+  taken-writes (has i p) a e = Writes.quiet _ (asking i p)
+  taken-writes (count p) a e = Writes.quiet _ (counting p)
+
+  output-writes : (c : Call) → Writes fixed h c (output fixed h c)
+  output-writes c = go (answer fixed h c) refl
+    where
+      go : (o : Outcome Said) → answer fixed h c ≡ o → Writes fixed h c (ifTaken o (writes fixed h c))
+      go (taken a) e = taken-writes c a e
+      go (refused number place) e = Writes.refuses c number (refused-exactly fixed h c number place .0 e .0)
+
+  nothing-either : (o : Outcome Said) → ifTaken o [] ≡ []
+  nothing-either (taken a) = refl
+  nothing-either (refused number place) = refl
+
+  quiet-is : (c : Call) → Silent c → output fixed h c ≡ []
+  quiet-is c (starting p l k) = nothing-either (answer fixed h c)
+  quiet-is c sitting = nothing-either (answer fixed h c)
+  quiet-is c (leaving i) = nothing-either (answer fixed h c)
+  quiet-is c (hearing i s) = nothing-either (answer fixed h c)
+  quiet-is c picking = nothing-either (answer fixed h c)
+  quiet-is c (looking i) = nothing-either (answer fixed h c)
+  quiet-is c (asking i p) = nothing-either (answer fixed h c)
+  quiet-is c (counting p) = nothing-either (answer fixed h c)
+
+  writes-is : (c : Call) (w : List ℕ) → Writes fixed h c w → output fixed h c ≡ w
+  writes-is c w (Writes.refuses _ number k) = ap (λ (o : Outcome Said). ifTaken o (writes fixed h c)) (cause-given fixed h c number k)
+  writes-is c w (Writes.quiet _ s) = quiet-is c s
+  writes-is c w (Writes.chokes i b space here l) = ap (λ (o : Outcome Said). ifTaken o (chokeFrame b)) (mark-is (chokes i b space) i space (choking b) here l)
+  writes-is c w (Writes.wants i b space here l) = ap (λ (o : Outcome Said). ifTaken o (interestFrame b)) (mark-is (interest i b space) i space (wanting b) here l)
+  writes-is c w (Writes.lines first space l f m) =
+      ap (λ (b : Bool). ifTaken (cond b (taken (listed (pageFrom fixed h first space))) (no seat)) (take space (missingFrom fixed h first))) (le-leb first n f)
+      ∙ ap (take space) (missing-unique fixed h first _ l (missing-is fixed h first f) m)
+
+  pub writes-exactly : (c : Call) (w : List ℕ) → output fixed h c ≡ w ↔ Writes fixed h c w
+  writes-exactly c w = (λ e. subst (Writes fixed h c) e (output-writes c), writes-is c w)

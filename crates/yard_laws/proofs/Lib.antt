@@ -1,4 +1,5 @@
 -- That the tables and the answers are what the history says.
+pub mod Loading
 pub mod Agreeing
 pub mod Calls
 pub mod Starting
@@ -14,4 +15,3 @@ pub mod Demand
 pub mod Damage
 pub mod OnTables
 pub mod Given
-pub mod Loading

@@ -6,7 +6,7 @@ use Prim.Native.Nat.{ℕ}
 use native.Mathlib.Omega.{arith}
 use borrow.Author.Tests.{ltb-true}
 use lib.Dec.{ltb, leb}
-use lib.ListN.{length, getD}
+use lib.ListN.{length, getD, take}
 use Rattle.refusal.specs.Paper.{taken}
 use Rattle.refusal.specs.Numbers.{full, seat, beyond}
 use Rattle.yard_tables.specs.Rows.{width, hasIn}
@@ -21,13 +21,14 @@ use Rattle.yard_tables.specs.declared.Seat.{Seat}
 use Rattle.yard_tables.specs.declared.Head.{Head}
 use Rattle.yard_tables.specs.declared.Page.{Page}
 use Rattle.yard_tables.proofs.Sizing.{Fitting}
-use Rattle.yard_laws.specs.History.{History, Fixed, event, pieces, sizesWith, seated}
-use Rattle.yard_laws.specs.Says.{hasPiece, lacking, recordOf, holders, headOf, pageLines, pageOf, lowestWithout, leastOf}
+use Rattle.yard_laws.specs.History.{History, Fixed, event, pieces, sizesWith, seated, announced}
+use Rattle.yard_laws.specs.Says.{hasPiece, lacking, recordOf, holders, headOf}
 use Rattle.yard_laws.specs.View.{byHistory}
-use Rattle.yard_laws.specs.Expected.{no, freeBy}
+use Rattle.yard_laws.specs.Expected.{no, freeBy, missingFrom, pageFrom, lowestWithout, leastOf}
 use Rattle.yard_laws.proofs.Agreeing.{Agrees, at}
 use Rattle.yard_laws.proofs.Calls.{Good, unchanged, Kept, lift, refuses, sized-good, sizes-here, sit-good, by-same}
 use Rattle.yard_laws.proofs.Lowest.{lowest-is, free-is, scarcest-is}
+use Rattle.yard_laws.proofs.Loading.{lacks-held}
 use Rattle.yard_laws.proofs.Missing.{lines-are, page-is}
 
 module _ (fixed : Fixed) (h : History) (y : Yard) (agrees : Agrees fixed h y) where
@@ -49,18 +50,18 @@ module _ (fixed : Fixed) (h : History) (y : Yard) (agrees : Agrees fixed h y) wh
   -- ---- the missing list
 
   lacking-is : (i : ℕ) → isMissing (pieces h) (getD (y .seats) i cleared) ≡ lacking h i
-  lacking-is i = ap (isMissing (pieces h)) (agrees .seat-is i)
+  lacking-is i = ap (isMissing (pieces h)) (agrees .seat-is i) ∙ sym (lacks-held (seated h i) (announced h i) (pieces h))
 
-  pub lines-same : (first space : ℕ) → linesOf (y .head .pieces) first space (y .seats) ≡ pageLines fixed h first space
+  pub lines-same : (first space : ℕ) → linesOf (y .head .pieces) first space (y .seats) ≡ take space (missingFrom fixed h first)
   lines-same first space =
       ap (λ (k : Head). linesOf (k .pieces) first space (y .seats)) (agrees .head-is)
       ∙ lines-are (pieces h) (lacking h) n (y .seats) (agrees .seats-len) lacking-is first space
 
-  page-same : (first space : ℕ) → pageIn (pieces h) first space (y .seats) ≡ pageOf fixed h first space
+  page-same : (first space : ℕ) → pageIn (pieces h) first space (y .seats) ≡ pageFrom fixed h first space
   page-same first space = page-is (pieces h) (lacking h) n (y .seats) (agrees .seats-len) lacking-is first space
 
   pub missing-kept : (first space : ℕ) (w : List ℕ) → Kept fixed h y agrees (missing first space) w (atSeat 0 (missingOf first space (y .seats)) y)
-      (cond (leb first n) (taken (listed (pageOf fixed h first space))) (no seat))
+      (cond (leb first n) (taken (listed (pageFrom fixed h first space))) (no seat))
   unfolding event sizesWith
   missing-kept first space w = lift fixed h y agrees (missing first space) w 0 (missingOf first space (y .seats)) _
       (sized-good fixed h y agrees (missing first space) w 0 _ _

@@ -15,7 +15,8 @@ use Rattle.yard_tables.specs.Seating.{lowestFree}
 use Rattle.yard_tables.specs.Looks.{fewest, placeOf}
 use Rattle.yard_tables.proofs.Scarce.{least-start, least-turn, least-unique, place-least}
 use Rattle.yard_tables.specs.declared.Seat.{Seat}
-use Rattle.yard_laws.specs.Says.{lowestWithout, leastOf, Lowest}
+use Rattle.yard_laws.specs.Says.{Lowest}
+use Rattle.yard_laws.specs.Expected.{lowestWithout, leastOf}
 
 -- ---- the lowest without f
 
@@ -42,7 +43,7 @@ lowest-unique f n a b p q = less-or a b
     (λ m. cannot _ (q .lacks (omega (arith, p .within))) (p .below b m))
     (λ m. omega arith))
 
-pub lowest-ext : (f g : ℕ → Bool) (n k : ℕ) → ((i : ℕ) → f i ≡ g i) → Lowest f n k → Lowest g n k
+lowest-ext : (f g : ℕ → Bool) (n k : ℕ) → ((i : ℕ) → f i ≡ g i) → Lowest f n k → Lowest g n k
 lowest-ext f g n k e p = record { within = p .within; below = λ j l. sym (e j) ∙ p .below j l; lacks = λ l. sym (e k) ∙ p .lacks l }
 
 abbrev takenAt : List Seat → ℕ → Bool
@@ -64,7 +65,7 @@ free-is l f e = lowest-unique f (length l) _ _ (lowest-ext (takenAt l) f (length
 
 -- ---- the smallest where f is least
 
-pub least-is : (f : ℕ → ℕ) (n : ℕ) → Least f (suc n) (leastOf f (suc n))
+least-is : (f : ℕ → ℕ) (n : ℕ) → Least f (suc n) (leastOf f (suc n))
 unfolding leastOf
 least-is f zero = by-test (Least f 1) (ltb (f 0) (f 0)) (λ e. least-start f) (λ e. least-start f)
 least-is f (suc n) = least-turn f (suc n) (leastOf f (suc n)) (least-is f n)
@@ -73,7 +74,7 @@ pub least-some : (f : ℕ → ℕ) (n : ℕ) → 0 < n → Least f n (leastOf f 
 least-some f zero l = absurd (omega arith)
 least-some f (suc n) l = least-is f n
 
-pub least-ext : (f g : ℕ → ℕ) (n k : ℕ) → ((q : ℕ) → q < n → f q ≡ g q) → Least f n k → Least g n k
+least-ext : (f g : ℕ → ℕ) (n k : ℕ) → ((q : ℕ) → q < n → f q ≡ g q) → Least f n k → Least g n k
 least-ext f g n k e p = record {
   within = p .within;
   least = λ q l. omega (arith, e q l, e k (p .within), p .least q l);

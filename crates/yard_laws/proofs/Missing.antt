@@ -11,7 +11,7 @@ use Rattle.yard_tables.specs.Seats.{cleared}
 use Rattle.yard_tables.specs.Looks.{isMissing, missingFrom, missingAt, linesOf, firstOr, pageOf}
 use Rattle.yard_tables.specs.declared.Seat.{Seat}
 use Rattle.yard_tables.proofs.Counts.{count-ext}
-use Rattle.yard_laws.specs.Says.{those}
+use Rattle.yard_laws.specs.Expected.{those}
 
 -- ---- how many of some numbers have f
 
@@ -34,7 +34,7 @@ those-count f k (suc m) =
     let c : bit (f (k + 0)) ≡ bit (f k) = ap (λ (x : ℕ). bit (f x)) z in
     omega (arith, a, b, c, length-cond (f k) k (those f (suc k) m), count-front m (λ j. f (k + j)))
 
-pub those-all : (f : ℕ → Bool) (n : ℕ) → length (those f 0 n) ≡ count n f
+those-all : (f : ℕ → Bool) (n : ℕ) → length (those f 0 n) ≡ count n f
 those-all f n = those-count f 0 n ∙ count-ext (λ j. f (0 + j)) f n (λ j l. let e : 0 + j ≡ j = omega arith in ap f e)
 
 -- ---- the seats of a list
@@ -49,7 +49,7 @@ module _ (pieces : ℕ) (f : ℕ → Bool) where
       (missing-those (suc k) ss (λ j l. let e : k + suc j ≡ suc k + j = omega arith in h (suc j) (omega arith) ∙ ap f e))
 
   module _ (n : ℕ) (seats : List Seat) (size : length seats ≡ n) (is : (j : ℕ) → isMissing pieces (getD seats j cleared) ≡ f j) where
-    pub missing-at : (first : ℕ) → missingAt pieces first seats ≡ those f first (n - first)
+    missing-at : (first : ℕ) → missingAt pieces first seats ≡ those f first (n - first)
     missing-at first =
         missing-those first (drop first seats) (λ j l. ap (isMissing pieces) (getD-drop first seats j cleared) ∙ is (first + j))
         ∙ ap (those f first) (length-drop first seats ∙ ap (λ (m : ℕ). m - first) size)

@@ -25,6 +25,8 @@ use Rattle.yard_tables.specs.Looks.{seatOf as lookOf}
 use Rattle.yard_tables.specs.Step.{Call, start, sit, leave, feed, interest, missing, scarcest, look, has, count, step}
 use Rattle.yard_tables.specs.Step.{choke as chokes}
 use Rattle.yard_tables.specs.declared.Seat.{Seat}
+use Rattle.yard_laws.specs.History.{Sizes, sizesOf}
+use Rattle.yard_laws.specs.Run.{startWith}
 use Rattle.yard_laws.specs.View.{View, byTables}
 use Rattle.yard_laws.specs.Causes.{Says, CauseBy, WaitBy}
 use Rattle.yard_laws.specs.Expected.{no, Looks, sitsBy, messageBy, frameBy, blockBy, markBy, freeBy, answerBy}
@@ -74,8 +76,8 @@ module _ (y : Yard) where
   abbrev pieces : ℕ
   pieces = y .head .pieces
 
-  abbrev starts : ℕ → ℕ → ℕ → Bool
-  starts p l k = fitsFor p l k y
+  abbrev starts : Sizes → Bool
+  starts z = fitsFor z y
 
   -- what the tables show to a look
   abbrev looks : Looks
@@ -90,11 +92,11 @@ module _ (y : Yard) where
   abbrev expected : Call → Outcome Said
   expected c = answerBy v starts looks c
 
-  starts-yes : (p l k : ℕ) → v .MayStart p l k → starts p l k ≡ true
-  starts-yes p l k f = sized-fits p l k y f
+  starts-yes : (z : Sizes) → v .MayStart z → starts z ≡ true
+  starts-yes z f = sized-fits z y f
 
-  starts-is : (p l k : ℕ) → starts p l k ≡ true → v .MayStart p l k
-  starts-is p l k e = fits-sized p l k y e
+  starts-is : (z : Sizes) → starts z ≡ true → v .MayStart z
+  starts-is z e = fits-sized z y e
 
   free-same : lowestFree (y .seats) ≡ freeBy v
   free-same = free-is (y .seats) (v .sitsAt) (λ i. refl)
@@ -150,7 +152,7 @@ module _ (y : Yard) where
 
     same : (c : Call) → (Damaged y c → ⊥) → step c y .answer ≡ expected c
     unfolding step startOf sitOf leaveOf feedOf scarcestOf lookOf hasOf countOf
-    same (start p l k) sound = out-branch (fitsFor p l k y) _ _
+    same (start p l k) sound = out-branch (fitsFor (sizesOf p l k) y) _ _
     same sit sound =
         fitted (lowestFree (y .seats)) _ _ (branch (leb n (lowestFree (y .seats))) _ _ _ _ (λ e. refl)
         (λ e. ap (λ (t : Turn). t .answer) (skip (leb n (y .head .taken)) _ _ (false-if (leb n (y .head .taken))
@@ -198,22 +200,22 @@ module _ (y : Yard) where
 
   -- ---- the sizes fit, where another refusal or a wait is given
 
-  start-answers : (p l k : ℕ) → step (start p l k) y .answer ≡ cond (fitsFor p l k y) (taken done) (no sizes)
+  start-answers : (z : Sizes) → step (startWith z) y .answer ≡ cond (fitsFor z y) (taken done) (no sizes)
   unfolding step startOf
-  start-answers p l k = out-branch (fitsFor p l k y) _ _
+  start-answers z = out-branch (fitsFor z y) _ _
 
   -- a start is done or refused by 38
-  not-start : (p l k : ℕ) (o : Outcome Said) → (o ≡ refused sizes 0 → ⊥) → (o ≡ taken done → ⊥) → step (start p l k) y .answer ≡ o → ⊥
-  not-start p l k o f g e = by-bool (fitsFor p l k y)
-      (λ t. g (sym e ∙ start-answers p l k ∙ pick (fitsFor p l k y) _ _ t))
-      (λ t. f (sym e ∙ start-answers p l k ∙ skip (fitsFor p l k y) _ _ t))
+  not-start : (z : Sizes) (o : Outcome Said) → (o ≡ refused sizes 0 → ⊥) → (o ≡ taken done → ⊥) → step (startWith z) y .answer ≡ o → ⊥
+  not-start z o f g e = by-bool (fitsFor z y)
+      (λ t. g (sym e ∙ start-answers z ∙ pick (fitsFor z y) _ _ t))
+      (λ t. f (sym e ∙ start-answers z ∙ skip (fitsFor z y) _ _ t))
 
   -- any other call of tables that do not fit is refused by 38
   must-fit : (c : Call) (o : Outcome Said) → (o ≡ refused sizes 0 → ⊥) → (o ≡ taken done → ⊥) → step c y .answer ≡ o → Fit y
   must-fit c o f g e = by-bool (fits y) (λ t. fit-is y t) (λ t. absurd (go c e (λ p. cannot _ t (is-fit y p))))
     where
       go : (d : Call) → step d y .answer ≡ o → (Fit y → ⊥) → ⊥
-      go (start p l k) q u = not-start p l k o f g q
+      go (start p l k) q u = not-start (sizesOf p l k) o f g q
       go sit q u = f (sym q ∙ unfit-given y sit u)
       go (leave i) q u = f (sym q ∙ unfit-given y (leave i) u)
       go (feed i s) q u = f (sym q ∙ unfit-given y (feed i s) u)

@@ -1,15 +1,16 @@
 -- The missing list by the history: who stands on it, in which order, and how a page goes on. Assumes nothing.
 use mathlib.Core.Path.{_≡_, refl, sym, ap, ap₂, _∙_}
-use mathlib.Core.Logic.{_⊎_, inl, inr, _↔_}
+use mathlib.Core.Logic.{_⊎_, inl, inr, _↔_, Iff·trans, Iff·symm}
 use mathlib.Core.Bool.{Bool, true, false, cond}
 use mathlib.Core.List.{List, [], _∷_, _++_, List·Memᴰ, List·Memᴰ·head, List·Memᴰ·tail, List·Memᴰ·not-nil, List·Memᴰ·cases-cons}
-use Prim.Native.Nat.{ℕ, zero, suc, _+_, _-_, _≤_, _<_, min}
+use Prim.Native.Nat.{ℕ, zero, suc, _+_, _-_, _≤_, _<_}
 use native.Mathlib.Omega.{arith}
-use lib.ListN.{length, drop, length-take, take-append-drop}
+use lib.ListN.{take, drop, take-append-drop}
 use Rattle.refusal.proofs.Cases.{by-test, same-or, cannot}
 use Rattle.yard_tables.specs.Looks.{firstOr}
 use Rattle.yard_laws.specs.History.{History, Fixed}
-use Rattle.yard_laws.specs.Says.{lacking, those, missingFrom, pageLines, pageOf, Ascending, none, one}
+use Rattle.yard_laws.specs.Says.{lacking, Ascending, none, one, Missing}
+use Rattle.yard_laws.specs.Expected.{those, missingFrom, pageFrom}
 
 -- ---- an ascending list is known by its members
 
@@ -127,25 +128,23 @@ module _ (f : ℕ → Bool) where
 
 -- ---- the missing list
 
-module _ (fixed : Fixed) (h : History) (first : ℕ) (l : first ≤ fixed .seats) where
-  abbrev n : ℕ
-  n = fixed .seats
+module _ (fixed : Fixed) (h : History) (first : ℕ) where
+  -- there is one
+  pub missing-is : first ≤ fixed .seats → Missing fixed h first (missingFrom fixed h first)
+  missing-is l = record {
+    ascends = those-ascend (lacking h) first (fixed .seats - first);
+    members = λ j. (
+      λ i. let t = those-have (lacking h) j first (fixed .seats - first) i in (t .0, omega (arith, t .1), t .2),
+      λ (a, b, e). having-there (lacking h) j first (fixed .seats - first) a (omega arith) e,
+    );
+  }
 
-  -- a seat is on it exactly if it is not before the first seat and its truck lacks a piece
-  pub listed-lacks : (j : ℕ) → List·Memᴰ j (missingFrom fixed h first) → (first ≤ j) × (j < n) × (lacking h j ≡ true)
-  listed-lacks j i = let t = those-have (lacking h) j first (n - first) i in (t .0, omega (arith, t .1), t .2)
+  -- and no other
+  pub missing-unique : (l m : List ℕ) → Missing fixed h first l → Missing fixed h first m → l ≡ m
+  missing-unique l m a b = ascending-unique l m (a .ascends) (b .ascends) (λ j. Iff·trans (a .members j) (Iff·symm (b .members j)))
 
-  pub lacking-listed : (j : ℕ) → first ≤ j → j < n → lacking h j ≡ true → List·Memᴰ j (missingFrom fixed h first)
-  lacking-listed j a b e = having-there (lacking h) j first (n - first) a (omega arith) e
-
-  pub list-ascends : Ascending first (missingFrom fixed h first)
-  list-ascends = those-ascend (lacking h) first (n - first)
-
-  -- a page has as many lines as fit, and the list goes on from its next seat
-  pub lines-fit : (space : ℕ) → pageOf fixed h first space .written ≡ min space (length (missingFrom fixed h first))
-  lines-fit space = length-take space (missingFrom fixed h first)
-
-  pub page-goes-on : (space : ℕ) → missingFrom fixed h first ≡ pageLines fixed h first space ++ missingFrom fixed h (pageOf fixed h first space .next)
-  page-goes-on space =
+  -- it goes on from a page's next seat
+  pub page-goes-on : first ≤ fixed .seats → (space : ℕ) → missingFrom fixed h first ≡ take space (missingFrom fixed h first) ++ missingFrom fixed h (pageFrom fixed h first space .next)
+  page-goes-on l space =
       sym (take-append-drop space (missingFrom fixed h first))
-      ∙ ap (λ (r : List ℕ). pageLines fixed h first space ++ r) (rest-is (lacking h) n space first (n - first) (omega arith))
+      ∙ ap (λ (r : List ℕ). take space (missingFrom fixed h first) ++ r) (rest-is (lacking h) (fixed .seats) space first (fixed .seats - first) (omega arith))

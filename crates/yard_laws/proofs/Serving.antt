@@ -21,7 +21,7 @@ use Rattle.yard_tables.specs.Tables.{Said, wait, done, used, serve, dropped, wr
 use Rattle.yard_tables.specs.Tables.{seated as givesSeat}
 use Rattle.yard_tables.specs.Step.{Call, start, sit, leave, feed, interest, missing, scarcest, look, has, count}
 use Rattle.yard_tables.specs.Step.{choke as chokes}
-use Rattle.yard_laws.specs.History.{History, Fixed, fresh, weAreChoking, theyAreInterested, pieces}
+use Rattle.yard_laws.specs.History.{History, Fixed, sizesOf, fresh, weAreChoking, theyAreInterested, pieces}
 use Rattle.torrent_blocks.specs.Answers.{lies}
 use Rattle.yard_laws.specs.View.{byHistory}
 use Rattle.yard_laws.specs.Expected.{startFits, sitsBy, blockBy, requestBy, messageBy, frameBy, markBy, freeBy, answer}
@@ -105,7 +105,7 @@ module _ (fixed : Fixed) (h : History) where
   mark-asked c i space = by-test (Asked c) (sitsBy (byHistory fixed h) i) (λ e. by-test (Asked c) (ltb space 5) (λ f. tt) (λ f. tt)) (λ e. tt)
 
   asked-of : (c : Call) → Asked c (answer fixed h c)
-  asked-of (start p l k) = by-test (Asked (start p l k)) (startFits h p l k) (λ e. tt) (λ e. tt)
+  asked-of (start p l k) = by-test (Asked (start p l k)) (startFits h (sizesOf p l k)) (λ e. tt) (λ e. tt)
   asked-of sit = by-test (Asked sit) (leb n (freeBy (byHistory fixed h))) (λ e. tt) (λ e. tt)
   asked-of (leave i) = by-test (Asked (leave i)) (sitsBy (byHistory fixed h) i) (λ e. tt) (λ e. tt)
   asked-of (feed i s) = by-test (Asked (feed i s)) (sitsBy (byHistory fixed h) i) (λ e. frame-asked i s (sits-then fixed h i e) (readOf s) refl) (λ e. tt)

@@ -17,14 +17,13 @@ use Rattle.yard_tables.specs.Rows.{width}
 use Rattle.yard_tables.specs.Seats.{cleared, holding}
 use Rattle.yard_tables.specs.Tables.{Yard, done, sizesFit}
 use Rattle.yard_tables.specs.Seating.{emptied, startOf}
-use Rattle.yard_tables.specs.Step.{start}
 use Rattle.yard_tables.proofs.Counts.{count-none}
 use Rattle.yard_tables.proofs.Rows.{blank}
 use Rattle.yard_tables.proofs.Sizing.{Fitting, fitting}
-use Rattle.yard_laws.specs.History.{History, Fixed, entry, event, pieces, sizesWith, seated}
+use Rattle.yard_laws.specs.History.{History, Fixed, Sizes, entry, event, pieces, sizesWith, seated}
 use Rattle.yard_laws.specs.Says.{hasPiece, held, loaded, holders, headOf}
 use Rattle.yard_laws.specs.Expected.{no, startFits}
-use Rattle.yard_laws.specs.Run.{SizesFit, fixedBy}
+use Rattle.yard_laws.specs.Run.{SizesFit, fixedBy, startWith}
 use Rattle.yard_laws.proofs.Agreeing.{Agrees, quiet-agrees, counted-fits}
 use Rattle.yard_laws.proofs.Calls.{Kept}
 
@@ -33,48 +32,52 @@ getD-same zero j a = refl
 getD-same (suc n) zero a = refl
 getD-same (suc n) (suc j) a = getD-same n j a
 
--- the sizes of a start fit the tables y
-abbrev pub fitsFor : ℕ → ℕ → ℕ → Yard → Bool
-fitsFor p l k y = sizesFit (emptied p l k y .head) (length (y .seats)) (length (y .rows)) (length (y .holders))
+-- what a start leaves
+abbrev pub empty : Sizes → Yard → Yard
+empty z y = emptied (z .pieces) (z .pieceLength) (z .lastLength) y
 
-pub empty-agrees : (h : History) (y : Yard) (p l k : ℕ) (w : List ℕ) → fitsFor p l k y ≡ true
-    → Agrees (fixedBy y) (entry (start p l k) (taken done) w ∷ h) (emptied p l k y)
+-- its sizes fit the tables y
+abbrev pub fitsFor : Sizes → Yard → Bool
+fitsFor z y = sizesFit (empty z y .head) (length (y .seats)) (length (y .rows)) (length (y .holders))
+
+pub empty-agrees : (h : History) (y : Yard) (z : Sizes) (w : List ℕ) → fitsFor z y ≡ true
+    → Agrees (fixedBy y) (entry (startWith z) (taken done) w ∷ h) (empty z y)
 unfolding event sizesWith
-empty-agrees h y p l k w ok =
+empty-agrees h y z w ok =
     let n : ℕ = length (y .seats) in
-    let now : History = entry (start p l k) (taken done) w ∷ h in
-    let f : Fitting (emptied p l k y .head) n (length (y .rows)) (length (y .holders)) = fitting (emptied p l k y .head) n (length (y .rows)) (length (y .holders)) ok in
-    let none : (i : ℕ) → held now i ≡ 0 = λ i. count-none (hasPiece now i) p (λ q m. refl) in
+    let now : History = entry (startWith z) (taken done) w ∷ h in
+    let f : Fitting (empty z y .head) n (length (y .rows)) (length (y .holders)) = fitting (empty z y .head) n (length (y .rows)) (length (y .holders)) ok in
+    let none : (i : ℕ) → held now i ≡ 0 = λ i. count-none (hasPiece now i) (z .pieces) (λ q m. refl) in
     record {
       seats-len = length-replicate n cleared;
-      fits = ap₂ (λ (r s : ℕ). sizesFit (emptied p l k y .head) n r s) (length-replicate (length (y .rows)) 0) (length-replicate (length (y .holders)) 0) ∙ ok;
-      head-is = ap₂ (λ (t c : ℕ). record { pieces = p; «piece_length» = l; «last_length» = k; taken = t; complete = c })
+      fits = ap₂ (λ (r s : ℕ). sizesFit (empty z y .head) n r s) (length-replicate (length (y .rows)) 0) (length-replicate (length (y .holders)) 0) ∙ ok;
+      head-is = ap₂ (λ (t c : ℕ). record { pieces = z .pieces; «piece_length» = z .pieceLength; «last_length» = z .lastLength; taken = t; complete = c })
           (sym (count-none (seated now) n (λ i m. refl))) (sym (count-none (loaded now) n (λ i m. refl)));
       seat-is = λ i. getD-same n i cleared ∙ ap (λ (m : ℕ). holding m cleared) (sym (none i));
-      row-is = λ i q m r. blank (width p) (length (y .rows)) i q;
+      row-is = λ i q m r. blank (width (z .pieces)) (length (y .rows)) i q;
       holders-is = λ q m. getD-replicate (length (y .holders)) q 0 0 (omega (arith, f .counts)) ∙ sym (count-none (λ i. hasPiece now i q) n (λ i r. refl));
     }
 
 -- ---- a further start
 
 -- the sizes fit exactly if they are legal and the tables have them
-pub sized-fits : (p l k : ℕ) (y : Yard) → SizesFit p l k y → fitsFor p l k y ≡ true
+pub sized-fits : (z : Sizes) (y : Yard) → SizesFit z y → fitsFor z y ≡ true
 unfolding sizesFit
-sized-fits p l k y s =
-    both-true _ _ (le-leb 1 p (s .some-pieces))
-    (both-true _ _ (le-leb p mostPieces (s .few-pieces))
+sized-fits z y s =
+    both-true _ _ (le-leb 1 (z .pieces) (s .some-pieces))
+    (both-true _ _ (le-leb (z .pieces) mostPieces (s .few-pieces))
     (both-true _ _ (le-leb 1 (length (y .seats)) (s .some-seats))
     (both-true _ _ (le-leb (length (y .seats)) mostSeats (s .few-seats))
-    (both-true _ _ (is-piece-length l (s .piece-length))
-    (both-true _ _ (le-leb 1 k (s .some-last))
-    (both-true _ _ (le-leb k l (s .last-within))
-    (both-true _ _ (eq-eqb (length (y .rows)) (length (y .seats) * width p) (s .rows-fit))
-    (both-true _ _ (eq-eqb (length (y .holders)) p (s .holders-fit)) refl))))))))
+    (both-true _ _ (is-piece-length (z .pieceLength) (s .piece-length))
+    (both-true _ _ (le-leb 1 (z .lastLength) (s .some-last))
+    (both-true _ _ (le-leb (z .lastLength) (z .pieceLength) (s .last-within))
+    (both-true _ _ (eq-eqb (length (y .rows)) (length (y .seats) * width (z .pieces)) (s .rows-fit))
+    (both-true _ _ (eq-eqb (length (y .holders)) (z .pieces) (s .holders-fit)) refl))))))))
 
-pub fits-sized : (p l k : ℕ) (y : Yard) → fitsFor p l k y ≡ true → SizesFit p l k y
-fits-sized p l k y e =
-    let f : Fitting (emptied p l k y .head) (length (y .seats)) (length (y .rows)) (length (y .holders)) =
-    fitting (emptied p l k y .head) (length (y .seats)) (length (y .rows)) (length (y .holders)) e in
+pub fits-sized : (z : Sizes) (y : Yard) → fitsFor z y ≡ true → SizesFit z y
+fits-sized z y e =
+    let f : Fitting (empty z y .head) (length (y .seats)) (length (y .rows)) (length (y .holders)) =
+    fitting (empty z y .head) (length (y .seats)) (length (y .rows)) (length (y .holders)) e in
     record {
       some-pieces = f .some;
       few-pieces = f .few;
@@ -94,41 +97,41 @@ by-both Q true false p f g = cannot true p refl
 by-both Q false true p f g = cannot false refl p
 by-both Q false false p f g = g refl
 
-module _ (fixed : Fixed) (h : History) (y : Yard) (agrees : Agrees fixed h y) (p l k : ℕ) where
+module _ (fixed : Fixed) (h : History) (y : Yard) (agrees : Agrees fixed h y) (z : Sizes) where
   abbrev n : ℕ
   n = fixed .seats
 
   fits-now : Fitting (headOf fixed h) n (length (y .rows)) (length (y .holders))
   fits-now = fitting (headOf fixed h) n (length (y .rows)) (length (y .holders)) (counted-fits fixed h y agrees (headOf fixed h .taken) (headOf fixed h .complete))
 
-  fits-then : fitsFor p l k y ≡ true → startFits h p l k ≡ true
+  fits-then : fitsFor z y ≡ true → startFits h z ≡ true
   fits-then e =
-      let f : SizesFit p l k y = fits-sized p l k y e in
-      both-true (eqb p (pieces h)) _ (eq-eqb p (pieces h) (omega (arith, f .holders-fit, fits-now .counts)))
-      (both-true (pieceLength l) _ (is-piece-length l (f .piece-length))
-      (both-true (leb 1 k) (leb k l) (le-leb 1 k (f .some-last)) (le-leb k l (f .last-within))))
+      let f : SizesFit z y = fits-sized z y e in
+      both-true (eqb (z .pieces) (pieces h)) _ (eq-eqb (z .pieces) (pieces h) (omega (arith, f .holders-fit, fits-now .counts)))
+      (both-true (pieceLength (z .pieceLength)) _ (is-piece-length (z .pieceLength) (f .piece-length))
+      (both-true (leb 1 (z .lastLength)) (leb (z .lastLength) (z .pieceLength)) (le-leb 1 (z .lastLength) (f .some-last)) (le-leb (z .lastLength) (z .pieceLength) (f .last-within))))
 
-  then-fits : startFits h p l k ≡ true → fitsFor p l k y ≡ true
+  then-fits : startFits h z ≡ true → fitsFor z y ≡ true
   then-fits e =
-      let a = and-eq-true-iff (eqb p (pieces h)) _ .0 e in
-      let b = and-eq-true-iff (pieceLength l) _ .0 (a .1) in
-      let c = and-eq-true-iff (leb 1 k) (leb k l) .0 (b .1) in
-      let q : p ≡ pieces h = eqb-true p (pieces h) (a .0) in
+      let a = and-eq-true-iff (eqb (z .pieces) (pieces h)) _ .0 e in
+      let b = and-eq-true-iff (pieceLength (z .pieceLength)) _ .0 (a .1) in
+      let c = and-eq-true-iff (leb 1 (z .lastLength)) (leb (z .lastLength) (z .pieceLength)) .0 (b .1) in
+      let q : z .pieces ≡ pieces h = eqb-true (z .pieces) (pieces h) (a .0) in
       let m : length (y .seats) ≡ n = agrees .seats-len in
-      sized-fits p l k y record {
+      sized-fits z y record {
         some-pieces = omega (arith, fits-now .some);
         few-pieces = omega (arith, fits-now .few);
         some-seats = omega (arith, fits-now .seat);
         few-seats = omega (arith, fits-now .seats);
-        piece-length = piece-length-is l (b .0);
-        some-last = leb-true 1 k (c .0);
-        last-within = leb-true k l (c .1);
+        piece-length = piece-length-is (z .pieceLength) (b .0);
+        some-last = leb-true 1 (z .lastLength) (c .0);
+        last-within = leb-true (z .lastLength) (z .pieceLength) (c .1);
         rows-fit = fits-now .row ∙ ap₂ (λ (a b : ℕ). a * width b) (sym m) (sym q);
         holders-fit = fits-now .counts ∙ sym q;
       }
 
-  pub start-kept : (w : List ℕ) → Kept fixed h y agrees (start p l k) w (startOf p l k y) (cond (startFits h p l k) (taken done) (no sizes))
+  pub start-kept : (w : List ℕ) → Kept fixed h y agrees (startWith z) w (startOf (z .pieces) (z .pieceLength) (z .lastLength) y) (cond (startFits h z) (taken done) (no sizes))
   unfolding startOf event sizesWith
-  start-kept w = by-both (Kept fixed h y agrees (start p l k) w) (fitsFor p l k y) (startFits h p l k) (same-test _ _ fits-then then-fits)
-      (λ e. (refl, subst (λ (m : ℕ). Agrees (record { seats = m }) (entry (start p l k) (taken done) w ∷ h) (emptied p l k y)) (agrees .seats-len) (empty-agrees h y p l k w e)))
-      (λ e. (refl, quiet-agrees fixed h y agrees (entry (start p l k) (refused sizes 0) w) (λ j. refl) (λ z. refl)))
+  start-kept w = by-both (Kept fixed h y agrees (startWith z) w) (fitsFor z y) (startFits h z) (same-test _ _ fits-then then-fits)
+      (λ e. (refl, subst (λ (m : ℕ). Agrees (record { seats = m }) (entry (startWith z) (taken done) w ∷ h) (empty z y)) (agrees .seats-len) (empty-agrees h y z w e)))
+      (λ e. (refl, quiet-agrees fixed h y agrees (entry (startWith z) (refused sizes 0) w) (λ j. refl) (λ x. refl)))

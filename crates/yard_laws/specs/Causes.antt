@@ -15,7 +15,7 @@ use Rattle.peer_wire.specs.Frames.{found, readOf, meant}
 use Rattle.peer_wire.specs.Causes.{Few, Cut, TooLong, All, Right}
 use Rattle.yard_tables.specs.Rows.{width, bitAt}
 use Rattle.yard_tables.specs.Step.{Call, start, sit, leave, feed, choke, interest, missing, look, has, count}
-use Rattle.yard_laws.specs.History.{History, Fixed}
+use Rattle.yard_laws.specs.History.{History, Fixed, sizesOf}
 use Rattle.yard_laws.specs.View.{View, byHistory}
 pub use Rattle.yard_laws.specs.View.{StartFits}
 
@@ -60,7 +60,7 @@ pub data SpeaksOf (p b k : ℕ) : Message (List ℕ) → Type 0 where
 
 pub data CauseBy (v : View) : Call → ℕ → Type 0 where
   -- 38
-  unfit : (p l k : ℕ) → (v .MayStart p l k → ⊥) → CauseBy v (start p l k) sizes
+  unfit : (p l k : ℕ) → (v .MayStart (sizesOf p l k) → ⊥) → CauseBy v (start p l k) sizes
   -- 35
   all-taken : ((i : ℕ) → i < v .seats → v .sitsAt i ≡ true) → CauseBy v sit full
   -- 36

@@ -13,6 +13,7 @@ use Rattle.yard_tables.specs.Tables.{Yard}
 use Rattle.yard_tables.specs.Step.{Call, start, sit, leave, feed, choke, interest, missing, scarcest, look, has}
 use Rattle.yard_tables.specs.Step.{count as counts}
 use Rattle.yard_tables.specs.declared.Seat.{Seat}
+use Rattle.yard_laws.specs.History.{sizesOf}
 use Rattle.yard_laws.specs.Causes.{Says}
 use Rattle.yard_laws.specs.View.{SizesFit}
 
@@ -20,11 +21,11 @@ use Rattle.yard_laws.specs.View.{SizesFit}
 
 -- the sizes that the head has are legal, and the tables beside it have them
 abbrev pub Fit : Yard → Type 0
-Fit y = SizesFit (y .head .pieces) (y .head .«piece_length») (y .head .«last_length») y
+Fit y = SizesFit (sizesOf (y .head .pieces) (y .head .«piece_length») (y .head .«last_length»)) y
 
 -- a start's own sizes do not fit, in any other call the head's
 abbrev pub Unfit : Yard → Call → Type 0
-Unfit y (start p l k) = SizesFit p l k y → ⊥
+Unfit y (start p l k) = SizesFit (sizesOf p l k) y → ⊥
 Unfit y sit = Fit y → ⊥
 Unfit y (leave i) = Fit y → ⊥
 Unfit y (feed i s) = Fit y → ⊥

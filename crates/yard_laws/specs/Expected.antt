@@ -1,9 +1,10 @@
--- The one answer to each call where no count is damaged: the checks in document 01's order, over a view of the yard; and by the history. Assumes nothing: these are definitions.
+-- The one answer to each call where no count is damaged, computed: the checks in document 01's order, over a view of the yard; and by the history. A reader need not believe
+-- it: when each answer is given, and what is written, is said in Causes.antt and Given.antt. Assumes nothing: these are definitions.
 use mathlib.Core.Bool.{Bool, not, cond, _&&_}
-use mathlib.Core.List.{List, []}
-use Prim.Native.Nat.{ℕ}
+use mathlib.Core.List.{List, [], _∷_}
+use Prim.Native.Nat.{ℕ, zero, suc, _-_}
 use lib.Dec.{eqb, ltb, leb}
-use lib.ListN.{length}
+use lib.ListN.{length, take}
 use Rattle.refusal.specs.Paper.{Outcome, taken, refused}
 use Rattle.refusal.specs.Numbers.{late, beyond, bitfield, spare, outside, full, seat, room, sizes}
 use Rattle.torrent_blocks.specs.Rules.{pieceLength}
@@ -19,9 +20,28 @@ use Rattle.yard_tables.specs.Step.{Call, start, sit, leave, feed, interest, mis
 use Rattle.yard_tables.specs.Step.{choke as chokes}
 use Rattle.yard_tables.specs.declared.Page.{Page}
 use Rattle.yard_tables.specs.declared.Seat.{Seat}
-use Rattle.yard_laws.specs.History.{History, Fixed, pieces}
+use Rattle.yard_laws.specs.History.{History, Fixed, Sizes, sizesOf, pieces}
 use Rattle.yard_laws.specs.View.{View, byHistory}
-use Rattle.yard_laws.specs.Says.{hasPiece, recordOf, holders, pageLines, pageOf, lowestWithout, leastOf}
+use Rattle.yard_laws.specs.Says.{hasPiece, lacking, recordOf, holders, pageOf}
+
+-- ---- what is found by going through numbers
+
+-- those of the m numbers from k on that have f, ascending
+unfoldable pub those : (ℕ → Bool) → ℕ → ℕ → List ℕ
+those f k zero = []
+those f k (suc m) = let r : List ℕ = those f (suc k) m in cond (f k) (k ∷ r) r
+
+-- the lowest k below n that lacks f, or n
+unfoldable pub lowestWithout : (ℕ → Bool) → ℕ → ℕ
+lowestWithout f zero = 0
+lowestWithout f (suc n) = let k : ℕ = lowestWithout f n in cond (ltb k n) k (cond (f n) (suc n) n)
+
+-- the smallest k below n where f is least
+unfoldable pub leastOf : (ℕ → ℕ) → ℕ → ℕ
+leastOf f zero = 0
+leastOf f (suc n) = let k : ℕ = leastOf f n in cond (ltb (f n) (f k)) n k
+
+-- ---- answers
 
 abbrev pub no : ℕ → Outcome Said
 no number = refused number 0
@@ -86,8 +106,8 @@ module _ (v : View) where
   freeBy = lowestWithout (v .sitsAt) (v .seats)
 
   -- starts: the sizes that a start may have
-  abbrev pub answerBy : (ℕ → ℕ → ℕ → Bool) → Looks → Call → Outcome Said
-  answerBy starts x (start p l k) = cond (starts p l k) (taken done) (no sizes)
+  abbrev pub answerBy : (Sizes → Bool) → Looks → Call → Outcome Said
+  answerBy starts x (start p l k) = cond (starts (sizesOf p l k)) (taken done) (no sizes)
   answerBy starts x sit = cond (leb (v .seats) freeBy) (no full) (taken (seated freeBy))
   answerBy starts x (leave i) = cond (sitsBy i) (taken done) (no seat)
   answerBy starts x (feed i s) = cond (sitsBy i) (frameBy i s (readOf s)) (no seat)
@@ -102,12 +122,19 @@ module _ (v : View) where
 -- ---- by the history
 
 -- a further start: as many pieces as the tables have, legal lengths
-abbrev pub startFits : History → ℕ → ℕ → ℕ → Bool
-startFits h p l k = eqb p (pieces h) && (pieceLength l && (leb 1 k && leb k l))
+abbrev pub startFits : History → Sizes → Bool
+startFits h z = eqb (z .pieces) (pieces h) && (pieceLength (z .pieceLength) && (leb 1 (z .lastLength) && leb (z .lastLength) (z .pieceLength)))
+
+-- the trucks that lack a piece, from a first seat on
+abbrev pub missingFrom : Fixed → History → ℕ → List ℕ
+missingFrom fixed h first = those (lacking h) first (fixed .seats - first)
+
+abbrev pub pageFrom : Fixed → History → ℕ → ℕ → Page
+pageFrom fixed h first space = pageOf fixed h space (missingFrom fixed h first)
 
 abbrev pub looksOf : Fixed → History → Looks
 looksOf fixed h = record {
-  page = pageOf fixed h;
+  page = pageFrom fixed h;
   scarcestPiece = leastOf (holders fixed h) (pieces h);
   recordAt = recordOf h;
   hasIt = hasPiece h;
@@ -125,7 +152,7 @@ writes fixed h (leave i) = []
 writes fixed h (feed i s) = []
 writes fixed h (chokes i b space) = chokeFrame b
 writes fixed h (interest i b space) = interestFrame b
-writes fixed h (missing first space) = pageLines fixed h first space
+writes fixed h (missing first space) = take space (missingFrom fixed h first)
 writes fixed h scarcest = []
 writes fixed h (look i) = []
 writes fixed h (has i p) = []

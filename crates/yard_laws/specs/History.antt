@@ -242,8 +242,11 @@ pub record Sizes : Type 0 where
   pub pieceLength : ℕ
   pub lastLength : ℕ
 
+abbrev pub sizesOf : ℕ → ℕ → ℕ → Sizes
+sizesOf p l k = record { pieces = p; pieceLength = l; lastLength = k }
+
 abbrev pub sizesBy : Call → Said → Sizes → Sizes
-sizesBy (start pieces pieceLength lastLength) a z = record { pieces = pieces; pieceLength = pieceLength; lastLength = lastLength }
+sizesBy (start p l k) a z = sizesOf p l k
 sizesBy sit a z = z
 sizesBy (leave j) a z = z
 sizesBy (feed j s) a z = z
@@ -263,7 +266,7 @@ unfoldable pub sizesWith : Entry → Sizes → Sizes
 sizesWith e z = sizesAfter (e .call) (e .answer) z
 
 abbrev pub sizesSet : History → Sizes
-sizesSet [] = record { pieces = 0; pieceLength = 0; lastLength = 0 }
+sizesSet [] = sizesOf 0 0 0
 sizesSet (e ∷ h) = sizesWith e (sizesSet h)
 
 abbrev pub pieces : History → ℕ

@@ -1,16 +1,21 @@
--- What a history says of a yard, of which some things are fixed: its counts, the missing trucks, the scarcest piece. Assumes nothing: these are definitions.
+-- What a history says of a yard, of which some things are fixed: its counts, and who is on the missing list. Assumes nothing: these are definitions.
 use mathlib.Core.Path.{_≡_}
-use mathlib.Core.Bool.{Bool, true, false, not, cond, _&&_}
-use mathlib.Core.List.{List, [], _∷_}
-use Prim.Native.Nat.{ℕ, zero, suc, _-_, _≤_, _<_}
-use lib.Dec.{eqb, ltb}
+use mathlib.Core.Logic.{_↔_}
+use mathlib.Core.Bool.{Bool, true, false, not, _&&_}
+use mathlib.Core.List.{List, [], _∷_, List·Memᴰ as In}
+use Prim.Native.Nat.{ℕ, zero, suc, _≤_, _<_}
 use lib.ListN.{length, take, drop}
-use Rattle.yard_tables.specs.Counting.{count}
+use Rattle.yard_tables.specs.Counting.{count, some}
 use Rattle.yard_tables.specs.Looks.{firstOr}
 use Rattle.yard_tables.specs.declared.Head.{Head}
 use Rattle.yard_tables.specs.declared.Seat.{Seat}
 use Rattle.yard_tables.specs.declared.Page.{Page}
 use Rattle.yard_laws.specs.History.{History, Fixed, seated, announced, fresh, weAreChoking, weAreInterested, theyAreChoking, theyAreInterested, sizesSet, pieces}
+
+-- every k below n has f
+abbrev pub allOf : ℕ → (ℕ → Bool) → Bool
+allOf zero f = true
+allOf (suc n) f = allOf n f && f n
 
 -- ---- one truck
 
@@ -22,13 +27,13 @@ hasPiece h i p = seated h i && announced h i p
 abbrev pub held : History → ℕ → ℕ
 held h i = count (pieces h) (hasPiece h i)
 
--- it has every piece
+-- it has announced every piece
 abbrev pub loaded : History → ℕ → Bool
-loaded h i = seated h i && eqb (held h i) (pieces h)
+loaded h i = seated h i && allOf (pieces h) (announced h i)
 
--- it lacks a piece
+-- it lacks a piece: there is one that it has not announced
 abbrev pub lacking : History → ℕ → Bool
-lacking h i = seated h i && not (eqb (held h i) (pieces h))
+lacking h i = seated h i && some (pieces h) (λ p. not (announced h i p))
 
 -- all that is to be known of seat i
 abbrev pub recordOf : History → ℕ → Seat
@@ -41,11 +46,6 @@ recordOf h i = record {
   «peer_interested» = theyAreInterested h i;
   held = held h i;
 }
-
--- every k below n has f
-abbrev pub allOf : ℕ → (ℕ → Bool) → Bool
-allOf zero f = true
-allOf (suc n) f = allOf n f && f n
 
 -- ---- counts over the seats
 
@@ -70,48 +70,28 @@ headOf fixed h = record {
 
 -- ---- the missing list
 
--- those of the m numbers from k on that have f, ascending
-unfoldable pub those : (ℕ → Bool) → ℕ → ℕ → List ℕ
-those f k zero = []
-those f k (suc m) = let r : List ℕ = those f (suc k) m in cond (f k) (k ∷ r) r
+-- each number is greater than those before it, the first at least k
+pub data Ascending : ℕ → List ℕ → Type 0 where
+  none : (k : ℕ) → Ascending k []
+  one : (k a : ℕ) (l : List ℕ) → k ≤ a → Ascending (suc a) l → Ascending k (a ∷ l)
 
--- the trucks that lack a piece, from a first seat on
-abbrev pub missingFrom : Fixed → History → ℕ → List ℕ
-missingFrom fixed h first = those (lacking h) first (fixed .seats - first)
+-- l is the list from a first seat on: ascending, with every seat whose truck lacks a piece and no other
+pub record Missing (fixed : Fixed) (h : History) (first : ℕ) (l : List ℕ) : Type 0 where
+  pub ascends : Ascending first l
+  pub members : (j : ℕ) → In j l ↔ ((first ≤ j) × (j < fixed .seats) × (lacking h j ≡ true))
 
--- a page's lines: as many as it has room for
-abbrev pub pageLines : Fixed → History → ℕ → ℕ → List ℕ
-pageLines fixed h first space = take space (missingFrom fixed h first)
-
--- the page: how many lines it has, how many trucks of the whole yard lack a piece, and the next that is not listed, or the number of seats
-abbrev pub pageOf : Fixed → History → ℕ → ℕ → Page
-pageOf fixed h first space = record {
-  written = length (pageLines fixed h first space);
+-- a page of it: how many lines there is room for, how many trucks of the whole yard lack a piece, and the next that is not listed, or the number of seats
+abbrev pub pageOf : Fixed → History → ℕ → List ℕ → Page
+pageOf fixed h space l = record {
+  written = length (take space l);
   total = count (fixed .seats) (lacking h);
-  next = firstOr (fixed .seats) (drop space (missingFrom fixed h first));
+  next = firstOr (fixed .seats) (drop space l);
 }
 
--- ---- the lowest
-
--- the lowest k below n that lacks f, or n
-unfoldable pub lowestWithout : (ℕ → Bool) → ℕ → ℕ
-lowestWithout f zero = 0
-lowestWithout f (suc n) = let k : ℕ = lowestWithout f n in cond (ltb k n) k (cond (f n) (suc n) n)
-
--- the smallest k below n where f is least
-unfoldable pub leastOf : (ℕ → ℕ) → ℕ → ℕ
-leastOf f zero = 0
-leastOf f (suc n) = let k : ℕ = leastOf f n in cond (ltb (f n) (f k)) n k
-
--- ---- the same as statements
+-- ---- the lowest free seat
 
 -- k is the lowest below n that lacks f, or n
 pub record Lowest (f : ℕ → Bool) (n k : ℕ) : Type 0 where
   pub within : k ≤ n
   pub below : (j : ℕ) → j < k → f j ≡ true
   pub lacks : k < n → f k ≡ false
-
--- each number is greater than those before it, the first at least k
-pub data Ascending : ℕ → List ℕ → Type 0 where
-  none : (k : ℕ) → Ascending k []
-  one : (k a : ℕ) (l : List ℕ) → k ≤ a → Ascending (suc a) l → Ascending k (a ∷ l)

@@ -10,7 +10,7 @@ use Rattle.yard_tables.specs.Rows.{width}
 use Rattle.yard_tables.specs.Seats.{cleared}
 use Rattle.yard_tables.specs.Tables.{Yard}
 use Rattle.yard_tables.specs.Frames.{pieceSize}
-use Rattle.yard_laws.specs.History.{History, Fixed, seated, fresh, weAreChoking, theyAreInterested, sizesSet}
+use Rattle.yard_laws.specs.History.{History, Fixed, seated, fresh, weAreChoking, theyAreInterested, Sizes, sizesSet}
 use Rattle.yard_laws.specs.History.{pieces as piecesIn}
 
 pub record View : Type 1 where
@@ -23,8 +23,8 @@ pub record View : Type 1 where
   -- how many pieces there are, and how long each is
   pub pieces : ℕ
   pub longs : ℕ → ℕ
-  -- the sizes that a start may have: pieces, piece length, last piece's length
-  pub MayStart : ℕ → ℕ → ℕ → Type 0
+  -- the sizes that a start may have
+  pub MayStart : Sizes → Type 0
 
 -- ---- as the history says
 
@@ -33,8 +33,8 @@ abbrev pub lengthOf : History → ℕ → ℕ
 lengthOf h p = cond (eqb (p + 1) (piecesIn h)) (sizesSet h .lastLength) (sizesSet h .pieceLength)
 
 -- a further start has as many pieces as the tables, a legal piece length, and a last piece from 1 to it
-abbrev pub StartFits : History → ℕ → ℕ → ℕ → Type 0
-StartFits h p l k = (p ≡ piecesIn h) × PieceLength l × (1 ≤ k) × (k ≤ l)
+abbrev pub StartFits : History → Sizes → Type 0
+StartFits h z = (z .pieces ≡ piecesIn h) × PieceLength (z .pieceLength) × (1 ≤ z .lastLength) × (z .lastLength ≤ z .pieceLength)
 
 abbrev pub byHistory : Fixed → History → View
 byHistory fixed h = record {
@@ -51,16 +51,16 @@ byHistory fixed h = record {
 -- ---- as the tables say
 
 -- sizes are legal, and the tables have them
-pub record SizesFit (p l k : ℕ) (y : Yard) : Type 0 where
-  pub some-pieces : 1 ≤ p
-  pub few-pieces : p ≤ mostPieces
+pub record SizesFit (z : Sizes) (y : Yard) : Type 0 where
+  pub some-pieces : 1 ≤ z .pieces
+  pub few-pieces : z .pieces ≤ mostPieces
   pub some-seats : 1 ≤ length (y .seats)
   pub few-seats : length (y .seats) ≤ mostSeats
-  pub piece-length : PieceLength l
-  pub some-last : 1 ≤ k
-  pub last-within : k ≤ l
-  pub rows-fit : length (y .rows) ≡ length (y .seats) * width p
-  pub holders-fit : length (y .holders) ≡ p
+  pub piece-length : PieceLength (z .pieceLength)
+  pub some-last : 1 ≤ z .lastLength
+  pub last-within : z .lastLength ≤ z .pieceLength
+  pub rows-fit : length (y .rows) ≡ length (y .seats) * width (z .pieces)
+  pub holders-fit : length (y .holders) ≡ z .pieces
 
 abbrev pub byTables : Yard → View
 byTables y = record {
@@ -71,5 +71,5 @@ byTables y = record {
   interested = λ i. getD (y .seats) i cleared .«peer_interested»;
   pieces = y .head .pieces;
   longs = pieceSize (y .head);
-  MayStart = λ p l k. SizesFit p l k y;
+  MayStart = λ z. SizesFit z y;
 }

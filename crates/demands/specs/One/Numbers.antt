@@ -65,7 +65,7 @@ use Rattle.peer_wire.specs.Message.{Message, have, bitfield as bits}
 use Rattle.yard_tables.specs.Rows.{width, bitAt}
 use Rattle.yard_tables.specs.Tables.{Yard}
 use Rattle.yard_tables.specs.Step.{Call, start, sit, feed, missing, look, has, count}
-use Rattle.yard_laws.specs.History.{History, seated, fresh, pieces}
+use Rattle.yard_laws.specs.History.{History, sizesOf, seated, fresh, pieces}
 use Rattle.yard_laws.specs.Causes.{Sits, Nobody, On, Marks, Says, SpeaksOf, Fits, StartFits}
 use Rattle.yard_laws.specs.Run.{fixedBy}
 use Rattle.yard_laws.specs.Damage.{Unfit, Damaged}
@@ -453,7 +453,7 @@ torrent-writer-37 announce name pl pieces len r out e p = Iff·trans (left-answe
 
 -- given by yard, after an accepted start and any calls
 pub start-38 : (lent : Yard) (h : History) (t : Tables) → Made lent h (found t) → (c : Call) (r : ℕ) (z : Yard) → Permits t c r z
-    → r ≡ 38 ↔ ((q : ℕ) × (l : ℕ) × (k : ℕ) × (c ≡ start q l k) × (StartFits h q l k → ⊥))
+    → r ≡ 38 ↔ ((q : ℕ) × (l : ℕ) × (k : ℕ) × (c ≡ start q l k) × (StartFits h (sizesOf q l k) → ⊥))
 start-38 lent h t m c r z e = yard-given lent h t m c r z e 38 (omega arith) (omega arith)
 
 -- given by yard, on any tables
