@@ -52,12 +52,12 @@ pub data Silent : Call → Type 0 where
   asking : (i p : ℕ) → Silent (has i p)
   counting : (p : ℕ) → Silent (count p)
 
+-- what a call writes into what is lent for it, from its start on
 pub data Writes (fixed : Fixed) (h : History) : Call → List ℕ → Type 0 where
-  -- a refused call writes nothing
+  -- a refused call writes nothing, and neither does one for which nothing is lent
   refuses : (c : Call) (number : ℕ) → Cause fixed h c number → Writes fixed h c []
   quiet : (c : Call) → Silent c → Writes fixed h c []
-  -- our own mark writes its frame
+  -- our own mark writes its frame, a page as many lines as fit
   chokes : (i : ℕ) (b : Bool) (space : ℕ) → Sits fixed h i → 5 ≤ space → Writes fixed h (choke i b space) (chokeFrame b)
   wants : (i : ℕ) (b : Bool) (space : ℕ) → Sits fixed h i → 5 ≤ space → Writes fixed h (interest i b space) (interestFrame b)
-  -- a page as many lines as fit
   lines : (first space : ℕ) (l : List ℕ) → first ≤ fixed .seats → Missing fixed h first l → Writes fixed h (missing first space) (take space l)

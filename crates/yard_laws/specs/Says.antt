@@ -80,7 +80,7 @@ pub record Missing (fixed : Fixed) (h : History) (first : ℕ) (l : List ℕ) : 
   pub ascends : Ascending first l
   pub members : (j : ℕ) → In j l ↔ ((first ≤ j) × (j < fixed .seats) × (lacking h j ≡ true))
 
--- a page of it: how many lines there is room for, how many trucks of the whole yard lack a piece, and the next that is not listed, or the number of seats
+-- a page of it: how many lines are written, how many trucks of the whole yard lack a piece, and the next that is not listed, or the number of seats
 abbrev pub pageOf : Fixed → History → ℕ → List ℕ → Page
 pageOf fixed h space l = record {
   written = length (take space l);
