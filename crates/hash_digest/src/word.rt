@@ -1,8 +1,6 @@
 // Words of 32 bits. Each operation is the standard's, some by fewer steps than it writes.
 ghost use mathlib.Core.Path.{_≡_};
-ghost use mathlib.Core.List.{[], _∷_};
 ghost use Prim.Native.Nat.{_/_, _%_};
-ghost use Rattle.refusal.specs.BigEndian.{bigEndian};
 ghost use Rattle.hash_digest.specs.Words.{add32, ch, maj, parity, rotl};
 
 // The sum modulo 2^32.
@@ -52,13 +50,6 @@ pub fn rotl30(x: u32) -> u32
     ensures { λ r. ⌜ r ≡ rotl 30 x ⌝ }
 {
     (x << 30) | (x >> 2)
-}
-
-// The word of four bytes, the most significant first.
-pub fn joined(a: u8, b: u8, c: u8, d: u8) -> u32
-    ensures { λ r. ⌜ r ≡ bigEndian (a ∷ b ∷ c ∷ d ∷ []) ⌝ }
-{
-    (a as u32) * 16777216 + (b as u32) * 65536 + (c as u32) * 256 + d as u32
 }
 
 // A word's bytes: number 3 is the most significant.

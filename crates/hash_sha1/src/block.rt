@@ -13,12 +13,12 @@ use hash_digest::word::byte1;
 use hash_digest::word::byte2;
 use hash_digest::word::byte3;
 use hash_digest::word::choose;
-use hash_digest::word::joined;
 use hash_digest::word::most;
 use hash_digest::word::odd;
 use hash_digest::word::rotl1;
 use hash_digest::word::rotl5;
 use hash_digest::word::rotl30;
+use refusal::big_endian::joined;
 
 // A hash value, and the working variables of the rounds.
 pub struct Hash {

@@ -1,9 +1,8 @@
 -- Demand 1 of `hash_digest`: words of 32 bits and blocks of a message. Assumes nothing.
-use mathlib.Core.List.{List, _++_, [], _∷_}
+use mathlib.Core.List.{List, _++_}
 use mathlib.Core.Path.{_≡_, sym, _∙_}
 use Prim.Native.Nat.{ℕ, _%_, _/_}
 use lib.ListN.{length, take}
-use Rattle.refusal.specs.BigEndian.{bigEndian}
 use Rattle.hash_digest.specs.Message.{filled, padding}
 use Rattle.hash_digest.specs.Words.{add32, ch, parity, maj, rotl}
 use Rattle.demands.specs.One.{Lent, now, Determined}
@@ -70,13 +69,6 @@ rotl30-ensures x r = r ≡ rotl 30 x
 
 pub rotl30-determined : (x : ℕ) → Determined (rotl30-ensures x)
 rotl30-determined x r r′ e f = e ∙ sym f
-
--- hash_digest::word::joined
-abbrev pub joined-ensures : (a b c d : ℕ) → ℕ → Type 0
-joined-ensures a b c d r = r ≡ bigEndian (a ∷ b ∷ c ∷ d ∷ [])
-
-pub joined-determined : (a b c d : ℕ) → Determined (joined-ensures a b c d)
-joined-determined a b c d r r′ e f = e ∙ sym f
 
 -- hash_digest::word::byte3
 abbrev pub byte3-ensures : (x : ℕ) → ℕ → Type 0

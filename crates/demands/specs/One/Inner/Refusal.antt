@@ -1,9 +1,9 @@
--- Demand 1 of `refusal`: a refusal made, the lesser of two, and numbers of two, four and eight bytes at a place. Assumes nothing.
+-- Demand 1 of `refusal`: a refusal made, the lesser of two, four bytes as a number, and numbers of two, four and eight bytes at a place. Assumes nothing.
 use mathlib.Core.Bool.{Bool, false}
-use mathlib.Core.List.{List}
+use mathlib.Core.List.{List, [], _∷_}
 use mathlib.Core.Path.{_≡_, _∙_, sym}
 use Prim.Native.Nat.{ℕ, min}
-use Rattle.refusal.specs.BigEndian.{numberAt, fits, numberWritten}
+use Rattle.refusal.specs.BigEndian.{bigEndian, numberAt, fits, numberWritten}
 use Rattle.refusal.specs.declared.Refusal.{Refusal}
 use Rattle.refusal.specs.declared.big_endian.Number.{Number}
 use Rattle.refusal.proofs.Places as laws
@@ -43,6 +43,13 @@ read8-ensures text at r = r ≡ numberAt 8 (now (text .entry)) at
 
 pub read8-determined : (text : Lent (List ℕ)) (at : ℕ) → Determined (read8-ensures text at)
 read8-determined text at r r′ e f = laws.read-determined 8 at (now (text .entry)) r r′ e f
+
+-- refusal::big_endian::joined
+abbrev pub joined-ensures : (a b c d : ℕ) → ℕ → Type 0
+joined-ensures a b c d r = r ≡ bigEndian (a ∷ b ∷ c ∷ d ∷ [])
+
+pub joined-determined : (a b c d : ℕ) → Determined (joined-ensures a b c d)
+joined-determined a b c d r r′ e f = e ∙ sym f
 
 -- refusal::big_endian::write2
 abbrev pub write2-ensures : (at x : ℕ) → Bool → Lent (List ℕ) → Type 0
