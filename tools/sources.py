@@ -66,10 +66,12 @@ def declared(path):
     """A type's fields, each with its type as it is written and the crate that declares that; none for an enum."""
     crate, *modules, name = path.split("::")
     source = source_of(crate, *modules).read_text()
+    if unnamed := re.search(rf"^pub struct {name}\(((?:pub \w+(?:, )?)+)\);", source, re.M):
+        return [(str(k), kind.removeprefix("pub ")) for k, kind in enumerate(unnamed.group(1).split(", "))]
     struct = re.search(rf"^pub struct {name} \{{\n(.*?)^\}}", source, re.S | re.M)
     if struct is None:
         if not re.search(rf"^pub enum {name} \{{", source, re.M):
-            sys.exit(f"{path} is no struct with named fields and no enum")
+            sys.exit(f"{path} is no struct and no enum")
         return None
     return re.findall(r"^    (?:pub )?(\w+): ([^\n]+),$", struct.group(1), re.M)
 

@@ -5,6 +5,8 @@ use peer_wire::Frame;
 use peer_wire::Greeting;
 use peer_wire::Read;
 use refusal::Part;
+use torrent_blocks::PieceNumber;
+use torrent_blocks::PieceOffset;
 
 // The frame that the bytes begin with: its payload, or its numbers and where its bytes stand.
 pub fn frame(bytes: &[u8], places: bool) {
@@ -56,9 +58,9 @@ fn fields(f: Frame) {
     }
 }
 
-fn have(p: u32) {
+fn have(p: PieceNumber) {
     report::number(4);
-    report::number(p as u64);
+    report::number(p.0 as u64);
 }
 
 // An id and where some bytes stand.
@@ -67,17 +69,17 @@ fn some(id: u8, p: Part) {
     report::next_part(p);
 }
 
-fn three(id: u8, p: u32, b: u32, l: u32) {
+fn three(id: u8, p: PieceNumber, b: PieceOffset, l: u32) {
     report::number(id as u64);
-    report::number(p as u64);
-    report::number(b as u64);
+    report::number(p.0 as u64);
+    report::number(b.0 as u64);
     report::number(l as u64);
 }
 
-fn piece(p: u32, b: u32, block: Part) {
+fn piece(p: PieceNumber, b: PieceOffset, block: Part) {
     report::number(7);
-    report::number(p as u64);
-    report::number(b as u64);
+    report::number(p.0 as u64);
+    report::number(b.0 as u64);
     report::next_part(block);
 }
 

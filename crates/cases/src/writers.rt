@@ -10,6 +10,8 @@ use refusal::Part;
 use refusal::Refusal;
 use refusal::big_endian;
 use refusal::big_endian::Number;
+use torrent_blocks::PieceNumber;
+use torrent_blocks::PieceOffset;
 
 // What the lent output holds before each call.
 const MARK: u8 = 255;
@@ -129,15 +131,15 @@ fn shaped(id: u8, len: usize) -> bool {
 }
 
 fn by_kind(out: &mut [u8], id: u8, payload: &[u8]) -> Put {
-    let a = four(payload, 0);
-    let b = four(payload, 4);
-    let c = four(payload, 8);
+    let piece = PieceNumber(four(payload, 0));
+    let begin = PieceOffset(four(payload, 4));
+    let len = four(payload, 8);
     match id {
-        4 => write::have(out, a),
+        4 => write::have(out, piece),
         5 => write::bitfield(out, payload),
-        6 => write::request(out, a, b, c),
-        7 => write::piece(out, a, b, past_numbers(payload)),
-        8 => write::cancel(out, a, b, c),
+        6 => write::request(out, piece, begin, len),
+        7 => write::piece(out, piece, begin, past_numbers(payload)),
+        8 => write::cancel(out, piece, begin, len),
         _ => write::plain(out, id),
     }
 }

@@ -22,11 +22,11 @@ foundAs choke u = Whole Choke u
 foundAs unchoke u = Whole Unchoke u
 foundAs interested u = Whole Interested u
 foundAs notInterested u = Whole NotInterested u
-foundAs (have p) u = Whole (Have p) u
+foundAs (have p) u = Whole (Have (record { 0 = p })) u
 foundAs (bitfield bits) u = Whole (Bitfield bits) u
-foundAs (request p b l) u = Whole (Request p b l) u
-foundAs (piece p b block) u = Whole (Piece p b block) u
-foundAs (cancel p b l) u = Whole (Cancel p b l) u
+foundAs (request p b l) u = Whole (Request (record { 0 = p }) (record { 0 = b }) l) u
+foundAs (piece p b block) u = Whole (Piece (record { 0 = p }) (record { 0 = b }) block) u
+foundAs (cancel p b l) u = Whole (Cancel (record { 0 = p }) (record { 0 = b }) l) u
 foundAs (other id rest) u = Whole (Other id rest) u
 
 abbrev readAs : Outcome Found → Read

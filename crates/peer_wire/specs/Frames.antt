@@ -100,11 +100,11 @@ message Choke = choke
 message Unchoke = unchoke
 message Interested = interested
 message NotInterested = notInterested
-message (Have p) = have p
+message (Have p) = have (p .0)
 message (Bitfield bits) = bitfield bits
-message (Request p b l) = request p b l
-message (Piece p b block) = piece p b block
-message (Cancel p b l) = cancel p b l
+message (Request p b l) = request (p .0) (b .0) l
+message (Piece p b block) = piece (p .0) (b .0) block
+message (Cancel p b l) = cancel (p .0) (b .0) l
 message (Other id rest) = other id rest
 
 -- and its answer

@@ -14,6 +14,8 @@ use refusal::big_endian;
 use refusal::big_endian::Number;
 use refusal::limit;
 use refusal::number;
+use torrent_blocks::PieceNumber;
+use torrent_blocks::PieceOffset;
 
 pub mod write;
 
@@ -23,14 +25,13 @@ pub enum Frame {
     Unchoke,
     Interested,
     NotInterested,
-    // The piece.
-    Have(u32),
+    Have(PieceNumber),
     Bitfield(Part),
-    // Piece, begin, length.
-    Request(u32, u32, u32),
-    // Piece, begin, and where the block lies.
-    Piece(u32, u32, Part),
-    Cancel(u32, u32, u32),
+    // The last number is the block's length.
+    Request(PieceNumber, PieceOffset, u32),
+    // And where the block lies.
+    Piece(PieceNumber, PieceOffset, Part),
+    Cancel(PieceNumber, PieceOffset, u32),
     // A frame of another id, to be passed by: the id, and where its payload lies.
     Other(u8, Part),
 }
@@ -108,21 +109,29 @@ fn whole(bytes: &[u8], id: u8, n: usize) -> Frame
         1 => Frame::Unchoke,
         2 => Frame::Interested,
         3 => Frame::NotInterested,
-        4 => Frame::Have(word(bytes, 5)),
+        4 => Frame::Have(PieceNumber(word(bytes, 5))),
         5 => Frame::Bitfield(Part {
             from: 5,
             len: n - 1,
         }),
-        6 => Frame::Request(word(bytes, 5), word(bytes, 9), word(bytes, 13)),
+        6 => Frame::Request(
+            PieceNumber(word(bytes, 5)),
+            PieceOffset(word(bytes, 9)),
+            word(bytes, 13),
+        ),
         7 => Frame::Piece(
-            word(bytes, 5),
-            word(bytes, 9),
+            PieceNumber(word(bytes, 5)),
+            PieceOffset(word(bytes, 9)),
             Part {
                 from: 13,
                 len: n - 9,
             },
         ),
-        8 => Frame::Cancel(word(bytes, 5), word(bytes, 9), word(bytes, 13)),
+        8 => Frame::Cancel(
+            PieceNumber(word(bytes, 5)),
+            PieceOffset(word(bytes, 9)),
+            word(bytes, 13),
+        ),
         _ => Frame::Other(
             id,
             Part {

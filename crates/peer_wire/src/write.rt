@@ -12,6 +12,8 @@ use bencode_writer::Put;
 use refusal::big_endian;
 use refusal::limit;
 use refusal::number;
+use torrent_blocks::PieceNumber;
+use torrent_blocks::PieceOffset;
 
 // A keepalive: four zeros. Every writer here answers how many bytes it put, or its refusal.
 pub fn keepalive(out: &mut [u8]) -> Put
@@ -35,10 +37,10 @@ pub fn plain(out: &mut [u8], id: u8) -> Put
 }
 
 // A have of a piece.
-pub fn have(out: &mut [u8], index: u32) -> Put
-    ensures { λ r. ⌜ left (paper r) (now (out .exit)) ≡ writeOf (body (have index)) (now (out .entry)) ⌝ }
+pub fn have(out: &mut [u8], index: PieceNumber) -> Put
+    ensures { λ r. ⌜ left (paper r) (now (out .exit)) ≡ writeOf (body (have (index .0))) (now (out .entry)) ⌝ }
 {
-    framed(out, 4, &one(index), b"")
+    framed(out, 4, &one(index.0), b"")
 }
 
 // A bitfield, high bit first; no bytes, or over 2,048, are 21.
@@ -49,24 +51,24 @@ pub fn bitfield(out: &mut [u8], bits: &[u8]) -> Put
 }
 
 // A request for a block.
-pub fn request(out: &mut [u8], index: u32, begin: u32, len: u32) -> Put
-    ensures { λ r. ⌜ left (paper r) (now (out .exit)) ≡ writeOf (body (request index begin len)) (now (out .entry)) ⌝ }
+pub fn request(out: &mut [u8], index: PieceNumber, begin: PieceOffset, len: u32) -> Put
+    ensures { λ r. ⌜ left (paper r) (now (out .exit)) ≡ writeOf (body (request (index .0) (begin .0) len)) (now (out .entry)) ⌝ }
 {
-    framed(out, 6, &three(index, begin, len), b"")
+    framed(out, 6, &three(index.0, begin.0, len), b"")
 }
 
 // A piece frame, its block copied in.
-pub fn piece(out: &mut [u8], index: u32, begin: u32, block: &[u8]) -> Put
-    ensures { λ r. ⌜ left (paper r) (now (out .exit)) ≡ writeOf (body (piece index begin (now (block .entry)))) (now (out .entry)) ⌝ }
+pub fn piece(out: &mut [u8], index: PieceNumber, begin: PieceOffset, block: &[u8]) -> Put
+    ensures { λ r. ⌜ left (paper r) (now (out .exit)) ≡ writeOf (body (piece (index .0) (begin .0) (now (block .entry)))) (now (out .entry)) ⌝ }
 {
-    framed(out, 7, &two(index, begin), block)
+    framed(out, 7, &two(index.0, begin.0), block)
 }
 
 // A cancel of a request.
-pub fn cancel(out: &mut [u8], index: u32, begin: u32, len: u32) -> Put
-    ensures { λ r. ⌜ left (paper r) (now (out .exit)) ≡ writeOf (body (cancel index begin len)) (now (out .entry)) ⌝ }
+pub fn cancel(out: &mut [u8], index: PieceNumber, begin: PieceOffset, len: u32) -> Put
+    ensures { λ r. ⌜ left (paper r) (now (out .exit)) ≡ writeOf (body (cancel (index .0) (begin .0) len)) (now (out .entry)) ⌝ }
 {
-    framed(out, 8, &three(index, begin, len), b"")
+    framed(out, 8, &three(index.0, begin.0, len), b"")
 }
 
 // The handshake, its free bytes 0.

@@ -149,6 +149,13 @@ pub fn piece_number(piece_length: u64, place: ContentOffset) -> PieceNumber
     PieceNumber(capped(place.0 / piece_length))
 }
 
+// The piece of a number that a host gives. One past every number of 32 bits is the largest, which is no piece.
+pub fn piece_numbered(n: usize) -> PieceNumber
+    ensures { λ r. ⌜ r .0 ≡ min n widest ⌝ }
+{
+    PieceNumber(capped(n as u64))
+}
+
 // The offset of a place in its piece.
 pub fn piece_offset(piece_length: u64, place: ContentOffset) -> PieceOffset
     ensures { λ r. ⌜ r .0 ≡ pieceOffset «piece_length» (place .0) ⌝ }

@@ -10,6 +10,8 @@ use peer_wire::Frame;
 use peer_wire::Greeting;
 use peer_wire::Read;
 use refusal::Part;
+use torrent_blocks::PieceNumber;
+use torrent_blocks::PieceOffset;
 
 // The frame at the start of the bytes. `detail` becomes 1 for a keepalive or 2 for another frame; how many bytes it used;
 // its id; its piece, begin and length; first byte and length of its bitfield, block or unknown payload. What a frame does
@@ -61,12 +63,12 @@ fn message_words(f: Frame, used: u64) -> [u64; 8]
         Frame::Unchoke => plain(used, 1),
         Frame::Interested => plain(used, 2),
         Frame::NotInterested => plain(used, 3),
-        Frame::Have(piece) => eight(2, used, 4, piece as u64, 0, 0, 0, 0),
-        Frame::Bitfield(bits) => carrying(used, 5, 0, 0, bits),
+        Frame::Have(piece) => asking(used, 4, piece, PieceOffset(0), 0),
+        Frame::Bitfield(bits) => carrying(used, 5, bits),
         Frame::Request(piece, begin, length) => asking(used, 6, piece, begin, length),
-        Frame::Piece(piece, begin, block) => carrying(used, 7, piece, begin, block),
+        Frame::Piece(piece, begin, block) => sending(used, piece, begin, block),
         Frame::Cancel(piece, begin, length) => asking(used, 8, piece, begin, length),
-        Frame::Other(id, payload) => carrying(used, id, 0, 0, payload),
+        Frame::Other(id, payload) => carrying(used, id, payload),
     }
 }
 
@@ -76,25 +78,43 @@ fn plain(used: u64, id: u64) -> [u64; 8]
     eight(2, used, id, 0, 0, 0, 0, 0)
 }
 
-fn asking(used: u64, id: u64, piece: u32, begin: u32, length: u32) -> [u64; 8]
-    ensures { λ r. ⌜ r ≡ row 2 used id piece begin length 0 0 ⌝ }
-{
-    eight(2, used, id, piece as u64, begin as u64, length as u64, 0, 0)
-}
-
-fn carrying(used: u64, id: u8, piece: u32, begin: u32, x: Part) -> [u64; 8]
-    ensures { λ r. ⌜ r ≡ row 2 used id piece begin 0 (x .from) (x .len) ⌝ }
+// A frame that names a piece or a block.
+fn asking(used: u64, id: u64, piece: PieceNumber, begin: PieceOffset, length: u32) -> [u64; 8]
+    ensures { λ r. ⌜ r ≡ row 2 used id (piece .0) (begin .0) length 0 0 ⌝ }
 {
     eight(
         2,
         used,
-        id as u64,
-        piece as u64,
-        begin as u64,
+        id,
+        piece.0 as u64,
+        begin.0 as u64,
+        length as u64,
         0,
-        x.from as u64,
-        x.len as u64,
+        0,
     )
+}
+
+// A block that is sent.
+fn sending(used: u64, piece: PieceNumber, begin: PieceOffset, block: Part) -> [u64; 8]
+    ensures { λ r. ⌜ r ≡ row 2 used 7 (piece .0) (begin .0) 0 (block .from) (block .len) ⌝ }
+{
+    eight(
+        2,
+        used,
+        7,
+        piece.0 as u64,
+        begin.0 as u64,
+        0,
+        block.from as u64,
+        block.len as u64,
+    )
+}
+
+// A frame that carries other bytes.
+fn carrying(used: u64, id: u8, x: Part) -> [u64; 8]
+    ensures { λ r. ⌜ r ≡ row 2 used id 0 0 0 (x .from) (x .len) ⌝ }
+{
+    eight(2, used, id as u64, 0, 0, 0, x.from as u64, x.len as u64)
 }
 
 // Eight numbers.

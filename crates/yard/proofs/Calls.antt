@@ -2,7 +2,7 @@
 use mathlib.Core.Path.{_≡_, refl, sym, ap, _∙_}
 use mathlib.Core.Bool.{Bool, true, false, cond}
 use mathlib.Core.List.{List, []}
-use Prim.Native.Nat.{ℕ, _≤_}
+use Prim.Native.Nat.{ℕ, _≤_, min}
 use native.Mathlib.Omega.{arith}
 use borrow.Author.Tests.{leb-true}
 use lib.Dec.{eqb, leb}
@@ -19,6 +19,9 @@ use Rattle.refusal.specs.Numbers.{seat, sizes}
 use Rattle.refusal.specs.Limits.{mostSeats}
 use Rattle.yard_tables.proofs.Sizing.{fitting}
 use Rattle.yard.proofs.Heard.{head-same}
+use Rattle.yard.proofs.Numbered.{has-numbered, count-numbered}
+use Rattle.torrent_blocks.specs.declared.PieceNumber.{PieceNumber}
+use Rattle.torrent_blocks.specs.Numberings.{widest}
 use Rattle.yard_tables.specs.declared.Page.{Page}
 use Rattle.yard_scans.specs.declared.Asked.{Asked}
 use Rattle.yard_scans.specs.Pages.{asLines}
@@ -140,15 +143,17 @@ module _ (h : Head) (seats : List Seat) (rows holders : List ℕ) where
   unfolding step
   look-is i was s a t n e f g k = (showed (step (look i) Y .answer) a (f ∙ ap (λ (x : Seat). seatOf i (length seats) (around h x rows holders) .answer) e) was t n g k, refl)
 
-  pub has-is : (i p : ℕ) (was : Told) (a : Answer) (t : Told) (n : ℕ) → ((s : Seat) → paper a ≡ hasOf i p (length seats) (around h s rows holders) .answer)
+  pub has-is : (i p : ℕ) (was : Told) (q : PieceNumber) (a : Answer) (t : Told) (n : ℕ)
+      → q .0 ≡ min p widest → ((s : Seat) → paper a ≡ hasOf i (q .0) (length seats) (around h s rows holders) .answer)
       → t ≡ toldOf (paper a) was → n ≡ codeOf (paper a) → Looks (step (has i p) Y .answer) was n t × (h ≡ h)
   unfolding step
-  has-is i p was a t n e g k = (looked (step (has i p) Y .answer) a (e (getD seats i cleared)) was t n g k, refl)
+  has-is i p was q a t n c e g k = (looked (step (has i p) Y .answer) a (e (getD seats i cleared) ∙ has-numbered (length seats) (around h (getD seats i cleared) rows holders) i p c) was t n g k, refl)
 
-  pub count-is : (p : ℕ) (was : Told) (a : Answer) (t : Told) (n : ℕ) → ((s : Seat) → paper a ≡ countOf p (length seats) (around h s rows holders) .answer)
+  pub count-is : (p : ℕ) (was : Told) (q : PieceNumber) (a : Answer) (t : Told) (n : ℕ)
+      → q .0 ≡ min p widest → ((s : Seat) → paper a ≡ countOf (q .0) (length seats) (around h s rows holders) .answer)
       → t ≡ toldOf (paper a) was → n ≡ codeOf (paper a) → Looks (step (count p) Y .answer) was n t × (h ≡ h)
   unfolding step
-  count-is p was a t n e g k = (looked (step (count p) Y .answer) a (e (getD seats 0 cleared)) was t n g k, refl)
+  count-is p was q a t n c e g k = (looked (step (count p) Y .answer) a (e (getD seats 0 cleared) ∙ count-numbered (length seats) (around h (getD seats 0 cleared) rows holders) p c) was t n g k, refl)
 
 -- ---- the missing list: t where the sizes fit, u where the first seat is one of them or just past them
 module _ (x : Around) (space : ℕ) where

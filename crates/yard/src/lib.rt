@@ -7,6 +7,7 @@ ghost use lib.Seq.{sets};
 ghost use Rattle.yard_tables.specs.Tables.{yardOf};
 ghost use Rattle.yard_tables.specs.Step.{Call, step, written};
 ghost use Rattle.yard_telling.specs.Telling.{Steps, Tells, Looks, Shows};
+use torrent_blocks::piece_numbered;
 use yard_hearing::feed_step;
 use yard_hearing::heard_head;
 use yard_scans::clear_seats;
@@ -252,7 +253,8 @@ pub extern "C" fn wardrail_yard_has(
         × (now (head .exit) ≡ now (head .entry)) ⌝ }
 {
     let n = seats.len();
-    let a = looks::has(*head, seat, piece, n, rows, holders);
+    let p = piece_numbered(piece);
+    let a = looks::has(*head, seat, p, n, rows, holders);
     let t = tell(a, *told);
     *told = t;
     code(a)
@@ -273,7 +275,8 @@ pub extern "C" fn wardrail_yard_count(
         × (now (head .exit) ≡ now (head .entry)) ⌝ }
 {
     let n = seats.len();
-    let a = looks::count(*head, piece, n, rows, holders);
+    let p = piece_numbered(piece);
+    let a = looks::count(*head, p, n, rows, holders);
     let t = tell(a, *told);
     *told = t;
     code(a)

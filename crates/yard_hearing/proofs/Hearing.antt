@@ -18,6 +18,8 @@ use Rattle.refusal.proofs.Cases.{pick-yes, pick-no}
 use Rattle.peer_wire.specs.Message.{Message, have}
 use Rattle.peer_wire.specs.Frames.{least, most, allowed, sizedOf, Found, found, messageOf as messageBy, numberIn, readOf, message, meant, paper as read}
 use Rattle.peer_wire.specs.Causes.{named, Cause}
+use Rattle.torrent_blocks.specs.declared.PieceNumber.{PieceNumber}
+use Rattle.torrent_blocks.specs.declared.PieceOffset.{PieceOffset}
 use Rattle.peer_wire.specs.declared.Frame.{Frame}
 use Rattle.peer_wire.specs.declared.Frame.the-variants.{Choke, Unchoke, Interested, NotInterested, Have, Bitfield, Request, Piece, Cancel, Other}
 use Rattle.peer_wire.specs.declared.Read.{Read}
@@ -96,9 +98,9 @@ module _ (h : Head) (s : Seat) (rows holders : List ℕ) (n i u : ℕ) (text : L
   said : (g : Frame) (o : Turn) → f ≡ g → o ≡ messageOf n i u (meant text (message g)) (around h s rows holders) → o ≡ messageOf n i u (meant text (message f)) (around h s rows holders)
   said g o ef e = e ∙ ap (λ (x : Frame). messageOf n i u (meant text (message x)) (around h s rows holders)) (sym ef)
 
-  pub said-have : (o : Turn) (p q : ℕ) → f ≡ Have p → q ≡ p → o ≡ haveOf n i u q (around h s rows holders) → o ≡ messageOf n i u (meant text (message f)) (around h s rows holders)
+  pub said-have : (o : Turn) (p : PieceNumber) → f ≡ Have p → o ≡ haveOf n i u (p .0) (around h s rows holders) → o ≡ messageOf n i u (meant text (message f)) (around h s rows holders)
   unfolding messageOf
-  said-have o p q ef e eo = said (Have p) o ef (eo ∙ ap (λ (x : ℕ). haveOf n i u x (around h s rows holders)) e)
+  said-have o p ef eo = said (Have p) o ef eo
 
   pub part-in : (part : Part) → f ≡ Bitfield part → Inside text (message f) → part .from + part .len ≤ length text
   part-in part ef h = subst (λ (g : Frame). Inside text (message g)) ef h
@@ -110,23 +112,23 @@ module _ (h : Head) (s : Seat) (rows holders : List ℕ) (n i u : ℕ) (text : L
       let e : part .from + part .len - part .from ≡ part .len = omega arith in
       said (Bitfield part) o ef (eo ∙ ap (λ (k : ℕ). bitfieldOf n i u (take k (drop (part .from) text)) (around h s rows holders)) e)
 
-  pub said-request : (o : Turn) (p b l k : ℕ) → f ≡ Request p b l → k ≡ l → o ≡ blockOf p b k (requested u s) (around h s rows holders)
+  pub said-request : (o : Turn) (p : PieceNumber) (b : PieceOffset) (l k : ℕ) → f ≡ Request p b l → k ≡ l → o ≡ blockOf (p .0) (b .0) k (requested u s) (around h s rows holders)
       → o ≡ messageOf n i u (meant text (message f)) (around h s rows holders)
   unfolding messageOf
-  said-request o p b l k ef e eo = said (Request p b l) o ef (eo ∙ ap (λ (x : ℕ). blockOf p b x (requested u s) (around h s rows holders)) e)
+  said-request o p b l k ef e eo = said (Request p b l) o ef (eo ∙ ap (λ (x : ℕ). blockOf (p .0) (b .0) x (requested u s) (around h s rows holders)) e)
 
-  pub said-piece : (o : Turn) (p b : ℕ) (part : Part) → f ≡ Piece p b part → Inside text (message f) → o ≡ blockOf p b (part .len) (used u) (around h s rows holders)
+  pub said-piece : (o : Turn) (p : PieceNumber) (b : PieceOffset) (part : Part) → f ≡ Piece p b part → Inside text (message f) → o ≡ blockOf (p .0) (b .0) (part .len) (used u) (around h s rows holders)
       → o ≡ messageOf n i u (meant text (message f)) (around h s rows holders)
   unfolding messageOf
   said-piece o p b part ef fit eo =
       let l : part .from + part .len ≤ length text = subst (λ (g : Frame). Inside text (message g)) ef fit in
       let e : length (bytesAt text part) ≡ part .len = length-take-le (part .len) (drop (part .from) text) (omega (arith, length-drop (part .from) text)) in
-      said (Piece p b part) o ef (eo ∙ ap (λ (x : ℕ). blockOf p b x (used u) (around h s rows holders)) (sym e))
+      said (Piece p b part) o ef (eo ∙ ap (λ (x : ℕ). blockOf (p .0) (b .0) x (used u) (around h s rows holders)) (sym e))
 
-  pub said-cancel : (o : Turn) (p b l k : ℕ) → f ≡ Cancel p b l → k ≡ l → o ≡ blockOf p b k (used u) (around h s rows holders)
+  pub said-cancel : (o : Turn) (p : PieceNumber) (b : PieceOffset) (l k : ℕ) → f ≡ Cancel p b l → k ≡ l → o ≡ blockOf (p .0) (b .0) k (used u) (around h s rows holders)
       → o ≡ messageOf n i u (meant text (message f)) (around h s rows holders)
   unfolding messageOf
-  said-cancel o p b l k ef e eo = said (Cancel p b l) o ef (eo ∙ ap (λ (x : ℕ). blockOf p b x (used u) (around h s rows holders)) e)
+  said-cancel o p b l k ef e eo = said (Cancel p b l) o ef (eo ∙ ap (λ (x : ℕ). blockOf (p .0) (b .0) x (used u) (around h s rows holders)) e)
 
 -- ---- the checks before
 
@@ -191,7 +193,7 @@ module _ (h : Head) (s : Seat) (rows holders : List ℕ) (n i : ℕ) (text : Lis
       whole-sized = have-sized l
 
     -- a have that is all there, before any reader
-    pub feed-have : (o : Turn) (p w : ℕ) → i < n → s .taken ≡ true → p ≡ numberIn text 5 → readOf text ≡ taken (found (have (numberIn text 5)) 9) → w ≡ p
-        → o ≡ haveOf n i 9 w (around h s rows holders) → o ≡ feedOf i text n (around h s rows holders)
-    feed-have o p w l g ep er ew eo =
-        feed-whole l g (Whole (Have p) 9) (ap {B = Outcome Found} (λ (x : ℕ). taken (found (have x) 9)) ep ∙ sym er) o (Have p) 9 refl (said-have h s rows holders n i 9 text (Have p) o p w refl ew eo)
+    pub feed-have : (o : Turn) (p : PieceNumber) → i < n → s .taken ≡ true → p .0 ≡ numberIn text 5 → readOf text ≡ taken (found (have (numberIn text 5)) 9)
+        → o ≡ haveOf n i 9 (p .0) (around h s rows holders) → o ≡ feedOf i text n (around h s rows holders)
+    feed-have o p l g ep er eo =
+        feed-whole l g (Whole (Have p) 9) (ap {B = Outcome Found} (λ (x : ℕ). taken (found (have x) 9)) ep ∙ sym er) o (Have p) 9 refl (said-have h s rows holders n i 9 text (Have p) o p refl eo)

@@ -9,6 +9,7 @@ ghost use Rattle.yard_hearing.specs.Steps.{InTables, Inside};
 use peer_wire::Frame;
 use peer_wire::Read;
 use refusal::number;
+use torrent_blocks::PieceNumber;
 use yard_tables::Answer;
 use yard_tables::Head;
 use yard_tables::Seat;
@@ -47,7 +48,8 @@ pub fn feed_step(
     }
     // Most frames are haves. One that is all there goes past the reader of all frames, whose answer is large.
     if have::is_whole(bytes) {
-        return news::have_step(h, s, rows, holders, i, n, 9, wide(have::number(bytes, 5)));
+        let piece = PieceNumber(have::number(bytes, 5));
+        return news::have_step(h, s, rows, holders, i, n, 9, piece);
     }
     match peer_wire::read_frame(bytes) {
         Read::Wait => reply::waiting(h, s),
@@ -82,7 +84,7 @@ fn frame_step(
         Frame::Unchoke => reply::passed(h, reply::they_choke(s, false), used),
         Frame::Interested => reply::passed(h, reply::they_want(s, true), used),
         Frame::NotInterested => reply::passed(h, reply::they_want(s, false), used),
-        Frame::Have(p) => news::have_step(h, s, rows, holders, i, n, used, wide(p)),
+        Frame::Have(p) => news::have_step(h, s, rows, holders, i, n, used, p),
         Frame::Bitfield(part) => {
             let from = part.from;
             let end = from + part.len;

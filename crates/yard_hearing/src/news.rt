@@ -11,6 +11,7 @@ ghost use Rattle.yard_hearing.specs.Steps.{InTables, full, tooMany, gain
 use crate::row;
 use crate::row::News;
 use refusal::number;
+use torrent_blocks::PieceNumber;
 use yard_tables::Head;
 use yard_tables::Seat;
 use yard_tables::Stepped;
@@ -19,7 +20,7 @@ use yard_tables::held;
 use yard_tables::reply;
 use yard_tables::sizes::wide;
 
-// Have: piece p.
+// Have: one piece.
 pub fn have_step(
     h: Head,
     s: Seat,
@@ -28,11 +29,12 @@ pub fn have_step(
     i: usize,
     n: usize,
     used: usize,
-    p: usize,
+    piece: PieceNumber,
 ) -> Stepped
     requires { ⌜ InTables h n i (now rows) (now holders) ⌝ }
-    ensures { λ r. ⌜ turn r (now (rows .exit)) (now (holders .exit)) ≡ haveOf n i used p (around h s (now (rows .entry)) (now (holders .entry))) ⌝ }
+    ensures { λ r. ⌜ turn r (now (rows .exit)) (now (holders .exit)) ≡ haveOf n i used (piece .0) (around h s (now (rows .entry)) (now (holders .entry))) ⌝ }
 {
+    let p = wide(piece.0);
     let pieces = wide(h.pieces);
     if pieces <= p {
         return reply::refused(h, s, number::BEYOND);

@@ -10,6 +10,7 @@ ghost use Rattle.yard_tables.specs.declared.Seat.{Seat};
 ghost use Rattle.yard_tables.specs.declared.Answer.the-variants.{Refused};
 use crate::row;
 use refusal::number;
+use torrent_blocks::PieceNumber;
 use yard_tables::Answer;
 use yard_tables::Head;
 use yard_tables::Seat;
@@ -39,9 +40,9 @@ pub fn seat(h: Head, s: Seat, i: usize, n: usize, rows: &[u8], holders: &[u16]) 
     Answer::Record(s)
 }
 
-// Whether the truck of seat i has piece p.
-pub fn has(h: Head, i: usize, p: usize, n: usize, rows: &[u8], holders: &[u16]) -> Answer
-    ensures { λ r. ⌜ ((s : Seat) → paper r ≡ hasOf i p n (around h s (now (rows .entry)) (now (holders .entry))) .answer) ⌝ }
+// Whether the truck of seat i has a piece.
+pub fn has(h: Head, i: usize, piece: PieceNumber, n: usize, rows: &[u8], holders: &[u16]) -> Answer
+    ensures { λ r. ⌜ ((s : Seat) → paper r ≡ hasOf i (piece .0) n (around h s (now (rows .entry)) (now (holders .entry))) .answer) ⌝ }
 {
     if !sizes::sizes_fit(h, n, rows.len(), holders.len()) {
         return refuse(number::SIZES);
@@ -49,6 +50,7 @@ pub fn has(h: Head, i: usize, p: usize, n: usize, rows: &[u8], holders: &[u16]) 
     if n <= i {
         return refuse(number::SEAT);
     }
+    let p = sizes::wide(piece.0);
     if holders.len() <= p {
         return refuse(number::BEYOND);
     }
@@ -56,13 +58,14 @@ pub fn has(h: Head, i: usize, p: usize, n: usize, rows: &[u8], holders: &[u16]) 
     Answer::Holds(bits::bit_of(byte, p))
 }
 
-// How many trucks hold piece p.
-pub fn count(h: Head, p: usize, n: usize, rows: &[u8], holders: &[u16]) -> Answer
-    ensures { λ r. ⌜ ((s : Seat) → paper r ≡ countOf p n (around h s (now (rows .entry)) (now (holders .entry))) .answer) ⌝ }
+// How many trucks hold a piece.
+pub fn count(h: Head, piece: PieceNumber, n: usize, rows: &[u8], holders: &[u16]) -> Answer
+    ensures { λ r. ⌜ ((s : Seat) → paper r ≡ countOf (piece .0) n (around h s (now (rows .entry)) (now (holders .entry))) .answer) ⌝ }
 {
     if !sizes::sizes_fit(h, n, rows.len(), holders.len()) {
         return refuse(number::SIZES);
     }
+    let p = sizes::wide(piece.0);
     if holders.len() <= p {
         return refuse(number::BEYOND);
     }

@@ -12,13 +12,15 @@ use crate::reply;
 use crate::sizes::wide;
 use refusal::limit;
 use refusal::number;
+use torrent_blocks::PieceNumber;
+use torrent_blocks::PieceOffset;
 
 // A block of piece p that fits or not; a is the answer where it does. The head's lengths are looked at by who calls, so that
 // LLVM keeps the numbers of the head that is handed on apart.
-pub fn block_step(h: Head, s: Seat, p: u32, fits: bool, a: Answer) -> Stepped
-    ensures { λ r. ⌜ r ≡ blockStep h s p fits a ⌝ }
+pub fn block_step(h: Head, s: Seat, p: PieceNumber, fits: bool, a: Answer) -> Stepped
+    ensures { λ r. ⌜ r ≡ blockStep h s (p .0) fits a ⌝ }
 {
-    if h.pieces <= p {
+    if h.pieces <= p.0 {
         return reply::refused(h, s, number::BEYOND);
     }
     if !fits {
@@ -45,8 +47,8 @@ pub fn asked(s: Seat, used: usize) -> Answer
 }
 
 // A block has 1 to 16,384 bytes and ends within its piece.
-pub fn lies_within(h: Head, p: u32, begin: u32, len: usize) -> bool
-    ensures { λ r. ⌜ r ≡ blockFits h p begin len ⌝ }
+pub fn lies_within(h: Head, p: PieceNumber, begin: PieceOffset, len: usize) -> bool
+    ensures { λ r. ⌜ r ≡ blockFits h (p .0) (begin .0) len ⌝ }
 {
     if len < 1 {
         return false;
@@ -54,14 +56,14 @@ pub fn lies_within(h: Head, p: u32, begin: u32, len: usize) -> bool
     if limit::BLOCK < len {
         return false;
     }
-    wide(begin) + len <= size_of(h, p)
+    wide(begin.0) + len <= size_of(h, p)
 }
 
 // The last piece may be short.
-fn size_of(h: Head, p: u32) -> usize
-    ensures { λ r. ⌜ r ≡ pieceSize h p ⌝ }
+fn size_of(h: Head, p: PieceNumber) -> usize
+    ensures { λ r. ⌜ r ≡ pieceSize h (p .0) ⌝ }
 {
-    if wide(p) + 1 == wide(h.pieces) {
+    if wide(p.0) + 1 == wide(h.pieces) {
         return wide(h.last_length);
     }
     wide(h.piece_length)

@@ -16,6 +16,7 @@ use Rattle.bencode_writer.specs.declared.Put.{Put}
 use Rattle.hash_sha1.specs.Digest.{paper as hashPaper}
 use Rattle.hash_sha1.specs.declared.Hashed.{Hashed}
 use Rattle.torrent_blocks.specs.declared.PieceNumber.{PieceNumber}
+use Rattle.torrent_blocks.specs.declared.PieceOffset.{PieceOffset}
 use Rattle.torrent_metainfo.specs.Reading.{paper as torrentPaper}
 use Rattle.torrent_metainfo.specs.declared.Reading.{Reading}
 use Rattle.torrent_metainfo.specs.declared.Torrent.{Torrent}
@@ -102,11 +103,11 @@ as-decoded text (a-peer n r c) k p l = Iff·trans (same-answer c) (readers.peer 
 pub data Frames (r : Put) (out : Lent (List ℕ)) : List ℕ → Type 0 where
   raw : (id : ℕ) (payload : Lent (List ℕ)) → writing.raw-ensures id payload r out → Frames r out (id ∷ before payload)
   plain : (id : ℕ) → writing.plain-ensures id r out → Frames r out (id ∷ [])
-  a-have : (index : ℕ) → writing.have-ensures index r out → Frames r out (body (have index))
+  a-have : (index : PieceNumber) → writing.have-ensures index r out → Frames r out (body (have (index .0)))
   a-bitfield : (bits : Lent (List ℕ)) → writing.bitfield-ensures bits r out → Frames r out (body (bitfield (before bits)))
-  a-request : (index begin len : ℕ) → writing.request-ensures index begin len r out → Frames r out (body (request index begin len))
-  a-piece : (index begin : ℕ) (block : Lent (List ℕ)) → writing.piece-ensures index begin block r out → Frames r out (body (piece index begin (before block)))
-  a-cancel : (index begin len : ℕ) → writing.cancel-ensures index begin len r out → Frames r out (body (cancel index begin len))
+  a-request : (index : PieceNumber) (begin : PieceOffset) (len : ℕ) → writing.request-ensures index begin len r out → Frames r out (body (request (index .0) (begin .0) len))
+  a-piece : (index : PieceNumber) (begin : PieceOffset) (block : Lent (List ℕ)) → writing.piece-ensures index begin block r out → Frames r out (body (piece (index .0) (begin .0) (before block)))
+  a-cancel : (index : PieceNumber) (begin : PieceOffset) (len : ℕ) → writing.cancel-ensures index begin len r out → Frames r out (body (cancel (index .0) (begin .0) len))
 
 -- what they answer and leave goes by the rest alone
 pub as-framed : (r : Put) (out : Lent (List ℕ)) (rest : List ℕ) → Frames r out rest → left (putPaper r) (after out) ≡ writeOf rest (before out)

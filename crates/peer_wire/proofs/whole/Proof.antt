@@ -9,8 +9,8 @@ use Rattle.peer_wire.proofs.whole.Tie as tie
 word-requires : tie.Need-word-requires
 word-requires c κs = let r = reaches (c .before .before .args .bytes .now) (c .before .before .args .n) (c .before .before .pre .1) 4 (c .match .keys5) (c .before .before .pre .2) in omega arith
 
-sub-t6 : tie.Need-sub-t6
-sub-t6 c = let r = reaches (c .before .before .args .bytes .now) (c .before .before .args .n) (c .before .before .pre .1) 5 (c .match .keys6) (c .before .before .pre .2) in omega arith
+sub-t7 : tie.Need-sub-t7
+sub-t7 c = let r = reaches (c .before .before .args .bytes .now) (c .before .before .args .n) (c .before .before .pre .1) 5 (c .match .keys6) (c .before .before .pre .2) in omega arith
 
 word-requires-2 : tie.Need-word-requires-2
 word-requires-2 c κs = let r = reaches (c .before .before .args .bytes .now) (c .before .before .args .n) (c .before .before .pre .1) 6 (c .match .keys7) (c .before .before .pre .2) in omega arith
@@ -27,8 +27,8 @@ word-requires-5 c κs = let r = reaches (c .before .before .args .bytes .now) (c
 word-requires-6 : tie.Need-word-requires-6
 word-requires-6 c κs = let r = reaches (c .before .before .before .args .bytes .now) (c .before .before .before .args .n) (c .before .before .before .pre .1) 7 (c .before .match .keys8) (c .before .before .before .pre .2) in omega arith
 
-sub-t13 : tie.Need-sub-t13
-sub-t13 c = let r = reaches (c .before .before .before .before .args .bytes .now) (c .before .before .before .before .args .n) (c .before .before .before .before .pre .1) 7 (c .before .before .match .keys8) (c .before .before .before .before .pre .2) in omega arith
+sub-t18 : tie.Need-sub-t18
+sub-t18 c = let r = reaches (c .before .before .before .before .args .bytes .now) (c .before .before .before .before .args .n) (c .before .before .before .before .pre .1) 7 (c .before .before .match .keys8) (c .before .before .before .before .pre .2) in omega arith
 
 word-requires-7 : tie.Need-word-requires-7
 word-requires-7 c κs = let r = reaches (c .before .before .args .bytes .now) (c .before .before .args .n) (c .before .before .pre .1) 8 (c .match .keys9) (c .before .before .pre .2) in omega arith
@@ -39,8 +39,8 @@ word-requires-8 c κs = let r = reaches (c .before .before .before .args .bytes 
 word-requires-9 : tie.Need-word-requires-9
 word-requires-9 c κs = let r = reaches (c .before .before .before .before .args .bytes .now) (c .before .before .before .before .args .n) (c .before .before .before .before .pre .1) 8 (c .before .before .match .keys9) (c .before .before .before .before .pre .2) in omega arith
 
-sub-t18 : tie.Need-sub-t18
-sub-t18 c = omega (arith, least-least (c .before .before .args .id), allowed-true (c .before .before .args .id) (c .before .before .args .n) (c .before .before .pre .2) .0)
+sub-t25 : tie.Need-sub-t25
+sub-t25 c = omega (arith, least-least (c .before .before .args .id), allowed-true (c .before .before .args .id) (c .before .before .args .n) (c .before .before .pre .2) .0)
 
 returns : tie.Need-returns
 returns c = says (c .before .before .args .bytes .now) (c .before .before .args .n) (c .before .before .pre .1) 0 (c .match .keys1)
@@ -77,17 +77,17 @@ whole-spec =
     tie.close
     (tie.spec
     word-requires
-    sub-t6
+    sub-t7
     word-requires-2
     word-requires-3
     word-requires-4
     word-requires-5
     word-requires-6
-    sub-t13
+    sub-t18
     word-requires-7
     word-requires-8
     word-requires-9
-    sub-t18
+    sub-t25
     returns
     returns-2
     returns-3

@@ -16,13 +16,13 @@ returns-3 : tie.Need-returns-3
 returns-3 c = feed-free (c .before .before .before .before .before .before .before .before .before .args .h) (c .before .before .before .before .before .before .before .before .before .args .s) (c .before .before .before .before .before .before .before .before .before .args .rows .now) (c .before .before .before .before .before .before .before .before .before .args .holders .now) (c .before .before .before .before .before .before .before .before .before .args .n) (c .before .before .before .before .before .before .before .before .before .args .i) (c .before .before .before .before .before .before .before .before .before .args .bytes .now) (c .before .before .before .before .before .sizes-fit .result) (c .before .before .before .before .before .sizes-fit .ensures) (not-false (c .before .before .before .before .before .sizes-fit .result) (c .before .before .before .before .if1 .left)) (c .refused3 .result) (not-true (c .before .before .before .before .before .before .before .before .before .args .s .taken) (c .before .if3 .taken)) (c .refused3 .ensures)
 
 number-requires : tie.Need-number-requires
-number-requires c κs = let z = c .before .before .before .is-whole .ensures (c .before .before .if4 .taken) .0 in omega arith
+number-requires c κs = let z = c .before .is-whole .ensures (c .if4 .taken) .0 in omega arith
 
 have-step-requires : tie.Need-have-step-requires
-have-step-requires c κs = have-sized (c .before .before .before .before .before .before .before .before .before .before .before .before .before .before .args .h) (c .before .before .before .before .before .before .before .before .before .before .before .before .before .before .args .s) (c .before .before .before .before .before .before .before .before .before .before .before .before .before .before .args .rows .now) (c .before .before .before .before .before .before .before .before .before .before .before .before .before .before .args .holders .now) (c .before .before .before .before .before .before .before .before .before .before .before .before .before .before .args .n) (c .before .before .before .before .before .before .before .before .before .before .before .before .before .before .args .i) (c .before .before .before .before .before .before .before .before .before .before .before .before .before .before .args .bytes .now) (c .before .before .before .before .before .before .before .before .before .before .sizes-fit .result) (c .before .before .before .before .before .before .before .before .before .before .sizes-fit .ensures) (not-false (c .before .before .before .before .before .before .before .before .before .before .sizes-fit .result) (c .before .before .before .before .before .before .before .before .before .if1 .left)) (c .before .before .before .before .before .before .before .before .if2 .left)
+have-step-requires c κs = have-sized (c .before .before .before .before .before .before .before .before .before .before .before .before .before .args .h) (c .before .before .before .before .before .before .before .before .before .before .before .before .before .args .s) (c .before .before .before .before .before .before .before .before .before .before .before .before .before .args .rows .now) (c .before .before .before .before .before .before .before .before .before .before .before .before .before .args .holders .now) (c .before .before .before .before .before .before .before .before .before .before .before .before .before .args .n) (c .before .before .before .before .before .before .before .before .before .before .before .before .before .args .i) (c .before .before .before .before .before .before .before .before .before .before .before .before .before .args .bytes .now) (c .before .before .before .before .before .before .before .before .before .sizes-fit .result) (c .before .before .before .before .before .before .before .before .before .sizes-fit .ensures) (not-false (c .before .before .before .before .before .before .before .before .before .sizes-fit .result) (c .before .before .before .before .before .before .before .before .if1 .left)) (c .before .before .before .before .before .before .before .if2 .left)
 
 returns-4 : tie.Need-returns-4
-returns-4 c = feed-have (c .before .before .before .before .before .before .before .before .before .before .before .before .before .before .before .before .before .before .before .args .h) (c .before .before .before .before .before .before .before .before .before .before .before .before .before .before .before .before .before .before .before .args .s) (c .before .before .before .before .before .before .before .before .before .before .before .before .before .before .before .before .before .before .before .args .rows .now) (c .before .before .before .before .before .before .before .before .before .before .before .before .before .before .before .before .before .before .before .args .holders .now) (c .before .before .before .before .before .before .before .before .before .before .before .before .before .before .before .before .before .before .before .args .n) (c .before .before .before .before .before .before .before .before .before .before .before .before .before .before .before .before .before .before .before .args .i) (c .before .before .before .before .before .before .before .before .before .before .before .before .before .before .before .before .before .before .before .args .bytes .now) (c .before .before .before .before .before .before .before .before .before .before .before .before .before .before .before .sizes-fit .result) (c .before .before .before .before .before .before .before .before .before .before .before .before .before .before .before .sizes-fit .ensures) (not-false (c .before .before .before .before .before .before .before .before .before .before .before .before .before .before .before .sizes-fit .result) (c .before .before .before .before .before .before .before .before .before .before .before .before .before .before .if1 .left)) _ (c .before .before .before .before .before .before .number .result) (c .before .before .before .before .before .wide .result) (c .before .before .before .before .before .before .before .before .before .before .before .before .before .if2 .left) (not-false (c .before .before .before .before .before .before .before .before .before .before .before .before .before .before .before .before .before .before .before .args .s .taken) (c .before .before .before .before .before .before .before .before .before .before .before .if3 .left)) (c .before .before .before .before .before .before .number .ensures) (c .before .before .before .before .before .before .before .before .before .before .is-whole .ensures (c .before .before .before .before .before .before .before .before .before .if4 .taken) .1) (c .before .before .before .before .before .wide .ensures) (c .before .before .before .before .have-step .ensures)
+returns-4 c = feed-have (c .before .before .before .before .before .before .before .before .before .before .before .before .before .before .before .before .before .before .args .h) (c .before .before .before .before .before .before .before .before .before .before .before .before .before .before .before .before .before .before .args .s) (c .before .before .before .before .before .before .before .before .before .before .before .before .before .before .before .before .before .before .args .rows .now) (c .before .before .before .before .before .before .before .before .before .before .before .before .before .before .before .before .before .before .args .holders .now) (c .before .before .before .before .before .before .before .before .before .before .before .before .before .before .before .before .before .before .args .n) (c .before .before .before .before .before .before .before .before .before .before .before .before .before .before .before .before .before .before .args .i) (c .before .before .before .before .before .before .before .before .before .before .before .before .before .before .before .before .before .before .args .bytes .now) (c .before .before .before .before .before .before .before .before .before .before .before .before .before .before .sizes-fit .result) (c .before .before .before .before .before .before .before .before .before .before .before .before .before .before .sizes-fit .ensures) (not-false (c .before .before .before .before .before .before .before .before .before .before .before .before .before .before .sizes-fit .result) (c .before .before .before .before .before .before .before .before .before .before .before .before .before .if1 .left)) _ (record { 0 = c .before .before .before .before .before .before .before .number .result }) (c .before .before .before .before .before .before .before .before .before .before .before .before .if2 .left) (not-false (c .before .before .before .before .before .before .before .before .before .before .before .before .before .before .before .before .before .before .args .s .taken) (c .before .before .before .before .before .before .before .before .before .before .if3 .left)) (c .before .before .before .before .before .before .before .number .ensures) (c .before .before .before .before .before .before .before .before .before .is-whole .ensures (c .before .before .before .before .before .before .before .before .if4 .taken) .1) (c .before .before .before .before .have-step .ensures)
 
 frame-step-requires : tie.Need-frame-step-requires
 frame-step-requires c κs = (whole-sized (c .before .before .before .before .before .before .before .before .before .before .before .before .before .before .before .before .args .h) (c .before .before .before .before .before .before .before .before .before .before .before .before .before .before .before .before .args .s) (c .before .before .before .before .before .before .before .before .before .before .before .before .before .before .before .before .args .rows .now) (c .before .before .before .before .before .before .before .before .before .before .before .before .before .before .before .before .args .holders .now) (c .before .before .before .before .before .before .before .before .before .before .before .before .before .before .before .before .args .n) (c .before .before .before .before .before .before .before .before .before .before .before .before .before .before .before .before .args .i) (c .before .before .before .before .before .before .before .before .before .before .before .before .before .before .before .before .args .bytes .now) (c .before .before .before .before .before .before .before .before .before .before .before .before .sizes-fit .result) (c .before .before .before .before .before .before .before .before .before .before .before .before .sizes-fit .ensures) (not-false (c .before .before .before .before .before .before .before .before .before .before .before .before .sizes-fit .result) (c .before .before .before .before .before .before .before .before .before .before .before .if1 .left)) (c .before .before .before .before .before .before .before .before .before .before .if2 .left) (not-false (c .before .before .before .before .before .before .before .before .before .before .before .before .before .before .before .before .args .s .taken) (c .before .before .before .before .before .before .before .before .if3 .left)) (c .before .before .before .before .before .read-frame .result) (c .before .before .before .before .before .read-frame .ensures), whole-inside (c .before .before .before .before .before .before .before .before .before .before .before .before .before .before .before .before .args .h) (c .before .before .before .before .before .before .before .before .before .before .before .before .before .before .before .before .args .s) (c .before .before .before .before .before .before .before .before .before .before .before .before .before .before .before .before .args .rows .now) (c .before .before .before .before .before .before .before .before .before .before .before .before .before .before .before .before .args .holders .now) (c .before .before .before .before .before .before .before .before .before .before .before .before .before .before .before .before .args .n) (c .before .before .before .before .before .before .before .before .before .before .before .before .before .before .before .before .args .i) (c .before .before .before .before .before .before .before .before .before .before .before .before .before .before .before .before .args .bytes .now) (c .before .before .before .before .before .before .before .before .before .before .before .before .sizes-fit .result) (c .before .before .before .before .before .before .before .before .before .before .before .before .sizes-fit .ensures) (not-false (c .before .before .before .before .before .before .before .before .before .before .before .before .sizes-fit .result) (c .before .before .before .before .before .before .before .before .before .before .before .if1 .left)) (c .before .before .before .before .before .before .before .before .before .before .if2 .left) (not-false (c .before .before .before .before .before .before .before .before .before .before .before .before .before .before .before .before .args .s .taken) (c .before .before .before .before .before .before .before .before .if3 .left)) (c .before .before .before .before .before .read-frame .result) (c .before .before .before .before .before .read-frame .ensures) _ _ (c .before .before .before .f .given .1))
@@ -44,6 +44,6 @@ feed-step-spec =
     tie.close
     (tie.spec
     (λ c κs. search needs) (λ c κs. search needs) returns (λ c κs. search needs) returns-2 (λ c κs. search needs) returns-3 (λ c κs. search needs)
-    number-requires (λ c κs. search needs) have-step-requires (λ c. search needs) (λ c. search needs) returns-4 (λ c κs. search needs) (λ c. search needs)
+    number-requires have-step-requires (λ c. search needs) (λ c. search needs) returns-4 (λ c κs. search needs) (λ c. search needs)
     (λ c κs. search needs) (λ c. search needs) (λ c κs. search needs) (λ c. search needs) (λ c κs. search needs) (λ c. search needs) frame-step-requires
     returns-5 returns-6 returns-7 (λ c. search needs) (λ c. search needs) returns-8)

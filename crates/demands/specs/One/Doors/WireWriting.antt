@@ -4,6 +4,8 @@ use mathlib.Core.Path.{_≡_}
 use Prim.Native.Nat.{ℕ}
 use Rattle.bencode_writer.specs.Put.{paper, left, putOf}
 use Rattle.bencode_writer.specs.declared.Put.{Put}
+use Rattle.torrent_blocks.specs.declared.PieceNumber.{PieceNumber}
+use Rattle.torrent_blocks.specs.declared.PieceOffset.{PieceOffset}
 use Rattle.peer_wire.specs.Frames.{writeOf}
 use Rattle.peer_wire.specs.Handshake.{handshake, zeros}
 use Rattle.peer_wire.specs.Message.{keepalive, encode, have, body, bitfield, request, piece, cancel}
@@ -42,13 +44,13 @@ pub plain-keeps : (id : ℕ) → Keeps1 (plain-ensures id) (λ r. Refused (paper
 plain-keeps id r out e k = laws.refusal-keeps _ _ r e (k .2) .1
 
 -- peer_wire::write::have
-abbrev pub have-ensures : (index : ℕ) → Put → Lent (List ℕ) → Type 0
-have-ensures index r out = left (paper r) (now (out .exit)) ≡ writeOf (body (have index)) (now (out .entry))
+abbrev pub have-ensures : (index : PieceNumber) → Put → Lent (List ℕ) → Type 0
+have-ensures index r out = left (paper r) (now (out .exit)) ≡ writeOf (body (have (index .0))) (now (out .entry))
 
-pub have-determined : (index : ℕ) → Determined1 (have-ensures index)
+pub have-determined : (index : PieceNumber) → Determined1 (have-ensures index)
 have-determined index out r r′ out₁ out₂ e f = laws.put-determined _ r r′ e f
 
-pub have-keeps : (index : ℕ) → Keeps1 (have-ensures index) (λ r. Refused (paper r))
+pub have-keeps : (index : PieceNumber) → Keeps1 (have-ensures index) (λ r. Refused (paper r))
 have-keeps index r out e k = laws.refusal-keeps _ _ r e (k .2) .1
 
 -- peer_wire::write::bitfield
@@ -62,33 +64,33 @@ pub bitfield-keeps : (bits : Lent (List ℕ)) → Keeps1 (bitfield-ensures bits)
 bitfield-keeps bits r out e k = laws.refusal-keeps _ _ r e (k .2) .1
 
 -- peer_wire::write::request
-abbrev pub request-ensures : (index begin len : ℕ) → Put → Lent (List ℕ) → Type 0
-request-ensures index begin len r out = left (paper r) (now (out .exit)) ≡ writeOf (body (request index begin len)) (now (out .entry))
+abbrev pub request-ensures : (index : PieceNumber) (begin : PieceOffset) (len : ℕ) → Put → Lent (List ℕ) → Type 0
+request-ensures index begin len r out = left (paper r) (now (out .exit)) ≡ writeOf (body (request (index .0) (begin .0) len)) (now (out .entry))
 
-pub request-determined : (index begin len : ℕ) → Determined1 (request-ensures index begin len)
+pub request-determined : (index : PieceNumber) (begin : PieceOffset) (len : ℕ) → Determined1 (request-ensures index begin len)
 request-determined index begin len out r r′ out₁ out₂ e f = laws.put-determined _ r r′ e f
 
-pub request-keeps : (index begin len : ℕ) → Keeps1 (request-ensures index begin len) (λ r. Refused (paper r))
+pub request-keeps : (index : PieceNumber) (begin : PieceOffset) (len : ℕ) → Keeps1 (request-ensures index begin len) (λ r. Refused (paper r))
 request-keeps index begin len r out e k = laws.refusal-keeps _ _ r e (k .2) .1
 
 -- peer_wire::write::piece
-abbrev pub piece-ensures : (index begin : ℕ) (block : Lent (List ℕ)) → Put → Lent (List ℕ) → Type 0
-piece-ensures index begin block r out = left (paper r) (now (out .exit)) ≡ writeOf (body (piece index begin (now (block .entry)))) (now (out .entry))
+abbrev pub piece-ensures : (index : PieceNumber) (begin : PieceOffset) (block : Lent (List ℕ)) → Put → Lent (List ℕ) → Type 0
+piece-ensures index begin block r out = left (paper r) (now (out .exit)) ≡ writeOf (body (piece (index .0) (begin .0) (now (block .entry)))) (now (out .entry))
 
-pub piece-determined : (index begin : ℕ) (block : Lent (List ℕ)) → Determined1 (piece-ensures index begin block)
+pub piece-determined : (index : PieceNumber) (begin : PieceOffset) (block : Lent (List ℕ)) → Determined1 (piece-ensures index begin block)
 piece-determined index begin block out r r′ out₁ out₂ e f = laws.put-determined _ r r′ e f
 
-pub piece-keeps : (index begin : ℕ) (block : Lent (List ℕ)) → Keeps1 (piece-ensures index begin block) (λ r. Refused (paper r))
+pub piece-keeps : (index : PieceNumber) (begin : PieceOffset) (block : Lent (List ℕ)) → Keeps1 (piece-ensures index begin block) (λ r. Refused (paper r))
 piece-keeps index begin block r out e k = laws.refusal-keeps _ _ r e (k .2) .1
 
 -- peer_wire::write::cancel
-abbrev pub cancel-ensures : (index begin len : ℕ) → Put → Lent (List ℕ) → Type 0
-cancel-ensures index begin len r out = left (paper r) (now (out .exit)) ≡ writeOf (body (cancel index begin len)) (now (out .entry))
+abbrev pub cancel-ensures : (index : PieceNumber) (begin : PieceOffset) (len : ℕ) → Put → Lent (List ℕ) → Type 0
+cancel-ensures index begin len r out = left (paper r) (now (out .exit)) ≡ writeOf (body (cancel (index .0) (begin .0) len)) (now (out .entry))
 
-pub cancel-determined : (index begin len : ℕ) → Determined1 (cancel-ensures index begin len)
+pub cancel-determined : (index : PieceNumber) (begin : PieceOffset) (len : ℕ) → Determined1 (cancel-ensures index begin len)
 cancel-determined index begin len out r r′ out₁ out₂ e f = laws.put-determined _ r r′ e f
 
-pub cancel-keeps : (index begin len : ℕ) → Keeps1 (cancel-ensures index begin len) (λ r. Refused (paper r))
+pub cancel-keeps : (index : PieceNumber) (begin : PieceOffset) (len : ℕ) → Keeps1 (cancel-ensures index begin len) (λ r. Refused (paper r))
 cancel-keeps index begin len r out e k = laws.refusal-keeps _ _ r e (k .2) .1
 
 -- peer_wire::write::handshake

@@ -3,7 +3,7 @@ use mathlib.Core.Bool.{Bool}
 use mathlib.Core.Path.{_≡_, sym, _∙_}
 use Prim.Native.Nat.{ℕ, _+_, min}
 use Rattle.torrent_blocks.specs.Rules.{pieceLength, fileLength, fileCount, largest, piecesOf, totalAnd}
-use Rattle.torrent_blocks.specs.Numberings.{contentOffset, pieceNumber, pieceOffset, pieceBytes}
+use Rattle.torrent_blocks.specs.Numberings.{widest, contentOffset, pieceNumber, pieceOffset, pieceBytes}
 use Rattle.torrent_blocks.specs.declared.ContentOffset.{ContentOffset}
 use Rattle.torrent_blocks.specs.declared.PieceNumber.{PieceNumber}
 use Rattle.torrent_blocks.specs.declared.PieceOffset.{PieceOffset}
@@ -24,6 +24,13 @@ piece-number-ensures «piece_length» place r = r .0 ≡ pieceNumber «piece_len
 
 pub piece-number-determined : («piece_length» : ℕ) (place : ContentOffset) → Determined (piece-number-ensures «piece_length» place)
 piece-number-determined «piece_length» place r r′ e f = laws.number-determined _ r r′ e f
+
+-- torrent_blocks::piece_numbered
+abbrev pub piece-numbered-ensures : (n : ℕ) → PieceNumber → Type 0
+piece-numbered-ensures n r = r .0 ≡ min n widest
+
+pub piece-numbered-determined : (n : ℕ) → Determined (piece-numbered-ensures n)
+piece-numbered-determined n r r′ e f = laws.number-determined _ r r′ e f
 
 -- torrent_blocks::piece_offset
 abbrev pub piece-offset-ensures : («piece_length» : ℕ) (place : ContentOffset) → PieceOffset → Type 0

@@ -5,6 +5,7 @@ use mathlib.Core.Path.{_≡_, ap, _∙_}
 use Prim.Native.Nat.{ℕ}
 use lib.ListN.{length, replicate, length-replicate}
 use lib.Seq.{sets}
+use Rattle.torrent_blocks.specs.declared.PieceNumber.{PieceNumber}
 use Rattle.yard_tables.specs.Looks.{scarcestOf, seatOf, hasOf, countOf}
 use Rattle.yard_tables.specs.Seating.{startOf, sitOf, leaveOf, markOf}
 use Rattle.yard_tables.specs.Seats.{weChoke, weWant, cleared}
@@ -94,15 +95,15 @@ pub seat-determined : (h : Head) (s : Seat) (i n : ℕ) (rows holders : Lent (Li
 seat-determined h s i n rows holders r r′ e f = laws.seat-determined _ _ _ _ _ _ r r′ e f
 
 -- yard_seating::looks::has
-abbrev pub has-ensures : (h : Head) (i p n : ℕ) (rows holders : Lent (List ℕ)) → Answer → Type 0
-has-ensures h i p n rows holders r = ((s : Seat) → paper r ≡ hasOf i p n (around h s (now (rows .entry)) (now (holders .entry))) .answer)
+abbrev pub has-ensures : (h : Head) (i : ℕ) (piece : PieceNumber) (n : ℕ) (rows holders : Lent (List ℕ)) → Answer → Type 0
+has-ensures h i piece n rows holders r = ((s : Seat) → paper r ≡ hasOf i (piece .0) n (around h s (now (rows .entry)) (now (holders .entry))) .answer)
 
-pub has-determined : (h : Head) (i p n : ℕ) (rows holders : Lent (List ℕ)) → Determined (has-ensures h i p n rows holders)
-has-determined h i p n rows holders r r′ e f = laws.look-determined (λ q. hasOf i p n (around h q (now (rows .entry)) (now (holders .entry)))) r r′ e f cleared
+pub has-determined : (h : Head) (i : ℕ) (piece : PieceNumber) (n : ℕ) (rows holders : Lent (List ℕ)) → Determined (has-ensures h i piece n rows holders)
+has-determined h i piece n rows holders r r′ e f = laws.look-determined (λ q. hasOf i (piece .0) n (around h q (now (rows .entry)) (now (holders .entry)))) r r′ e f cleared
 
 -- yard_seating::looks::count
-abbrev pub count-ensures : (h : Head) (p n : ℕ) (rows holders : Lent (List ℕ)) → Answer → Type 0
-count-ensures h p n rows holders r = ((s : Seat) → paper r ≡ countOf p n (around h s (now (rows .entry)) (now (holders .entry))) .answer)
+abbrev pub count-ensures : (h : Head) (piece : PieceNumber) (n : ℕ) (rows holders : Lent (List ℕ)) → Answer → Type 0
+count-ensures h piece n rows holders r = ((s : Seat) → paper r ≡ countOf (piece .0) n (around h s (now (rows .entry)) (now (holders .entry))) .answer)
 
-pub count-determined : (h : Head) (p n : ℕ) (rows holders : Lent (List ℕ)) → Determined (count-ensures h p n rows holders)
-count-determined h p n rows holders r r′ e f = laws.look-determined (λ q. countOf p n (around h q (now (rows .entry)) (now (holders .entry)))) r r′ e f cleared
+pub count-determined : (h : Head) (piece : PieceNumber) (n : ℕ) (rows holders : Lent (List ℕ)) → Determined (count-ensures h piece n rows holders)
+count-determined h piece n rows holders r r′ e f = laws.look-determined (λ q. countOf (piece .0) n (around h q (now (rows .entry)) (now (holders .entry)))) r r′ e f cleared

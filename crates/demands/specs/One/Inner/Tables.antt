@@ -3,6 +3,8 @@ use mathlib.Core.Bool.{Bool}
 use mathlib.Core.Path.{_≡_, sym, _∙_}
 use Prim.Native.Nat.{ℕ, _+_, _-_, _*_, _/_, _%_, _^_, min}
 use Rattle.refusal.specs.Paper.{taken}
+use Rattle.torrent_blocks.specs.declared.PieceNumber.{PieceNumber}
+use Rattle.torrent_blocks.specs.declared.PieceOffset.{PieceOffset}
 use Rattle.yard_tables.specs.Counting.{bit}
 use Rattle.yard_tables.specs.Frames.{blockFits, requested}
 use Rattle.yard_tables.specs.Replies.{stepped, refusing, blockStep, headAtZero}
@@ -52,10 +54,10 @@ pub end-of-determined : (p pieces : ℕ) → Determined (end-of-ensures p pieces
 end-of-determined p pieces r r′ e f = e ∙ sym f
 
 -- yard_tables::block::block_step
-abbrev pub block-step-ensures : (h : Head) (s : Seat) (p : ℕ) (fits : Bool) (a : Answer) → Stepped → Type 0
-block-step-ensures h s p fits a r = r ≡ blockStep h s p fits a
+abbrev pub block-step-ensures : (h : Head) (s : Seat) (p : PieceNumber) (fits : Bool) (a : Answer) → Stepped → Type 0
+block-step-ensures h s p fits a r = r ≡ blockStep h s (p .0) fits a
 
-pub block-step-determined : (h : Head) (s : Seat) (p : ℕ) (fits : Bool) (a : Answer) → Determined (block-step-ensures h s p fits a)
+pub block-step-determined : (h : Head) (s : Seat) (p : PieceNumber) (fits : Bool) (a : Answer) → Determined (block-step-ensures h s p fits a)
 block-step-determined h s p fits a r r′ e f = e ∙ sym f
 
 -- yard_tables::block::asked
@@ -66,10 +68,10 @@ pub asked-determined : (s : Seat) (used : ℕ) → Determined (asked-ensures s u
 asked-determined s used r r′ e f = paper-tells r r′ (e ∙ sym f)
 
 -- yard_tables::block::lies_within
-abbrev pub lies-within-ensures : (h : Head) (p begin len : ℕ) → Bool → Type 0
-lies-within-ensures h p begin len r = r ≡ blockFits h p begin len
+abbrev pub lies-within-ensures : (h : Head) (p : PieceNumber) (begin : PieceOffset) (len : ℕ) → Bool → Type 0
+lies-within-ensures h p begin len r = r ≡ blockFits h (p .0) (begin .0) len
 
-pub lies-within-determined : (h : Head) (p begin len : ℕ) → Determined (lies-within-ensures h p begin len)
+pub lies-within-determined : (h : Head) (p : PieceNumber) (begin : PieceOffset) (len : ℕ) → Determined (lies-within-ensures h p begin len)
 lies-within-determined h p begin len r r′ e f = e ∙ sym f
 
 -- yard_tables::leaving::head_at_zero

@@ -9,7 +9,7 @@ use Rattle.peer_wire.proofs.write.cancel.Statement.{statement}
 use Rattle.peer_wire.proofs.write.cancel.Tie as tie
 
 returns : tie.Need-returns
-returns c = c .before .before .framed .ensures ∙ ap (λ (l : List ℕ). writeOf (8 ∷ l) (c .before .before .before .before .before .before .before .before .args .out .now)) (three-alone (c .before .before .before .before .before .before .before .before .args .index) (c .before .before .before .before .before .before .before .before .args .begin) (c .before .before .before .before .before .before .before .before .args .len) (c .before .before .before .before .before .three .ensures))
+returns c = c .before .before .framed .ensures ∙ ap (λ (l : List ℕ). writeOf (8 ∷ l) (c .before .before .before .before .before .before .before .before .args .out .now)) (three-alone (c .before .before .before .before .before .before .before .before .args .index .0) (c .before .before .before .before .before .before .before .before .args .begin .0) (c .before .before .before .before .before .before .before .before .args .len) (c .before .before .before .before .before .three .ensures))
 
 pub cancel-spec : {M : Type 1} → statement M
 cancel-spec =

@@ -9,7 +9,7 @@ use Rattle.peer_wire.proofs.write.have.Statement.{statement}
 use Rattle.peer_wire.proofs.write.have.Tie as tie
 
 returns : tie.Need-returns
-returns c = c .before .before .framed .ensures ∙ ap (λ (l : List ℕ). writeOf (4 ∷ l) (c .before .before .before .before .before .before .before .before .args .out .now)) (one-alone (c .before .before .before .before .before .before .before .before .args .index) 0 0 (c .before .before .before .before .before .one .ensures))
+returns c = c .before .before .framed .ensures ∙ ap (λ (l : List ℕ). writeOf (4 ∷ l) (c .before .before .before .before .before .before .before .before .args .out .now)) (one-alone (c .before .before .before .before .before .before .before .before .args .index .0) 0 0 (c .before .before .before .before .before .one .ensures))
 
 pub have-spec : {M : Type 1} → statement M
 have-spec =

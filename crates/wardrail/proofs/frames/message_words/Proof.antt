@@ -20,22 +20,22 @@ returns-4 : tie.Need-returns-4
 returns-4 c = c .plain4 .ensures ∙ ap (λ (x : Frame). messageWords (c .before .before .before .args .used) (message x)) (sym (c .before .enum-told4 .given .1))
 
 returns-5 : tie.Need-returns-5
-returns-5 c = c .eight .ensures ∙ ap (λ (x : Frame). messageWords (c .before .before .before .before .args .used) (message x)) (sym (c .before .before .f .given .1))
+returns-5 c = c .asking .ensures ∙ ap (λ (x : Frame). messageWords (c .before .before .before .before .args .used) (message x)) (sym (c .before .before .f .given .1))
 
 returns-6 : tie.Need-returns-6
 returns-6 c = c .carrying .ensures ∙ ap (λ (x : Frame). messageWords (c .before .before .before .before .args .used) (message x)) (sym (c .before .before .f2 .given .1))
 
 returns-7 : tie.Need-returns-7
-returns-7 c = c .asking .ensures ∙ ap (λ (x : Frame). messageWords (c .before .before .before .before .args .used) (message x)) (sym (c .before .before .f3 .given .1))
+returns-7 c = c .asking2 .ensures ∙ ap (λ (x : Frame). messageWords (c .before .before .before .before .args .used) (message x)) (sym (c .before .before .f3 .given .1))
 
 returns-8 : tie.Need-returns-8
-returns-8 c = c .carrying2 .ensures ∙ ap (λ (x : Frame). messageWords (c .before .before .before .before .args .used) (message x)) (sym (c .before .before .f4 .given .1))
+returns-8 c = c .sending .ensures ∙ ap (λ (x : Frame). messageWords (c .before .before .before .before .args .used) (message x)) (sym (c .before .before .f4 .given .1))
 
 returns-9 : tie.Need-returns-9
-returns-9 c = c .asking2 .ensures ∙ ap (λ (x : Frame). messageWords (c .before .before .before .before .args .used) (message x)) (sym (c .before .before .f5 .given .1))
+returns-9 c = c .asking3 .ensures ∙ ap (λ (x : Frame). messageWords (c .before .before .before .before .args .used) (message x)) (sym (c .before .before .f5 .given .1))
 
 returns-10 : tie.Need-returns-10
-returns-10 c = c .carrying3 .ensures ∙ ap (λ (x : Frame). messageWords (c .before .before .before .before .args .used) (message x)) (sym (c .before .before .f6 .given .1))
+returns-10 c = c .carrying2 .ensures ∙ ap (λ (x : Frame). messageWords (c .before .before .before .before .args .used) (message x)) (sym (c .before .before .f6 .given .1))
 
 pub message-words-spec : {M : Type 1} → statement M
 message-words-spec =
@@ -49,7 +49,6 @@ message-words-spec =
     (λ c κs. search needs)
     (λ c. search needs)
     (λ c κs. search needs)
-    (λ c. search needs)
     (λ c. search needs)
     (λ c κs. search needs)
     (λ c. search needs)
