@@ -102,7 +102,7 @@ struct wardrail_look {
 WARDRAIL_ROW(wardrail_look, 4, next_at);
 
 /* What stands at an offset, to walk over a text that was checked: from 0 on by next_at, as far as the text goes. Any text and
- * offset is answered: 1, 2. */
+ * offset is answered: 1, 2, 8. */
 uint64_t wardrail_look(const uint8_t *text, size_t text_count, size_t at, struct wardrail_look *look);
 
 /* ---- Torrents */
@@ -142,7 +142,7 @@ struct wardrail_file_at {
 WARDRAIL_ROW(wardrail_file_at, 3, next_at);
 
 /* The file of many at an offset, to walk all files in one pass: first content_at of wardrail_torrent and 1, then next_at of
- * the answer before, as many times as there are files. Any text and offset is answered: 1 to 6, 10, 11, 13. */
+ * the answer before, as many times as there are files. Any text and offset is answered: 1 to 6, 8, 10, 11, 13. */
 uint64_t wardrail_file_at(const uint8_t *text, size_t text_count, size_t at, struct wardrail_file_at *file);
 
 struct wardrail_element_at {
@@ -153,7 +153,7 @@ struct wardrail_element_at {
 WARDRAIL_ROW(wardrail_element_at, 4, next_at);
 
 /* The element of a path at an offset: first path_at of wardrail_file, then next_at of the answer before, until none is found.
- * Any text and offset is answered: 1, 2, 10 for another kind, 13 for what may not be a name. */
+ * Any text and offset is answered: 1, 2, 8, 10 for another kind, 13 for what may not be a name. */
 uint64_t wardrail_element_at(const uint8_t *text, size_t text_count, size_t at, struct wardrail_element_at *element);
 
 struct wardrail_piece_hash {
@@ -220,7 +220,7 @@ struct wardrail_listed_at {
 WARDRAIL_ROW(wardrail_listed_at, 6, next_at);
 
 /* The entry of a list at an offset: first first_at of wardrail_reply, then next_at of the answer before, as many times as there
- * are entries. Any text and offset is answered: 1 to 6, 10, 11, 15. */
+ * are entries. Any text and offset is answered: 1 to 6, 8, 10, 11, 15. */
 uint64_t wardrail_listed_at(const uint8_t *text, size_t text_count, size_t at, struct wardrail_listed_at *peer);
 
 struct wardrail_packed_at {
@@ -230,7 +230,7 @@ struct wardrail_packed_at {
 };
 WARDRAIL_ROW(wardrail_packed_at, 6, next_at);
 
-/* The same for an entry of six bytes: 1. */
+/* The same for an entry of six bytes: 1, 8. */
 uint64_t wardrail_packed_at(const uint8_t *text, size_t text_count, size_t at, struct wardrail_packed_at *peer);
 
 /* ---- Where a block falls */

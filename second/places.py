@@ -4,7 +4,7 @@ import bencode
 import torrent
 import tracker
 from bencode import STRING
-from refusal import Refused
+from refusal import Refused, refuse_unless
 
 # What refuses the piece past the last, and a file where their list ends.
 BEYOND, NO_VALUE = 31, 2
@@ -15,6 +15,7 @@ def walk(text):
     reader = bencode.Reader(text)
     seen = []
     try:
+        refuse_unless(len(text) <= bencode.LONGEST_TEXT, 8)
         while not seen or reader.at < len(text):
             seen.append(look(reader))
     except Refused as refusal:

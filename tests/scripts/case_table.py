@@ -87,6 +87,9 @@ KEYS = [
     "d1:zd1:b0:1:a0:ee d1:zd1:a0:ee ld1:b0:ed1:a0:ee d1:a1:z1:b1:ae",
 ]
 
+# 1,048,577 bytes, to be walked
+TOO_LONG = ["1048569:(1048569*s) (1048577*e) (1048577*x)"]
+
 LIMITS = [
     "1048568:(1048568*s) 1048569:(1048569*s) 1048569:(1048568*s) i(1048574*1)e (1048576*x) (1048577*x)",
     "i1e(1048573*x) i1e(1048574*x) (31*d0:)de(31*e) (32*d0:)de(32*e) (16*ld0:)0:(32*e) (31*l)lele(31*e)",
@@ -107,7 +110,7 @@ ORDER = [
 
 def bencode():
     texts = DOCUMENT + INTEGERS + STRINGS + SHAPES + KEYS + LIMITS + ORDER
-    return calls_of("bencode", texts) + calls_of("walk", DOCUMENT[:1] + INTEGERS + STRINGS + SHAPES)
+    return calls_of("bencode", texts) + calls_of("walk", DOCUMENT[:1] + INTEGERS + STRINGS + SHAPES + TOO_LONG)
 
 
 # ---- tracker replies

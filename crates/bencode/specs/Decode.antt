@@ -91,5 +91,10 @@ wholeOf (got v [] p n) = taken v
 wholeOf (got v (b ∷ t) p n) = refused after p
 wholeOf (bad r p) = refused r p
 
+-- a text that is too long is 8 at 0, before all else
+abbrev pub unlessLong : {A : Type 0} → List ℕ → Outcome A → Outcome A
+unlessLong s o = cond (ltb mostText (length s)) (refused long 0) o
+
+-- the value that a text is
 unfoldable pub decode : List ℕ → Outcome Value
-decode s = let r : Outcome Value = wholeOf (valueFrom mostLevels (length s) s 0 0) in cond (ltb mostText (length s)) (refused long 0) r
+decode s = unlessLong s (wholeOf (valueFrom mostLevels (length s) s 0 0))

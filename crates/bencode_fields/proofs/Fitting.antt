@@ -4,7 +4,7 @@ use mathlib.Core.Bool.{Bool, true, false, cond}
 use mathlib.Core.List.{List, [], _∷_}
 use Prim.Native.Nat.{ℕ, _+_, _-_, _<_, _≤_}
 use native.Mathlib.Omega.{arith}
-use lib.Dec.{eqb}
+use lib.Dec.{eqb, ltb}
 use lib.IntN.{ℤ, pos, negsuc, natAbs}
 use lib.Signed.{ltZ}
 use lib.ListN.{length, drop}
@@ -13,6 +13,7 @@ use mir.Val.{toZ, ofZ}
 use mir.ValLaws.{toZ-ofZ}
 use borrow.Author.Tests.{ltb-true, le-leb, lt-leb}
 use Rattle.refusal.specs.Paper.{Outcome, taken, refused, map, then}
+use Rattle.refusal.specs.Limits.{mostText}
 use Rattle.bencode_scalar.specs.Written.{inRange}
 use Rattle.bencode_scalar.specs.Reading.{Got, got, bad, onHead, stringAt, integerAt}
 use Rattle.bencode_walk.proofs.Seeing.{range-fits}
@@ -48,7 +49,7 @@ sure-integer p (bad r o) = tt
 
 sure : (s : List ℕ) (p : ℕ) → Sure (lookOf s p)
 unfolding lookOf
-sure s p = go (drop p s)
+sure s p = by (ltb mostText (length s)) (refused 8 0) _ tt (go (drop p s))
   where
     go : (l : List ℕ) → Sure (onHead l (refused 1 (length s)) (λ b t. lookAt s p b))
     go [] = tt

@@ -1,5 +1,5 @@
 -- Keys of a dictionary sought in ascending order, each from where the last search stopped. Assumes nothing.
-use mathlib.Core.Path.{_≡_, refl, ap, _∙_}
+use mathlib.Core.Path.{_≡_, refl, sym, ap, _∙_, subst}
 use mathlib.Core.Bool.{true}
 use mathlib.Core.List.{List}
 use Prim.Native.Nat.{ℕ, suc, _≤_}
@@ -11,6 +11,7 @@ use Rattle.bencode.specs.Value.{Value, Entries, Prev, start, last, follows}
 use Rattle.bencode_walk.specs.Walk.{Hit, found, missing, seekOf}
 use Rattle.bencode_walk.specs.Stands.{Stands, StandEntries}
 use Rattle.bencode_walk.specs.Lookup.{Under, under, lookup}
+use Rattle.bencode_walk.proofs.Limited.{Limited, limited-then, limited-seek}
 use Rattle.bencode_walk.proofs.Finding.{soughtOf, seek-stands, Says, it-is, it-is-not, says, placeOf, resumes}
 use Rattle.bencode_fields.specs.Looks.{hitAt, needed, stopped, soughtFrom, soughtAfter}
 use Rattle.bencode_fields.specs.Values.{must}
@@ -56,6 +57,19 @@ asked s d D u o h e y t f g same = ap (λ (x : Outcome Hit). then x (hitAt D f))
     go : (u : Under) (h : Hit) → Says u h → ((q : ℕ) (v : Value) → u ≡ under q v → Stands s d q v) → hitAt D f h ≡ must D u g
     go u h (it-is p q v) t = same q v (t q v refl)
     go u h (it-is-not p) t = refl
+
+-- ---- a text that is too long, seen by the first search
+
+module _ (s : List ℕ) (o : Outcome Hit) where
+  pub sought-limited : (p : ℕ) (k : List ℕ) → o ≡ soughtFrom s p k → Limited s o
+  sought-limited p k e = subst (λ (x : Outcome Hit). Limited s x) (sym e) (limited-seek s p (length s) k)
+
+  module _ (h : Limited s o) where
+    pub after-limited : (k : List ℕ) → Limited s (soughtAfter s o k)
+    after-limited k = limited-then s o (λ i. soughtFrom s (stopped i) k) h
+
+    pub needed-limited : {A : Type 0} (d : ℕ) (f : ℕ → Outcome A) → Limited s (needed d o f)
+    needed-limited d f = limited-then s o (hitAt d f) h
 
 same-stop : (h : Hit) → stopped h ≡ placeOf h
 same-stop (found p q) = refl

@@ -7,7 +7,7 @@ use lib.Dec.{leb}
 use lib.ListN.{length}
 use lib.IntN.{ℤ, pos, negsuc}
 use Rattle.refusal.specs.Paper.{Outcome, taken, refused, refusal, map, then}
-use Rattle.refusal.specs.Numbers.{kind, range}
+use Rattle.refusal.specs.Numbers.{byte, kind, range}
 use Rattle.refusal.specs.declared.Part.{Part}
 use Rattle.bencode_walk.specs.Walk.{Head, string, integer, long, list, dictionary, end, lookOf, Hit, found, missing, seekOf}
 use Rattle.bencode_fields.specs.declared.Bytes.{Bytes}
@@ -45,14 +45,14 @@ abbrev pub ranged : ℕ → ℕ → ℤ → Outcome ℕ
 ranged most p (pos n) = cond (leb n most) (taken n) (refused range p)
 ranged most p (negsuc n) = refused range p
 
--- a string's bytes; another kind is 10
+-- a string's bytes; another kind is 10, and an e, where no value stands, is 2
 abbrev pub stringIn : ℕ → Head → Outcome Part
 stringIn p (string a m q) = taken (record { from = a; len = m })
 stringIn p (integer z q) = refused kind p
 stringIn p (long a m q) = refused kind p
 stringIn p (list q) = refused kind p
 stringIn p (dictionary q) = refused kind p
-stringIn p (end q) = refused kind p
+stringIn p (end q) = refused byte p
 
 -- a number from 0 to most; an integer outside 64 bits is out of range too
 abbrev pub naturalIn : ℕ → ℕ → Head → Outcome ℕ
@@ -61,7 +61,7 @@ naturalIn most p (integer z q) = ranged most p z
 naturalIn most p (long a m q) = refused range p
 naturalIn most p (list q) = refused kind p
 naturalIn most p (dictionary q) = refused kind p
-naturalIn most p (end q) = refused kind p
+naturalIn most p (end q) = refused byte p
 
 -- the same, with the place past it
 abbrev pub numberIn : ℕ → ℕ → Head → Outcome (ℕ × ℕ)
@@ -70,7 +70,7 @@ numberIn most p (integer z q) = map (endingAt q) (ranged most p z)
 numberIn most p (long a m q) = refused range p
 numberIn most p (list q) = refused kind p
 numberIn most p (dictionary q) = refused kind p
-numberIn most p (end q) = refused kind p
+numberIn most p (end q) = refused byte p
 
 -- the place of a list's first item
 abbrev pub listIn : ℕ → Head → Outcome ℕ
@@ -79,7 +79,7 @@ listIn p (integer z q) = refused kind p
 listIn p (long a m q) = refused kind p
 listIn p (list q) = taken q
 listIn p (dictionary q) = refused kind p
-listIn p (end q) = refused kind p
+listIn p (end q) = refused byte p
 
 -- the place of a dictionary's first key
 abbrev pub dictionaryIn : ℕ → Head → Outcome ℕ
@@ -88,7 +88,7 @@ dictionaryIn p (integer z q) = refused kind p
 dictionaryIn p (long a m q) = refused kind p
 dictionaryIn p (list q) = refused kind p
 dictionaryIn p (dictionary q) = taken q
-dictionaryIn p (end q) = refused kind p
+dictionaryIn p (end q) = refused byte p
 
 -- what stands at p of the text s, as the kind that is asked for
 abbrev pub stringOf : List ℕ → ℕ → Outcome Part

@@ -1,14 +1,16 @@
 // Typed looks: what a reader of torrents or tracker replies asks of a place. Every call answers for any text and any
-// place: another kind is refused by 10, a number out of range by 11, and what cannot be read as `bencode_walk::look` refuses it.
+// place: another kind is refused by 10, a number out of range by 11, an e, where no value stands, by 2, and what cannot be
+// read as `bencode_walk::look` refuses it.
 ghost use mathlib.Core.Path.{_≡_};
-ghost use Rattle.refusal.specs.Numbers.{kind};
 ghost use Rattle.refusal.specs.Paper.{map};
+ghost use Rattle.bencode.specs.Decode.{unlessLong};
 ghost use Rattle.bencode_walk.specs.Walk.{seekPaper};
 ghost use Rattle.bencode_fields.specs.Looks.{endingAt, stringPaper, naturalPaper, numberPaper, insidePaper, stringOf, naturalOf, numberOf, listOf, dictionaryOf, ranged, needed, soughtAfter};
 use bencode_walk::Seen;
 use bencode_walk::Sought;
 use refusal::Part;
 use refusal::Refusal;
+use refusal::limit;
 use refusal::number;
 
 // A string's bytes.
@@ -41,8 +43,9 @@ pub fn string_at(text: &[u8], at: usize) -> Bytes
 {
     match bencode_walk::look(text, at) {
         Seen::String(bytes, _) => Bytes::Are(bytes),
+        Seen::End(_) => no_string(number::BYTE, at),
         Seen::Refused(r) => Bytes::Refused(r),
-        _ => no_string(at),
+        _ => no_string(number::KIND, at),
     }
 }
 
@@ -63,6 +66,7 @@ pub fn number_at(text: &[u8], at: usize, most: u64) -> Number
     match bencode_walk::look(text, at) {
         Seen::Integer(z, past) => within(z, most, at, past),
         Seen::Long(_, _) => no_number(number::RANGE, at),
+        Seen::End(_) => no_number(number::BYTE, at),
         Seen::Refused(r) => Number::Refused(r),
         _ => no_number(number::KIND, at),
     }
@@ -74,8 +78,9 @@ pub fn list_at(text: &[u8], at: usize) -> Inside
 {
     match bencode_walk::look(text, at) {
         Seen::List(first) => Inside::At(first),
+        Seen::End(_) => nothing_inside(number::BYTE, at),
         Seen::Refused(r) => Inside::Refused(r),
-        _ => nothing_inside(at),
+        _ => nothing_inside(number::KIND, at),
     }
 }
 
@@ -85,59 +90,75 @@ pub fn dictionary_at(text: &[u8], at: usize) -> Inside
 {
     match bencode_walk::look(text, at) {
         Seen::Dictionary(first) => Inside::At(first),
+        Seen::End(_) => nothing_inside(number::BYTE, at),
         Seen::Refused(r) => Inside::Refused(r),
-        _ => nothing_inside(at),
+        _ => nothing_inside(number::KIND, at),
     }
 }
 
 // The string under a key of the dictionary at `dictionary`, where the key was sought; the key missing is refused by 10 there.
 pub fn string_under(text: &[u8], dictionary: usize, sought: Sought) -> Bytes
-    ensures { λ r. ⌜ stringPaper r ≡ needed dictionary (seekPaper sought) (stringOf (now (text .entry))) ⌝ }
+    ensures { λ r. ⌜ stringPaper r ≡ unlessLong (now (text .entry)) (needed dictionary (seekPaper sought) (stringOf (now (text .entry)))) ⌝ }
 {
+    if limit::TEXT < text.len() {
+        return no_string(number::LONG, 0);
+    }
     match sought {
         Sought::Found(_, value) => string_at(text, value),
-        Sought::Missing(_) => no_string(dictionary),
+        Sought::Missing(_) => no_string(number::KIND, dictionary),
         Sought::Refused(r) => Bytes::Refused(r),
     }
 }
 
 // The number under a key, from 0 to the most that is allowed, or 11 at its place; the key missing is 10 at the dictionary.
 pub fn natural_under(text: &[u8], dictionary: usize, sought: Sought, most: u64) -> Natural
-    ensures { λ r. ⌜ naturalPaper r ≡ needed dictionary (seekPaper sought) (naturalOf most (now (text .entry))) ⌝ }
+    ensures { λ r. ⌜ naturalPaper r ≡ unlessLong (now (text .entry)) (needed dictionary (seekPaper sought) (naturalOf most (now (text .entry)))) ⌝ }
 {
+    if limit::TEXT < text.len() {
+        return no_natural(number::LONG, 0);
+    }
     match sought {
         Sought::Found(_, value) => natural_at(text, value, most),
-        Sought::Missing(_) => no_natural(dictionary),
+        Sought::Missing(_) => no_natural(number::KIND, dictionary),
         Sought::Refused(r) => Natural::Refused(r),
     }
 }
 
 // The list under a key; the key missing is 10 at the dictionary.
 pub fn list_under(text: &[u8], dictionary: usize, sought: Sought) -> Inside
-    ensures { λ r. ⌜ insidePaper r ≡ needed dictionary (seekPaper sought) (listOf (now (text .entry))) ⌝ }
+    ensures { λ r. ⌜ insidePaper r ≡ unlessLong (now (text .entry)) (needed dictionary (seekPaper sought) (listOf (now (text .entry)))) ⌝ }
 {
+    if limit::TEXT < text.len() {
+        return nothing_inside(number::LONG, 0);
+    }
     match sought {
         Sought::Found(_, value) => list_at(text, value),
-        Sought::Missing(_) => nothing_inside(dictionary),
+        Sought::Missing(_) => nothing_inside(number::KIND, dictionary),
         Sought::Refused(r) => Inside::Refused(r),
     }
 }
 
 // The dictionary under a key; the key missing is 10 at the dictionary.
 pub fn dictionary_under(text: &[u8], dictionary: usize, sought: Sought) -> Inside
-    ensures { λ r. ⌜ insidePaper r ≡ needed dictionary (seekPaper sought) (dictionaryOf (now (text .entry))) ⌝ }
+    ensures { λ r. ⌜ insidePaper r ≡ unlessLong (now (text .entry)) (needed dictionary (seekPaper sought) (dictionaryOf (now (text .entry)))) ⌝ }
 {
+    if limit::TEXT < text.len() {
+        return nothing_inside(number::LONG, 0);
+    }
     match sought {
         Sought::Found(_, value) => dictionary_at(text, value),
-        Sought::Missing(_) => nothing_inside(dictionary),
+        Sought::Missing(_) => nothing_inside(number::KIND, dictionary),
         Sought::Refused(r) => Inside::Refused(r),
     }
 }
 
 // Where a later key stands, sought from where the search for an earlier one stopped.
 pub fn seek_after(text: &[u8], sought: Sought, key: &[u8]) -> Sought
-    ensures { λ r. ⌜ seekPaper r ≡ soughtAfter (now (text .entry)) (seekPaper sought) (now (key .entry)) ⌝ }
+    ensures { λ r. ⌜ seekPaper r ≡ unlessLong (now (text .entry)) (soughtAfter (now (text .entry)) (seekPaper sought) (now (key .entry))) ⌝ }
 {
+    if limit::TEXT < text.len() {
+        return too_long();
+    }
     match sought {
         Sought::Found(at, _) => bencode_walk::seek(text, at, key),
         Sought::Missing(at) => bencode_walk::seek(text, at, key),
@@ -159,16 +180,16 @@ fn within(z: i64, most: u64, at: usize, past: usize) -> Number
     Number::Is(n, past)
 }
 
-fn no_string(at: usize) -> Bytes
-    ensures { λ r. ⌜ r ≡ Bytes.Refused (record { number = kind; place = at }) ⌝ }
+fn no_string(number: u8, at: usize) -> Bytes
+    ensures { λ r. ⌜ r ≡ Bytes.Refused (record { number = number; place = at }) ⌝ }
 {
-    Bytes::Refused(refusal::refuse(number::KIND, at))
+    Bytes::Refused(refusal::refuse(number, at))
 }
 
-fn no_natural(at: usize) -> Natural
-    ensures { λ r. ⌜ r ≡ Natural.Refused (record { number = kind; place = at }) ⌝ }
+fn no_natural(number: u8, at: usize) -> Natural
+    ensures { λ r. ⌜ r ≡ Natural.Refused (record { number = number; place = at }) ⌝ }
 {
-    Natural::Refused(refusal::refuse(number::KIND, at))
+    Natural::Refused(refusal::refuse(number, at))
 }
 
 fn no_number(number: u8, at: usize) -> Number
@@ -177,8 +198,14 @@ fn no_number(number: u8, at: usize) -> Number
     Number::Refused(refusal::refuse(number, at))
 }
 
-fn nothing_inside(at: usize) -> Inside
-    ensures { λ r. ⌜ r ≡ Inside.Refused (record { number = kind; place = at }) ⌝ }
+fn nothing_inside(number: u8, at: usize) -> Inside
+    ensures { λ r. ⌜ r ≡ Inside.Refused (record { number = number; place = at }) ⌝ }
 {
-    Inside::Refused(refusal::refuse(number::KIND, at))
+    Inside::Refused(refusal::refuse(number, at))
+}
+
+fn too_long() -> Sought
+    ensures { λ r. ⌜ r ≡ Sought.Refused (record { number = 8; place = 0 }) ⌝ }
+{
+    Sought::Refused(refusal::refuse(number::LONG, 0))
 }

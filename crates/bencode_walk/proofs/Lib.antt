@@ -1,4 +1,5 @@
 -- What the proofs of several functions and crates use.
+pub mod Limited
 pub mod Seeing
 pub mod Rest
 pub mod Standing

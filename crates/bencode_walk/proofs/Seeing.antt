@@ -13,7 +13,8 @@ use lib.ListN.{length, getD, take, drop, length-append, length-drop, length-take
 use lib.Seq.{take-all, take-nil, drop-length}
 use borrow.Author.Tests.{ne-eqb, ltb-true, ltb-false}
 use Rattle.refusal.specs.Paper.{Outcome, taken, refused, refusal}
-use Rattle.refusal.specs.Numbers.{cut}
+use Rattle.refusal.specs.Numbers.{cut, long as tooLong}
+use Rattle.refusal.specs.Limits.{mostText}
 use Rattle.refusal.specs.declared.Refusal.{Refusal}
 use Rattle.refusal.proofs.Cases.{no-way}
 use Rattle.bencode_scalar.specs.Written.{signed, inRange}
@@ -30,6 +31,7 @@ use Rattle.bencode.specs.declared.Step.{Step}
 use Rattle.bencode.specs.declared.Step.the-variants.{Past as Passed, Refused as Failed}
 use Rattle.bencode_scalar.proofs.Determined.{whole-inside}
 use Rattle.bencode_walk.specs.Walk.{Head, string, integer, long, list, dictionary, end, stringHead, integerHead, stringSeen, integerSeen, lookAt, lookOf, pastOf}
+use Rattle.bencode_walk.proofs.Limited.{unless-long, unless-short}
 
 -- a string
 module _ (s : List ℕ) (p : ℕ) where
@@ -96,34 +98,41 @@ module _ (p : ℕ) where
   wide s q e = wide-by (drop p s) (integerAt (length s) (drop p s) p 0) (integer-at-sound (length s) (drop p s) p 0) q e
 
 -- by the byte at p
-abbrev byHead : List ℕ → ℕ → List ℕ → Outcome Head
+abbrev pub byHead : List ℕ → ℕ → List ℕ → Outcome Head
 byHead s p l = onHead l (refused cut (length s)) (λ b t. lookAt s p b)
 
 module _ (s : List ℕ) (p : ℕ) where
-  pub look-out : length s ≤ p → refused cut (length s) ≡ lookOf s p
+  pub look-long : mostText < length s → refused tooLong 0 ≡ lookOf s p
   unfolding lookOf
-  look-out h = rw (drop-of-length-le s h)
+  look-long l = unless-long s _ l
 
-  module _ (h : p < length s) where
-    pub look-integer : getD s p 0 ≡ 105 → integerSeen s p ≡ lookOf s p
+  -- of a text that is not too long, the bytes at p alone decide
+  module _ (l : length s ≤ mostText) where
+    pub look-short : byHead s p (drop p s) ≡ lookOf s p
     unfolding lookOf
-    look-integer e = sym (ap (byHead s p) (at-byte s p 105 h e))
+    look-short = unless-short s _ l
 
-    pub look-list : getD s p 0 ≡ 108 → taken (list (p + 1)) ≡ lookOf s p
-    unfolding lookOf
-    look-list e = rw (at-byte s p 108 h e)
+    pub look-out : length s ≤ p → refused cut (length s) ≡ lookOf s p
+    look-out h = sym (ap (byHead s p) (drop-of-length-le s h)) ∙ look-short
 
-    pub look-dictionary : getD s p 0 ≡ 100 → taken (dictionary (p + 1)) ≡ lookOf s p
-    unfolding lookOf
-    look-dictionary e = rw (at-byte s p 100 h e)
+    module _ (h : p < length s) where
+      look-byte : (b : ℕ) → getD s p 0 ≡ b → lookAt s p b ≡ lookOf s p
+      look-byte b e = sym (ap (byHead s p) (at-byte s p b h e)) ∙ look-short
 
-    pub look-end : getD s p 0 ≡ 101 → taken (end (p + 1)) ≡ lookOf s p
-    unfolding lookOf
-    look-end e = rw (at-byte s p 101 h e)
+      pub look-integer : getD s p 0 ≡ 105 → integerSeen s p ≡ lookOf s p
+      look-integer e = look-byte 105 e
 
-    pub look-string : (getD s p 0 ≡ 105 → ⊥) → (getD s p 0 ≡ 108 → ⊥) → (getD s p 0 ≡ 100 → ⊥) → (getD s p 0 ≡ 101 → ⊥) → stringSeen s p ≡ lookOf s p
-    unfolding lookOf
-    look-string i l d e = sym (ap (byHead s p) (at-head s p h) ∙ rw (ne-eqb _ _ i, ne-eqb _ _ l, ne-eqb _ _ d, ne-eqb _ _ e))
+      pub look-list : getD s p 0 ≡ 108 → taken (list (p + 1)) ≡ lookOf s p
+      look-list e = look-byte 108 e
+
+      pub look-dictionary : getD s p 0 ≡ 100 → taken (dictionary (p + 1)) ≡ lookOf s p
+      look-dictionary e = look-byte 100 e
+
+      pub look-end : getD s p 0 ≡ 101 → taken (end (p + 1)) ≡ lookOf s p
+      look-end e = look-byte 101 e
+
+      pub look-string : (getD s p 0 ≡ 105 → ⊥) → (getD s p 0 ≡ 108 → ⊥) → (getD s p 0 ≡ 100 → ⊥) → (getD s p 0 ≡ 101 → ⊥) → stringSeen s p ≡ lookOf s p
+      look-string i o d e = sym (ap (byHead s p) (at-head s p h) ∙ rw (ne-eqb _ _ i, ne-eqb _ _ o, ne-eqb _ _ d, ne-eqb _ _ e)) ∙ look-short
 
 -- the place past a value, by the reader's answer
 abbrev pub byStep : Step → Outcome ℕ

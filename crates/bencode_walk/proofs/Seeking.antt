@@ -1,5 +1,5 @@
 -- The search for a key, as the code goes through it. Assumes nothing.
-use mathlib.Core.Path.{_≡_, refl, sym, ap, _∙_}
+use mathlib.Core.Path.{_≡_, refl, sym, ap, _∙_, subst}
 use mathlib.Core.Bool.{Bool, true, false, cond}
 use mathlib.Core.List.{List, [], _∷_}
 use Prim.Native.Nat.{ℕ, zero, suc, _+_, _<_, _≤_, pred}
@@ -9,12 +9,12 @@ use lib.IntN.{ℤ}
 use lib.ListN.{length, getD, take, drop, length-append, length-drop, drop-of-length-le}
 use borrow.Author.Tests.{lt-ltb, le-ltb, ltb-true, ltb-false}
 use Rattle.refusal.specs.Paper.{Outcome, taken, refused, refusal, then}
-use Rattle.refusal.specs.Numbers.{cut}
+use Rattle.refusal.specs.Limits.{mostText}
 use Rattle.refusal.specs.declared.Refusal.{Refusal}
 use Rattle.refusal.specs.declared.Part.{Part}
 use Rattle.refusal.proofs.Cases.{no-way, by-test}
 use Rattle.bencode_scalar.specs.Written.{decimal, inRange, keyLt}
-use Rattle.bencode_scalar.specs.Reading.{Got, got, bad, onHead, stringAt, integerAt}
+use Rattle.bencode_scalar.specs.Reading.{Got, got, bad, stringAt, integerAt}
 use Rattle.bencode_scalar.proofs.Sound.{Holds, at-left, TextP, string-at-sound}
 use Rattle.bencode.proofs.Complete.{encode-pos}
 use Rattle.bencode.specs.Value.{encode}
@@ -23,6 +23,7 @@ use Rattle.bencode_walk.specs.Walk.{Head, string, integer, long, list, d
 use Rattle.bencode_walk.specs.declared.Next.the-variants.{Key, Close, Refused as Not}
 use Rattle.bencode_walk.specs.declared.Order.the-variants.{Before, Same, After}
 use Rattle.bencode_walk.specs.declared.Past.the-variants.{To, Refused as Bad}
+use Rattle.bencode_walk.proofs.Seeing.{byHead}
 use Rattle.bencode_walk.proofs.Standing.{room, skip-stands}
 
 -- what is seen ends further on, within the text
@@ -53,14 +54,21 @@ look-further s p b h =
     by-test (Further s p) (eqb b 101) (λ e. tt) (λ e.
     string-by s p h (stringAt (length s) (drop p s) p 0) (string-at-sound (length s) (drop p s) p 0 (omega (arith, length-drop p s)))))))
 
-head-further : (s : List ℕ) (p : ℕ) → p ≤ length s → (l : List ℕ) → Further s p (onHead l (refused cut (length s)) (λ b t. lookAt s p b))
+head-further : (s : List ℕ) (p : ℕ) → p ≤ length s → (l : List ℕ) → Further s p (byHead s p l)
 head-further s p h [] = tt
 head-further s p h (b ∷ t) = look-further s p b h
 
--- past the end nothing is due
-entry-out : (s : List ℕ) (p : ℕ) → length s ≤ p → entryOf s p ≡ refused cut (length s)
+-- past the end nothing stands
+nothing-further : (s : List ℕ) (p : ℕ) → length s ≤ p → Further s p (byHead s p (drop p s))
+nothing-further s p h = subst (λ (l : List ℕ). Further s p (byHead s p l)) (sym (drop-of-length-le s h)) tt
+
+seen-further : (s : List ℕ) (p : ℕ) → Further s p (lookOf s p)
 unfolding lookOf
-entry-out s p h = ap (λ (l : List ℕ). then (onHead l (refused cut (length s)) (λ b t. lookAt s p b)) (asEntry p)) (drop-of-length-le s h)
+seen-further s p = by-test (Further s p) (ltb mostText (length s)) (λ e. tt) (λ e. within (ltb p (length s)) refl)
+  where
+    within : (t : Bool) → ltb p (length s) ≡ t → Further s p (byHead s p (drop p s))
+    within true x = head-further s p (omega (arith, ltb-true p (length s) x)) (drop p s)
+    within false x = nothing-further s p (ltb-false p (length s) x)
 
 key-by : (s : List ℕ) (p : ℕ) (o : Outcome Head) → Further s p o → (a m q : ℕ) → then o (asEntry p) ≡ taken (key a m q) → (p < q) × (q ≤ length s)
 key-by s p (taken (string b n r)) h a m q e = let x : r ≡ q = cc in (omega arith, omega arith)
@@ -71,16 +79,9 @@ key-by s p (taken (dictionary r)) h a m q e = absurd (let z : _≡_ {A = ℕ} 0 
 key-by s p (taken (end r)) h a m q e = absurd (let z : _≡_ {A = ℕ} 0 1 = cc in omega arith)
 key-by s p (refused r o) h a m q e = absurd (let z : _≡_ {A = ℕ} 0 1 = cc in omega arith)
 
-key-where : (s : List ℕ) (p a m q : ℕ) → entryOf s p ≡ taken (key a m q) → (t : Bool) → ltb p (length s) ≡ t → (p < q) × (q ≤ length s)
-unfolding lookOf
-key-where s p a m q e true x = key-by s p (lookOf s p) (head-further s p (omega (arith, ltb-true p (length s) x)) (drop p s)) a m q e
-key-where s p a m q e false x =
-    let f = entry-out s p (ltb-false p (length s) x) in
-    absurd (let z : _≡_ {A = ℕ} 0 1 = cc in omega arith)
-
 -- a key's value stands further on, and what follows it further still
 pub key-further : (s : List ℕ) (p a m q : ℕ) → entryOf s p ≡ taken (key a m q) → (p < q) × (q ≤ length s)
-key-further s p a m q e = key-where s p a m q e (ltb p (length s)) refl
+key-further s p a m q e = key-by s p (lookOf s p) (seen-further s p) a m q e
 
 pub skip-further : (s : List ℕ) (p q : ℕ) → skipOf s p ≡ taken q → (p < q) × (q ≤ length s)
 skip-further s p q e =
@@ -142,23 +143,24 @@ module _ (a b : List ℕ) where
 
 module _ (s k : List ℕ) where
   -- one turn of the search
-  seek-open : (f p : ℕ) → length s < p + f → seekOf f s p k ≡ then (entryOf s p) (seekBy s p k (λ q. seekOf (pred f) s q k))
+  seek-open : (f p : ℕ) → 0 < f → seekOf f s p k ≡ then (entryOf s p) (seekBy s p k (λ q. seekOf (pred f) s q k))
   unfolding seekOf
-  seek-open zero p h = sym (ap (λ (o : Outcome NextEntry). then o (seekBy s p k (λ q. seekOf 0 s q k))) (entry-out s p (omega arith)))
+  seek-open zero p h = absurd (omega arith)
   seek-open (suc f) p h = refl
 
   -- the search that began at `at` goes on at p
   pub record Seeking (at p : ℕ) : Type 0 where
     pub left : ℕ
+    pub some : 0 < left
     pub enough : length s < p + left
     pub same : seekOf left s p k ≡ seekOf (suc (length s)) s at k
 
   pub seeking-start : (at : ℕ) → Seeking at at
-  seeking-start at = record { left = suc (length s); enough = omega arith; same = refl }
+  seeking-start at = record { left = suc (length s); some = omega arith; enough = omega arith; same = refl }
 
   module _ (at p : ℕ) (t : Seeking at p) where
     turn : (d : Outcome NextEntry) → d ≡ entryOf s p → then d (seekBy s p k (λ q. seekOf (pred (t .left)) s q k)) ≡ seekOf (suc (length s)) s at k
-    turn d e = ap (λ (o : Outcome NextEntry). then o (seekBy s p k (λ q. seekOf (pred (t .left)) s q k))) e ∙ sym (seek-open (t .left) p (t .enough)) ∙ t .same
+    turn d e = ap (λ (o : Outcome NextEntry). then o (seekBy s p k (λ q. seekOf (pred (t .left)) s q k))) e ∙ sym (seek-open (t .left) p (t .some)) ∙ t .same
 
     pub seek-close : (q : ℕ) → entryPaper (Close q) ≡ entryOf s p → taken (missing p) ≡ seekOf (suc (length s)) s at k
     seek-close q e = turn (entryPaper (Close q)) e
@@ -188,5 +190,5 @@ module _ (s k : List ℕ) where
           let b = skip-further s q next (sym y) in (
             omega arith,
             b .1,
-            record { left = pred (t .left); enough = omega (arith, t .enough); same = ap (λ (o : Outcome ℕ). then o (λ i. seekOf (pred (t .left)) s i k)) y ∙ on (is-before here k x) },
+            record { left = pred (t .left); some = omega (arith, t .enough); enough = omega (arith, t .enough); same = ap (λ (o : Outcome ℕ). then o (λ i. seekOf (pred (t .left)) s i k)) y ∙ on (is-before here k x) },
           )

@@ -2,7 +2,7 @@
 use mathlib.Core.Path.{_≡_, refl, sym, ap, _∙_, subst}
 use mathlib.Core.Bool.{Bool, true, false, cond}
 use mathlib.Core.List.{List, [], _∷_, _++_, append-assoc, append-nil}
-use Prim.Native.Nat.{ℕ, zero, suc, _+_, _-_, _≤_}
+use Prim.Native.Nat.{ℕ, zero, suc, _+_, _-_, _<_, _≤_}
 use native.Mathlib.Omega.{arith}
 use lib.Dec.{ltb, eqb}
 use lib.IntN.{ℤ}
@@ -10,6 +10,9 @@ use lib.ListN.{length, take, drop, length-append, length-drop, drop-of-length-le
 use lib.Seq.{drop-drop, drop-append-seam, take-append-seam}
 use borrow.Author.Tests.{ne-eqb, ltb-true, ltb-false}
 use Rattle.refusal.specs.Paper.{Outcome, taken, refused, then}
+use Rattle.refusal.specs.Numbers.{long}
+use Rattle.refusal.specs.Limits.{mostText}
+use Rattle.refusal.proofs.Cases.{by-test}
 use Rattle.bencode_scalar.specs.Written.{decimal, writtenString, signed, writtenInt}
 use Rattle.bencode_scalar.specs.Reading.{Got, got, bad, onHead, integerOf}
 use Rattle.bencode_scalar.proofs.Decimal.{digit-range}
@@ -17,12 +20,15 @@ use Rattle.bencode_scalar.proofs.Sound.{Holds}
 use Rattle.bencode_scalar.proofs.Complete.{string-complete, int-complete}
 use Rattle.bencode.specs.Value.{Value, Items, Entries, str, int, list, dict, none, item, empty, entry, encode, encodeItems, encodeEntries, count, Keeps, KeepsItems, KeepsEntries, Prev, start, last, follows}
 use Rattle.bencode.specs.Decode.{closes, valueFrom}
+use Rattle.bencode.specs.Answers.{stepOf}
 use Rattle.bencode.specs.Exact.{Fine}
 use Rattle.bencode.proofs.Sound.{Took, value-sound}
 use Rattle.bencode.proofs.Complete.{complete, first-byte}
 use Rattle.bencode_walk.specs.Walk.{Head, string, integer, dictionary, end, integerHead, lookAt, lookOf, asEntry, key, close, entryOf, pastOf, skipOf}
 use Rattle.bencode_walk.specs.Walk as walk
 use Rattle.bencode_walk.specs.Stands.{Stands, StandItems, StandEntries}
+use Rattle.bencode_walk.proofs.Limited.{unless-long, unless-short}
+use Rattle.bencode_walk.proofs.Seeing.{look-short, byStep, past-by}
 
 -- what follows w, where w stands at p
 pub past : (s : List ℕ) (p : ℕ) (w r : List ℕ) → drop p s ≡ w ++ r → drop (p + length w) s ≡ r
@@ -53,39 +59,56 @@ mutual
 
 -- a text that is taken has its value at 0
 pub fine-stands : (s : List ℕ) (v : Value) → Fine s v → Stands s 32 0 v
-fine-stands s v f = record { rest = []; text = f .text ∙ sym (append-nil (encode v)); inside = omega arith; keeps = f .keeps; few = f .few }
+fine-stands s v f = record { rest = []; text = f .text ∙ sym (append-nil (encode v)); inside = omega arith; short = f .short; keeps = f .keeps; few = f .few }
+
+-- of a text that is not too long, the value reader alone decides
+pub skip-short : (s : List ℕ) (p : ℕ) → length s ≤ mostText → pastOf (valueFrom 32 (length s) (drop p s) p 0) ≡ skipOf s p
+unfolding skipOf
+skip-short s p h = unless-short s _ h
+
+-- and its answer is that of skip
+pub value-skipped : (s : List ℕ) (p : ℕ) → length s ≤ mostText → byStep (stepOf (valueFrom 32 (length s) (drop p s) p 0)) ≡ skipOf s p
+value-skipped s p h = past-by (valueFrom 32 (length s) (drop p s) p 0) ∙ skip-short s p h
+
+pub skip-long : (s : List ℕ) (p : ℕ) → mostText < length s → refused long 0 ≡ skipOf s p
+unfolding skipOf
+skip-long s p h = unless-long s _ h
 
 -- skip goes past the value that stands there, and what it goes past stands there
 pub skip-past : (s : List ℕ) (d p : ℕ) (v : Value) → d ≤ 32 → Stands s d p v → skipOf s p ≡ taken (p + length (encode v))
 skip-past s d p v h t =
-    ap (λ (l : List ℕ). pastOf (valueFrom 32 (length s) l p 0)) (t .text)
+    sym (skip-short s p (t .short))
+    ∙ ap (λ (l : List ℕ). pastOf (valueFrom 32 (length s) l p 0)) (t .text)
     ∙ ap pastOf (complete v 32 (length s) (t .rest) p 0 (keeps-more v d 32 h (t .keeps)) (omega (arith, length-drop p s, ap length (t .text), t .inside)) (omega (arith, t .few)))
 
 abbrev Passed : List ℕ → ℕ → Outcome ℕ → Type 0
 Passed s p (taken q) = (v : Value) × Stands s 32 p v × (q ≡ p + length (encode v))
 Passed s p (refused r o) = Unit
 
-passed-by : (s : List ℕ) (p : ℕ) → p ≤ length s → (g : Got Value) → Holds (Took (drop p s) 32 p 0) g → Passed s p (pastOf g)
-passed-by s p h (got v r q m) t = (v, record { rest = r; text = t .at .text; inside = h; keeps = t .keeps; few = omega (arith, t .counted, t .few) }, t .at .place)
-passed-by s p h (bad r q) t = tt
+passed-by : (s : List ℕ) (p : ℕ) → length s ≤ mostText → p ≤ length s → (g : Got Value) → Holds (Took (drop p s) 32 p 0) g → Passed s p (pastOf g)
+passed-by s p l h (got v r q m) t = (v, record { rest = r; text = t .at .text; inside = h; short = l; keeps = t .keeps; few = omega (arith, t .counted, t .few) }, t .at .place)
+passed-by s p l h (bad r q) t = tt
 
-nothing-past : (s : List ℕ) (p : ℕ) → length s ≤ p → Passed s p (skipOf s p)
+nothing-past : (s : List ℕ) (p : ℕ) → length s ≤ p → Passed s p (pastOf (valueFrom 32 (length s) (drop p s) p 0))
 unfolding valueFrom
 nothing-past s p h = subst (λ (l : List ℕ). Passed s p (pastOf (valueFrom 32 (length s) l p 0))) (sym (drop-of-length-le s h)) tt
 
-skip-passed : (s : List ℕ) (p : ℕ) (t : Bool) → ltb p (length s) ≡ t → Passed s p (skipOf s p)
-skip-passed s p true e =
+value-passed : (s : List ℕ) (p : ℕ) → length s ≤ mostText → (t : Bool) → ltb p (length s) ≡ t → Passed s p (pastOf (valueFrom 32 (length s) (drop p s) p 0))
+value-passed s p l true e =
     let h = ltb-true p (length s) e in
-    passed-by s p (omega arith) (valueFrom 32 (length s) (drop p s) p 0) (value-sound 32 (length s) (drop p s) p 0 (omega (arith, length-drop p s)))
-skip-passed s p false e = nothing-past s p (ltb-false p (length s) e)
+    passed-by s p l (omega arith) (valueFrom 32 (length s) (drop p s) p 0) (value-sound 32 (length s) (drop p s) p 0 (omega (arith, length-drop p s)))
+value-passed s p l false e = nothing-past s p (ltb-false p (length s) e)
+
+skip-passed : (s : List ℕ) (p : ℕ) → Passed s p (skipOf s p)
+unfolding skipOf
+skip-passed s p = by-test (Passed s p) (ltb mostText (length s)) (λ e. tt) (λ e. value-passed s p (ltb-false mostText (length s) e) (ltb p (length s)) refl)
 
 pub skip-stands : (s : List ℕ) (p q : ℕ) → skipOf s p ≡ taken q → (v : Value) × Stands s 32 p v × (q ≡ p + length (encode v))
-skip-stands s p q e = subst (Passed s p) e (skip-passed s p (ltb p (length s)) refl)
+skip-stands s p q e = subst (Passed s p) e (skip-passed s p)
 
 -- by what stands at p: b and then t
-look-by : (s : List ℕ) (p b : ℕ) (t : List ℕ) → drop p s ≡ b ∷ t → lookOf s p ≡ lookAt s p b
-unfolding lookOf
-look-by s p b t e = ap (λ (l : List ℕ). onHead l (refused 1 (length s)) (λ c u. lookAt s p c)) e
+look-by : (s : List ℕ) (p b : ℕ) (t : List ℕ) → length s ≤ mostText → drop p s ≡ b ∷ t → lookOf s p ≡ lookAt s p b
+look-by s p b t h e = sym (look-short s p h) ∙ ap (λ (l : List ℕ). onHead l (refused 1 (length s)) (λ c u. lookAt s p c)) e
 
 -- a string's bytes
 pub record Bytes (s : List ℕ) (p : ℕ) (bs : List ℕ) : Type 0 where
@@ -93,8 +116,8 @@ pub record Bytes (s : List ℕ) (p : ℕ) (bs : List ℕ) : Type 0 where
   pub seen : lookOf s p ≡ taken (string from (length bs) (p + length (writtenString bs)))
   pub bytes : take (length bs) (drop from s) ≡ bs
 
-look-written : (s : List ℕ) (p : ℕ) (bs r : List ℕ) → p ≤ length s → drop p s ≡ writtenString bs ++ r → Bytes s p bs
-look-written s p bs r h e =
+look-written : (s : List ℕ) (p : ℕ) (bs r : List ℕ) → length s ≤ mostText → p ≤ length s → drop p s ≡ writtenString bs ++ r → Bytes s p bs
+look-written s p bs r l h e =
     let y = string-complete (length s) bs r p (omega (arith, length-drop p s, ap length e)) in
     let f : drop p s ≡ y .first ∷ y .rest = e ∙ y .text in
     let d = digit-range (y .first) (y .starts) in
@@ -103,19 +126,19 @@ look-written s p bs r h e =
     let g : drop p s ≡ (decimal (length bs) ++ 58 ∷ []) ++ (bs ++ r) = e ∙ append-assoc (decimal (length bs)) (58 ∷ bs) r ∙ sym (append-assoc (decimal (length bs)) (58 ∷ []) (bs ++ r)) in
     record {
       from = p + length (writtenString bs) - length bs;
-      seen = look-by s p (y .first) (y .rest) f ∙ rw (ne-eqb (y .first) 105 (omega arith), ne-eqb (y .first) 108 (omega arith), ne-eqb (y .first) 100 (omega arith), ne-eqb (y .first) 101 (omega arith), f, y .starts, y .reads 0);
+      seen = look-by s p (y .first) (y .rest) l f ∙ rw (ne-eqb (y .first) 105 (omega arith), ne-eqb (y .first) 108 (omega arith), ne-eqb (y .first) 100 (omega arith), ne-eqb (y .first) 101 (omega arith), f, y .starts, y .reads 0);
       bytes = ap (λ (i : ℕ). take (length bs) (drop i s)) a ∙ ap (take (length bs)) (past s p (decimal (length bs) ++ 58 ∷ []) (bs ++ r) g) ∙ take-append-seam bs r;
     }
 
 module _ (s : List ℕ) (d p : ℕ) where
   pub string-stands : (bs : List ℕ) → Stands s d p (str bs) → Bytes s p bs
   unfolding encode
-  string-stands bs t = look-written s p bs (t .rest) (t .inside) (t .text)
+  string-stands bs t = look-written s p bs (t .rest) (t .short) (t .inside) (t .text)
 
   pub integer-stands : (z : ℤ) → Stands s d p (int z) → lookOf s p ≡ taken (integer z (p + length (writtenInt z)))
   unfolding encode Keeps
   integer-stands z t =
-      look-by s p 105 ((signed z ++ 101 ∷ []) ++ t .rest) (t .text)
+      look-by s p 105 ((signed z ++ 101 ∷ []) ++ t .rest) (t .short) (t .text)
       ∙ ap (λ (l : List ℕ). integerHead p (onHead l (bad 1 (length s)) (λ b u. cond (eqb b 105) (integerOf (length s) u (p + 1) 0) (bad 2 p)))) (t .text)
       ∙ ap (integerHead p) (int-complete (length s) p z (t .rest) 0)
       ∙ rw (t .keeps)
@@ -124,41 +147,41 @@ module _ (s : List ℕ) (d p : ℕ) where
   pub list-stands : (vs : Items) → Stands s d p (list vs) → (lookOf s p ≡ taken (walk.list (p + 1))) × ((e : ℕ) × (d ≡ suc e) × StandItems s e (p + 1) vs)
   unfolding encode Keeps count
   list-stands vs t = (
-    look-by s p 108 (encodeItems vs ++ t .rest) (t .text),
+    look-by s p 108 (encodeItems vs ++ t .rest) (t .short) (t .text),
     (
       t .keeps .0,
       t .keeps .1,
-      record { rest = t .rest; text = past s p (108 ∷ []) (encodeItems vs ++ t .rest) (t .text); inside = room s p (108 ∷ []) (encodeItems vs ++ t .rest) (t .inside) (t .text); keeps = t .keeps .2; few = omega (arith, t .few) },
+      record { rest = t .rest; text = past s p (108 ∷ []) (encodeItems vs ++ t .rest) (t .text); inside = room s p (108 ∷ []) (encodeItems vs ++ t .rest) (t .inside) (t .text); short = t .short; keeps = t .keeps .2; few = omega (arith, t .few) },
     ),
   )
 
   pub items-end : StandItems s d p none → lookOf s p ≡ taken (end (p + 1))
   unfolding encode
-  items-end t = look-by s p 101 (t .rest) (t .text)
+  items-end t = look-by s p 101 (t .rest) (t .short) (t .text)
 
   pub items-next : (v : Value) (vs : Items) → StandItems s d p (item v vs) → Stands s d p v × StandItems s d (p + length (encode v)) vs
   unfolding encode Keeps count
   items-next v vs t =
       let e : drop p s ≡ encode v ++ (encodeItems vs ++ t .rest) = t .text ∙ append-assoc (encode v) (encodeItems vs) (t .rest) in (
-        record { rest = encodeItems vs ++ t .rest; text = e; inside = t .inside; keeps = t .keeps .0; few = omega (arith, t .few) },
-        record { rest = t .rest; text = past s p (encode v) (encodeItems vs ++ t .rest) e; inside = room s p (encode v) (encodeItems vs ++ t .rest) (t .inside) e; keeps = t .keeps .1; few = omega (arith, t .few) },
+        record { rest = encodeItems vs ++ t .rest; text = e; inside = t .inside; short = t .short; keeps = t .keeps .0; few = omega (arith, t .few) },
+        record { rest = t .rest; text = past s p (encode v) (encodeItems vs ++ t .rest) e; inside = room s p (encode v) (encodeItems vs ++ t .rest) (t .inside) e; short = t .short; keeps = t .keeps .1; few = omega (arith, t .few) },
       )
 
   -- a dictionary, and its entries
   pub dictionary-stands : (es : Entries) → Stands s d p (dict es) → (lookOf s p ≡ taken (dictionary (p + 1))) × ((e : ℕ) × (d ≡ suc e) × StandEntries s e (p + 1) start es)
   unfolding encode Keeps count
   dictionary-stands es t = (
-    look-by s p 100 (encodeEntries es ++ t .rest) (t .text),
+    look-by s p 100 (encodeEntries es ++ t .rest) (t .short) (t .text),
     (
       t .keeps .0,
       t .keeps .1,
-      record { rest = t .rest; text = past s p (100 ∷ []) (encodeEntries es ++ t .rest) (t .text); inside = room s p (100 ∷ []) (encodeEntries es ++ t .rest) (t .inside) (t .text); keeps = t .keeps .2; few = omega (arith, t .few) },
+      record { rest = t .rest; text = past s p (100 ∷ []) (encodeEntries es ++ t .rest) (t .text); inside = room s p (100 ∷ []) (encodeEntries es ++ t .rest) (t .inside) (t .text); short = t .short; keeps = t .keeps .2; few = omega (arith, t .few) },
     ),
   )
 
   pub entries-end : (before : Prev) → StandEntries s d p before empty → entryOf s p ≡ taken (close (p + 1))
   unfolding encode
-  entries-end before t = ap (λ (o : Outcome Head). then o (asEntry p)) (look-by s p 101 (t .rest) (t .text))
+  entries-end before t = ap (λ (o : Outcome Head). then o (asEntry p)) (look-by s p 101 (t .rest) (t .short) (t .text))
 
   -- the next entry: its key's bytes, its value at the place past the key, and the entries after it
   pub record Entered (before : Prev) (k : List ℕ) (v : Value) (es : Entries) : Type 0 where
@@ -176,17 +199,18 @@ module _ (s : List ℕ) (d p : ℕ) where
       t .text ∙ append-assoc (writtenString k) (encode v ++ encodeEntries es) (t .rest) ∙ ap (λ (l : List ℕ). writtenString k ++ l) (append-assoc (encode v) (encodeEntries es) (t .rest)) in
       let f = past s p (writtenString k) (encode v ++ (encodeEntries es ++ t .rest)) e in
       let i = room s p (writtenString k) (encode v ++ (encodeEntries es ++ t .rest)) (t .inside) e in
-      let b = look-written s p k (encode v ++ (encodeEntries es ++ t .rest)) (t .inside) e in
+      let b = look-written s p k (encode v ++ (encodeEntries es ++ t .rest)) (t .short) (t .inside) e in
       record {
         from = b .from;
         seen = ap (λ (o : Outcome Head). then o (asEntry p)) (b .seen);
         bytes = b .bytes;
         greater = t .keeps .0;
-        value = record { rest = encodeEntries es ++ t .rest; text = f; inside = i; keeps = t .keeps .1; few = omega (arith, t .few) };
+        value = record { rest = encodeEntries es ++ t .rest; text = f; inside = i; short = t .short; keeps = t .keeps .1; few = omega (arith, t .few) };
         others = record {
           rest = t .rest;
           text = past s (p + length (writtenString k)) (encode v) (encodeEntries es ++ t .rest) f;
           inside = room s (p + length (writtenString k)) (encode v) (encodeEntries es ++ t .rest) i f;
+          short = t .short;
           keeps = t .keeps .2;
           few = omega (arith, t .few);
         };

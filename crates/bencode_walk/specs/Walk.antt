@@ -11,7 +11,7 @@ use Rattle.refusal.specs.Limits.{mostLevels}
 use Rattle.bencode_scalar.specs.Written.{inRange, keyLt}
 use Rattle.bencode_scalar.specs.Reading.{Got, got, bad, onHead, stringAt, integerAt}
 use Rattle.bencode.specs.Value.{Value}
-use Rattle.bencode.specs.Decode.{valueFrom}
+use Rattle.bencode.specs.Decode.{valueFrom, unlessLong}
 use Rattle.bencode_walk.specs.declared.Seen.{Seen}
 use Rattle.bencode_walk.specs.declared.Seen.the-variants.{String, Integer, Long, List as ListSeen, Dictionary, End, Refused}
 use Rattle.bencode_walk.specs.declared.Next.{Next}
@@ -67,8 +67,9 @@ lookAt s p b =
     (cond (eqb b 101) (taken (end (p + 1)))
     (stringSeen s p))))
 
+-- what `look` is to answer
 unfoldable pub lookOf : List ℕ → ℕ → Outcome Head
-lookOf s p = onHead (drop p s) (refused cut (length s)) (λ b t. lookAt s p b)
+lookOf s p = unlessLong s (onHead (drop p s) (refused cut (length s)) (λ b t. lookAt s p b))
 
 -- what stands where an entry is due: a key's bytes and the place of its value, or the end and the place past it
 pub data NextEntry : Type 0 where
@@ -100,8 +101,8 @@ abbrev pub pastOf : Got Value → Outcome ℕ
 pastOf (got v l q n) = taken q
 pastOf (bad r p) = refused r p
 
-abbrev pub skipOf : List ℕ → ℕ → Outcome ℕ
-skipOf s p = pastOf (valueFrom mostLevels (length s) (drop p s) p 0)
+unfoldable pub skipOf : List ℕ → ℕ → Outcome ℕ
+skipOf s p = unlessLong s (pastOf (valueFrom mostLevels (length s) (drop p s) p 0))
 
 -- where a key was found, by the places of its entry and its value; or where it would stand
 pub data Hit : Type 0 where

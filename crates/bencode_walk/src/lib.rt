@@ -1,5 +1,6 @@
 // A walk over a bencode text: what stands at a place, and where the next thing stands. Every call answers for any text
-// and any place; on a text that `bencode::check` has taken, what it tells is the text's value, part by part.
+// and any place, for a text that is too long by 8; on one that `bencode::check` has taken, what it tells is the text's
+// value, part by part.
 ghost use mathlib.Core.Path.{_≡_};
 ghost use Prim.Native.Nat.{suc, _+_, _-_, _≤_, min};
 ghost use lib.ListN.{length};
@@ -58,6 +59,9 @@ enum Order {
 pub fn look(text: &[u8], at: usize) -> Seen
     ensures { λ r. ⌜ paper r ≡ lookOf (now (text .entry)) at ⌝ }
 {
+    if limit::TEXT < text.len() {
+        return refused(number::LONG, 0);
+    }
     if text.len() <= at {
         return refused(number::CUT, text.len());
     }
@@ -115,6 +119,9 @@ pub fn seek(text: &[u8], at: usize, key: &[u8]) -> Sought
 pub fn skip(text: &[u8], at: usize) -> Past
     ensures { λ r. ⌜ pastPaper r ≡ skipOf (now (text .entry)) at ⌝ }
 {
+    if limit::TEXT < text.len() {
+        return too_long();
+    }
     match bencode::value(text, Cursor { at, count: 0 }, limit::LEVELS) {
         Step::Past(c) => Past::To(c.at),
         Step::Refused(r) => Past::Refused(r),
@@ -170,6 +177,12 @@ fn refused(number: u8, place: usize) -> Seen
     ensures { λ r. ⌜ r ≡ Seen.Refused (record { number = number; place = place }) ⌝ }
 {
     Seen::Refused(refusal::refuse(number, place))
+}
+
+fn too_long() -> Past
+    ensures { λ r. ⌜ r ≡ Past.Refused (record { number = 8; place = 0 }) ⌝ }
+{
+    Past::Refused(refusal::refuse(number::LONG, 0))
 }
 
 // Two keys, by one pass over their bytes.

@@ -12,6 +12,7 @@ use Prim.Native.Nat.{ℕ, suc, _+_, _-_, _*_, _≤_, _<_, min}
 use lib.IntN.{ℤ, pos}
 use lib.ListN.{length, getD, take, drop}
 use Rattle.refusal.specs.BigEndian.{Bytes}
+use Rattle.refusal.specs.Limits.{mostText}
 use Rattle.refusal.specs.Paper.{taken, refused, map}
 use Rattle.refusal.specs.Parts.{bytesAt}
 use Rattle.refusal.specs.declared.Part.{Part}
@@ -242,15 +243,15 @@ module _ (text : Lent (List ℕ)) (n : ℕ) (r : file.Found) (c : contents.file-
       × FilesPlaced (x .content .place + 1) vs l × (nth n l ≡ taken e)
   file-place = places.many-placed (before text) n es k x (sym d ∙ t) e (sym c ∙ h)
 
--- of torrent_contents::element_at, from the place of a path on (`PathAt`, by which file-exact tells it): the first element, as a part of the text, and the place of the
--- others; then the end
-module _ (text : Lent (List ℕ)) (at : ℕ) (r : Element) (c : contents.element-at-ensures text at r) where
+-- of torrent_contents::element_at, from the place of a path on (`PathAt`, by which file-exact tells it) in a text that is not too long: the first element, as a part of the
+-- text, and the place of the others; then the end
+module _ (text : Lent (List ℕ)) (short : length (before text) ≤ mostText) (at : ℕ) (r : Element) (c : contents.element-at-ensures text at r) where
   pub path-next : (x : List ℕ) (l : List (List ℕ)) → PathAt (before text) at (x ∷ l) → GoodName x
       → (p : Part) × (elementPaper r ≡ taken (element p (at + length (writtenString x)))) × (bytesAt (before text) p ≡ x) × PathAt (before text) (at + length (writtenString x)) l
-  path-next x l t g = let y = paths.path-next (before text) at x l t g in (y .0, c ∙ y .1, y .2, y .3)
+  path-next x l t g = let y = paths.path-next (before text) at short x l t g in (y .0, c ∙ y .1, y .2, y .3)
 
   pub path-end : PathAt (before text) at [] → elementPaper r ≡ taken (done (at + 1))
-  path-end t = c ∙ paths.path-end (before text) at t
+  path-end t = c ∙ paths.path-end (before text) at short t
 
 -- a value says one thing as a torrent
 pub torrent-says-one : (s : List ℕ) (v : Value) (t u : TorrentSays) → Encodes s v → IsTorrent v t → IsTorrent v u → t ≡ u

@@ -1,24 +1,29 @@
--- A look at a place of any text refuses by few numbers: those of what is read there, and those of what it is asked to be. Assumes nothing.
-use mathlib.Core.Path.{_≡_, refl, subst}
+-- A look at a place of any text refuses by few numbers: 8, exactly where the text is too long, those of what is read there, and those of what it is asked to be. Assumes nothing.
+use mathlib.Core.Path.{_≡_, refl, sym, ap, _∙_, subst}
 use mathlib.Core.Bool.{Bool, true, false}
+use mathlib.Core.Logic.{_↔_}
 use mathlib.Core.List.{List, [], _∷_, List·Memᴰ·head, List·Memᴰ·tail, List·Memᴰ as In}
-use Prim.Native.Nat.{ℕ, zero, suc, _+_, _-_}
+use Prim.Native.Nat.{ℕ, zero, suc, _+_, _-_, _<_}
+use native.Mathlib.Omega.{arith}
 use lib.Dec.{ltb, leb, eqb}
 use lib.IntN.{ℤ, pos, negsuc}
 use lib.ListN.{length, take, drop}
+use borrow.Author.Tests.{ltb-true, eqb-false}
 use Rattle.refusal.specs.Numbers as no
-use Rattle.refusal.specs.Limits.{mostValues, mostLevels, longestFile, largestPort}
+use Rattle.refusal.specs.Limits.{mostText, mostValues, mostLevels, longestFile, largestPort}
 use Rattle.refusal.specs.Paper.{Outcome, taken, refused, map, then}
-use Rattle.refusal.proofs.Cases.{by-test, no-way}
+use Rattle.refusal.proofs.Cases.{by-test, less-or, no-way}
+use Rattle.refusal.proofs.Outcomes.{same-refusal}
 use Rattle.bencode_scalar.specs.Written.{inRange, keyLt}
 use Rattle.bencode_scalar.specs.Reading.{Got, got, bad, andThen, mapGot, onHead, isDigit, numVal, numLen, colonOf, stringOf, integerEnd, closedOf, minusAt, integerOf}
 use Rattle.bencode_scalar.specs.Reading.{stringAt as stringRead, integerAt as integerRead}
 use Rattle.bencode.specs.Value.{Value, Items, Entries, str, int, list, dict, none, item, entry, Prev, start, last, follows, encode}
-use Rattle.bencode.specs.Decode.{Kind, digit, letterI, letterL, letterD, other, kindOf, begin, valueBy, closes, itemsBy, itemsOf, ordered, keyOf, entriesBy, entriesOf, valueFrom}
+use Rattle.bencode.specs.Decode.{Kind, digit, letterI, letterL, letterD, other, kindOf, begin, valueBy, closes, itemsBy, itemsOf, ordered, keyOf, entriesBy, entriesOf, valueFrom, unlessLong}
 use Rattle.bencode.specs.Decode.{ranged as readRanged}
 use Rattle.bencode_laws.proofs.Fails.{Fails, fails-map}
 use Rattle.bencode_walk.specs.Walk as walk
 use Rattle.bencode_walk.specs.Walk.{Head, stringHead, integerHead, lookAt, lookOf, NextEntry, key, close, asEntry, entryOf, pastOf, skipOf, Hit, found, missing, seekBy, seekOf}
+use Rattle.bencode_walk.proofs.Limited.{unless-long, Limited, limited, limited-then, limited-look, limited-entry, limited-skip, limited-seek}
 use Rattle.bencode_walk.specs.Lookup.{Under, nothing, under, lookup}
 use Rattle.bencode_fields.specs.Looks.{ranged, stringIn, naturalIn, dictionaryIn, naturalOf, dictionaryOf, hitAt, needed, soughtFrom, soughtAfter, stopped}
 use Rattle.bencode_fields.specs.Looks.{stringOf as fieldString}
@@ -30,34 +35,41 @@ use Rattle.torrent_contents.specs.Paths.{elementIn, elementOf}
 use Rattle.tracker.specs.Keys.{ip as ipKey, peerId as idKey, port as portKey}
 use Rattle.tracker.specs.Entries.{packedAt, idLength, idOf, peerFrom, peerBy, listedAt}
 
--- a refusal, if there is one, is by a number of the list
-abbrev Among : {A : Type 0} → List ℕ → Outcome A → Type 0
-Among ns (taken x) = Unit
-Among ns (refused n p) = In n ns
+-- a refusal, if there is one, is by a number of which P holds
+abbrev Among : {A : Type 0} → (ℕ → Type 0) → Outcome A → Type 0
+Among P (taken x) = Unit
+Among P (refused n p) = P n
 
-module _ (ns : List ℕ) where
-  given : {A : Type 0} (o : Outcome A) → Among ns o → (k p : ℕ) → o ≡ refused k p → In k ns
+module _ (P : ℕ → Type 0) where
+  given : {A : Type 0} (o : Outcome A) → Among P o → (k p : ℕ) → o ≡ refused k p → P k
   given (taken x) h k p e = no-way (cc)
-  given (refused n q) h k p e = let d : n ≡ k = cc in subst (λ (m : ℕ). In m ns) d h
+  given (refused n q) h k p e = let d : n ≡ k = cc in subst P d h
 
-  after-map : {A B : Type 0} (f : A → B) (o : Outcome A) → Among ns o → Among ns (map f o)
+  after-map : {A B : Type 0} (f : A → B) (o : Outcome A) → Among P o → Among P (map f o)
   after-map f (taken x) h = tt
   after-map f (refused n p) h = h
 
-  after : {A B : Type 0} (o : Outcome A) (f : A → Outcome B) → Among ns o → ((x : A) → Among ns (f x)) → Among ns (then o f)
+  after : {A B : Type 0} (o : Outcome A) (f : A → Outcome B) → Among P o → ((x : A) → Among P (f x)) → Among P (then o f)
   after (taken x) f h k = k x
   after (refused n p) f h k = h
 
   abbrev Given : ℕ → ℕ → Type 0
-  Given n p = In n ns
+  Given n p = P n
 
   after-got : {A B : Type 0} (g : Got A) (f : A → List ℕ → ℕ → ℕ → Got B) → Fails Given g → ((v : A) (l : List ℕ) (q m : ℕ) → Fails Given (f v l q m)) → Fails Given (andThen g f)
   after-got (got v l q m) f h k = k v l q m
   after-got (bad r p) f h k = h
 
+  -- a text that is too long: 8
+  abbrev Eight : List ℕ → Type 0
+  Eight s = mostText < length s → P no.long
+
+  unless : {A : Type 0} (s : List ℕ) (o : Outcome A) → Eight s → Among P o → Among P (unlessLong s o)
+  unless s o eight h = by-test (Among P) (ltb mostText (length s)) (λ e. eight (ltb-true mostText (length s) e)) (λ e. h)
+
   -- ---- strings, integers and what stands at a place: 1, 2
 
-  module _ (one : In no.cut ns) (two : In no.byte ns) where
+  module _ (one : P no.cut) (two : P no.byte) where
     colon : (e p m : ℕ) (l : List ℕ) (n : ℕ) → Fails Given (colonOf e p m l n)
     colon e p m [] n = one
     colon e p m (c ∷ t) n = by-test (Fails Given) (eqb c 58) (λ x. by-test (Fails Given) (leb m (e - (p + 1))) (λ y. tt) (λ y. one)) (λ x. two)
@@ -92,31 +104,31 @@ module _ (ns : List ℕ) where
     integer-read e [] p n = one
     integer-read e (b ∷ t) p n = by-test (Fails Given) (eqb b 105) (λ x. integer e t (p + 1) n) (λ x. two)
 
-    string-head : (g : Got (List ℕ)) → Fails Given g → Among ns (stringHead g)
+    string-head : (g : Got (List ℕ)) → Fails Given g → Among P (stringHead g)
     string-head (got k l q n) h = tt
     string-head (bad r p) h = h
 
-    integer-head : (o : ℕ) (g : Got ℤ) → Fails Given g → Among ns (integerHead o g)
+    integer-head : (o : ℕ) (g : Got ℤ) → Fails Given g → Among P (integerHead o g)
     integer-head o (got z l q n) h = tt
     integer-head o (bad r p) h = h
 
-    look-at : (s : List ℕ) (p b : ℕ) → Among ns (lookAt s p b)
+    look-at : (s : List ℕ) (p b : ℕ) → Among P (lookAt s p b)
     look-at s p b =
-        by-test (Among ns) (eqb b 105) (λ x. integer-head p (integerRead (length s) (drop p s) p 0) (integer-read (length s) (drop p s) p 0))
-        (λ x. by-test (Among ns) (eqb b 108) (λ y. tt)
-        (λ y. by-test (Among ns) (eqb b 100) (λ z. tt)
-        (λ z. by-test (Among ns) (eqb b 101) (λ w. tt)
+        by-test (Among P) (eqb b 105) (λ x. integer-head p (integerRead (length s) (drop p s) p 0) (integer-read (length s) (drop p s) p 0))
+        (λ x. by-test (Among P) (eqb b 108) (λ y. tt)
+        (λ y. by-test (Among P) (eqb b 100) (λ z. tt)
+        (λ z. by-test (Among P) (eqb b 101) (λ w. tt)
         (λ w. string-head (stringRead (length s) (drop p s) p 0) (string-read (length s) (drop p s) p 0)))))
 
-    looked : (s : List ℕ) (p : ℕ) → Among ns (lookOf s p)
+    looked : (s : List ℕ) → Eight s → (p : ℕ) → Among P (lookOf s p)
     unfolding lookOf
-    looked s p = go (drop p s)
+    looked s eight p = unless s _ eight (go (drop p s))
       where
-        go : (l : List ℕ) → Among ns (onHead l (refused no.cut (length s)) (λ b t. lookAt s p b))
+        go : (l : List ℕ) → Among P (onHead l (refused no.cut (length s)) (λ b t. lookAt s p b))
         go [] = one
         go (b ∷ t) = look-at s p b
 
-    as-entry : (p : ℕ) (h : Head) → Among ns (asEntry p h)
+    as-entry : (p : ℕ) (h : Head) → Among P (asEntry p h)
     as-entry p (walk.string a m q) = tt
     as-entry p (walk.integer z q) = two
     as-entry p (walk.long a m q) = two
@@ -124,12 +136,12 @@ module _ (ns : List ℕ) where
     as-entry p (walk.dictionary q) = two
     as-entry p (walk.end q) = tt
 
-    entered : (s : List ℕ) (p : ℕ) → Among ns (entryOf s p)
-    entered s p = after (lookOf s p) (asEntry p) (looked s p) (as-entry p)
+    entered : (s : List ℕ) → Eight s → (p : ℕ) → Among P (entryOf s p)
+    entered s eight p = after (lookOf s p) (asEntry p) (looked s eight p) (as-entry p)
 
     -- ---- values: 3 to 6 too
 
-    module _ (three : In no.order ns) (four : In no.integer ns) (five : In no.deep ns) (six : In no.many ns) where
+    module _ (three : P no.order) (four : P no.integer) (five : P no.deep) (six : P no.many) where
       begins : {A : Type 0} (n p : ℕ) (g : Got A) → Fails Given g → Fails Given (begin n p g)
       begins n p g h = by-test (Fails Given) (ltb n mostValues) (λ x. h) (λ x. six)
 
@@ -187,83 +199,85 @@ module _ (ns : List ℕ) where
           (λ l q m. items e (valueFrom d e) (value-read d e) (suc e) l q m)
           (λ l q m. entries e (valueFrom d e) (value-read d e) (suc e) start l q m)
 
-      past-of : (g : Got Value) → Fails Given g → Among ns (pastOf g)
+      past-of : (g : Got Value) → Fails Given g → Among P (pastOf g)
       past-of (got v l q n) h = tt
       past-of (bad r p) h = h
 
-      skipped : (s : List ℕ) (p : ℕ) → Among ns (skipOf s p)
-      skipped s p = past-of (valueFrom mostLevels (length s) (drop p s) p 0) (value-read mostLevels (length s) (drop p s) p 0)
+      skipped : (s : List ℕ) → Eight s → (p : ℕ) → Among P (skipOf s p)
+      unfolding skipOf
+      skipped s eight p = unless s _ eight (past-of (valueFrom mostLevels (length s) (drop p s) p 0) (value-read mostLevels (length s) (drop p s) p 0))
 
-      value-in : (g : Got Value) → Fails Given g → Among ns (valueIn g)
+      value-in : (g : Got Value) → Fails Given g → Among P (valueIn g)
       value-in (got v l q n) h = tt
       value-in (bad r p) h = h
 
-      value-at : (s : List ℕ) (p : ℕ) → Among ns (valueAt s p)
-      value-at s p = value-in (valueFrom mostLevels (length s) (drop p s) p 0) (value-read mostLevels (length s) (drop p s) p 0)
+      value-at : (s : List ℕ) → Eight s → (p : ℕ) → Among P (valueAt s p)
+      unfolding valueAt
+      value-at s eight p = unless s _ eight (value-in (valueFrom mostLevels (length s) (drop p s) p 0) (value-read mostLevels (length s) (drop p s) p 0))
 
       -- a key that is sought
-      seek-by : (s : List ℕ) (p : ℕ) (k : List ℕ) (on : ℕ → Outcome Hit) → ((q : ℕ) → Among ns (on q)) → (x : NextEntry) → Among ns (seekBy s p k on x)
-      seek-by s p k on h (key a m q) = by-test (Among ns) (keyLt (take m (drop a s)) k) (λ x. after (skipOf s q) on (skipped s q) h) (λ x. tt)
-      seek-by s p k on h (close q) = tt
+      seek-by : (s : List ℕ) → Eight s → (p : ℕ) (k : List ℕ) (on : ℕ → Outcome Hit) → ((q : ℕ) → Among P (on q)) → (x : NextEntry) → Among P (seekBy s p k on x)
+      seek-by s eight p k on h (key a m q) = by-test (Among P) (keyLt (take m (drop a s)) k) (λ x. after (skipOf s q) on (skipped s eight q) h) (λ x. tt)
+      seek-by s eight p k on h (close q) = tt
 
-      sought : (f : ℕ) (s : List ℕ) (p : ℕ) (k : List ℕ) → Among ns (seekOf f s p k)
+      sought : (f : ℕ) (s : List ℕ) → Eight s → (p : ℕ) (k : List ℕ) → Among P (seekOf f s p k)
       unfolding seekOf
-      sought zero s p k = one
-      sought (suc f) s p k = after (entryOf s p) _ (entered s p) (seek-by s p k (λ q. seekOf f s q k) (λ q. sought f s q k))
+      sought zero s eight p k = one
+      sought (suc f) s eight p k = after (entryOf s p) _ (entered s eight p) (seek-by s eight p k (λ q. seekOf f s q k) (λ q. sought f s eight q k))
 
   -- ---- values that are asked to be of a kind: 10, 11
 
-  module _ (ten : In no.kind ns) where
-    as-string : (p : ℕ) (h : Head) → Among ns (stringIn p h)
-    as-string p (walk.string a m q) = tt
-    as-string p (walk.integer z q) = ten
-    as-string p (walk.long a m q) = ten
-    as-string p (walk.list q) = ten
-    as-string p (walk.dictionary q) = ten
-    as-string p (walk.end q) = ten
+  module _ (ten : P no.kind) where
+    as-string : P no.byte → (p : ℕ) (h : Head) → Among P (stringIn p h)
+    as-string two p (walk.string a m q) = tt
+    as-string two p (walk.integer z q) = ten
+    as-string two p (walk.long a m q) = ten
+    as-string two p (walk.list q) = ten
+    as-string two p (walk.dictionary q) = ten
+    as-string two p (walk.end q) = two
 
-    as-dictionary : (p : ℕ) (h : Head) → Among ns (dictionaryIn p h)
-    as-dictionary p (walk.string a m q) = ten
-    as-dictionary p (walk.integer z q) = ten
-    as-dictionary p (walk.long a m q) = ten
-    as-dictionary p (walk.list q) = ten
-    as-dictionary p (walk.dictionary q) = tt
-    as-dictionary p (walk.end q) = ten
+    as-dictionary : P no.byte → (p : ℕ) (h : Head) → Among P (dictionaryIn p h)
+    as-dictionary two p (walk.string a m q) = ten
+    as-dictionary two p (walk.integer z q) = ten
+    as-dictionary two p (walk.long a m q) = ten
+    as-dictionary two p (walk.list q) = ten
+    as-dictionary two p (walk.dictionary q) = tt
+    as-dictionary two p (walk.end q) = two
 
-    hit : {A : Type 0} (d : ℕ) (f : ℕ → Outcome A) → ((q : ℕ) → Among ns (f q)) → (h : Hit) → Among ns (hitAt d f h)
+    hit : {A : Type 0} (d : ℕ) (f : ℕ → Outcome A) → ((q : ℕ) → Among P (f q)) → (h : Hit) → Among P (hitAt d f h)
     hit d f k (found p q) = k q
     hit d f k (missing p) = ten
 
-    list-at : (p : ℕ) (v : Value) → Among ns (listAt p v)
+    list-at : (p : ℕ) (v : Value) → Among P (listAt p v)
     list-at p (str bs) = ten
     list-at p (int z) = ten
     list-at p (list vs) = tt
     list-at p (dict es) = ten
 
-    dictionary-at : (p : ℕ) (v : Value) → Among ns (dictionaryAt p v)
+    dictionary-at : (p : ℕ) (v : Value) → Among P (dictionaryAt p v)
     dictionary-at p (str bs) = ten
     dictionary-at p (int z) = ten
     dictionary-at p (list vs) = ten
     dictionary-at p (dict es) = tt
 
-    needs : {A : Type 0} (d : ℕ) (u : Under) (f : ℕ → Value → Outcome A) → ((p : ℕ) (v : Value) → Among ns (f p v)) → Among ns (must d u f)
+    needs : {A : Type 0} (d : ℕ) (u : Under) (f : ℕ → Value → Outcome A) → ((p : ℕ) (v : Value) → Among P (f p v)) → Among P (must d u f)
     needs d nothing f h = ten
     needs d (under p v) f h = h p v
 
-    module _ (eleven : In no.range ns) where
-      within : (most p : ℕ) (z : ℤ) → Among ns (ranged most p z)
-      within most p (pos n) = by-test (Among ns) (leb n most) (λ x. tt) (λ x. eleven)
+    module _ (eleven : P no.range) where
+      within : (most p : ℕ) (z : ℤ) → Among P (ranged most p z)
+      within most p (pos n) = by-test (Among P) (leb n most) (λ x. tt) (λ x. eleven)
       within most p (negsuc n) = eleven
 
-      as-natural : (most p : ℕ) (h : Head) → Among ns (naturalIn most p h)
-      as-natural most p (walk.string a m q) = ten
-      as-natural most p (walk.integer z q) = within most p z
-      as-natural most p (walk.long a m q) = eleven
-      as-natural most p (walk.list q) = ten
-      as-natural most p (walk.dictionary q) = ten
-      as-natural most p (walk.end q) = ten
+      as-natural : P no.byte → (most p : ℕ) (h : Head) → Among P (naturalIn most p h)
+      as-natural two most p (walk.string a m q) = ten
+      as-natural two most p (walk.integer z q) = within most p z
+      as-natural two most p (walk.long a m q) = eleven
+      as-natural two most p (walk.list q) = ten
+      as-natural two most p (walk.dictionary q) = ten
+      as-natural two most p (walk.end q) = two
 
-      natural-at : (most p : ℕ) (v : Value) → Among ns (naturalAt most p v)
+      natural-at : (most p : ℕ) (v : Value) → Among P (naturalAt most p v)
       natural-at most p (str bs) = ten
       natural-at most p (int z) = within most p z
       natural-at most p (list vs) = ten
@@ -271,43 +285,107 @@ module _ (ns : List ℕ) where
 
 -- ---- a file, an element of a path, an entry of a reply: 13, or 15
 
-module _ (ns : List ℕ) (ten : In no.kind ns) (thirteen : In no.name ns) where
-  name-at : (p : ℕ) (v : Value) → Among ns (nameAt p v)
-  name-at p (str bs) = by-test (Among ns) (goodName bs) (λ x. tt) (λ x. thirteen)
+module _ (P : ℕ → Type 0) (ten : P no.kind) (thirteen : P no.name) where
+  name-at : (p : ℕ) (v : Value) → Among P (nameAt p v)
+  name-at p (str bs) = by-test (Among P) (goodName bs) (λ x. tt) (λ x. thirteen)
   name-at p (int z) = ten
   name-at p (list vs) = ten
   name-at p (dict es) = ten
 
-  elements : (p : ℕ) (vs : Items) → Among ns (elementsOf p vs)
+  elements : (p : ℕ) (vs : Items) → Among P (elementsOf p vs)
   unfolding elementsOf
   elements p none = tt
-  elements p (item v vs) = after ns (nameAt p v) _ (name-at p v) (λ x. elements (p + length (encode v)) vs)
+  elements p (item v vs) = after P (nameAt p v) _ (name-at p v) (λ x. elements (p + length (encode v)) vs)
 
-  path-in : (p : ℕ) (vs : Items) → Among ns (pathIn p vs)
+  path-in : (p : ℕ) (vs : Items) → Among P (pathIn p vs)
   path-in p none = thirteen
-  path-in p (item v vs) = after-map ns (λ q. p + 1) (elementsOf (p + 1) (item v vs)) (elements (p + 1) (item v vs))
+  path-in p (item v vs) = after-map P (λ q. p + 1) (elementsOf (p + 1) (item v vs)) (elements (p + 1) (item v vs))
 
-  path-at : (p : ℕ) (v : Value) → Among ns (pathAt p v)
-  path-at p v = after ns (listAt p v) (pathIn p) (list-at ns ten p v) (path-in p)
+  path-at : (p : ℕ) (v : Value) → Among P (pathAt p v)
+  path-at p v = after P (listAt p v) (pathIn p) (list-at P ten p v) (path-in p)
 
-  file-of : In no.range ns → (p : ℕ) (v : Value) → Among ns (fileOf p v)
+  file-of : P no.range → (p : ℕ) (v : Value) → Among P (fileOf p v)
   unfolding fileOf
   file-of eleven p v =
-      after ns (dictionaryAt p v) _ (dictionary-at ns ten p v)
-      (λ es. after ns (must p (lookup (p + 1) es lengthKey) (naturalAt longestFile)) _ (needs ns ten p (lookup (p + 1) es lengthKey) (naturalAt longestFile) (natural-at ns ten eleven longestFile))
-      (λ n. after ns (must p (lookup (p + 1) es pathKey) pathAt) _ (needs ns ten p (lookup (p + 1) es pathKey) pathAt path-at)
+      after P (dictionaryAt p v) _ (dictionary-at P ten p v)
+      (λ es. after P (must p (lookup (p + 1) es lengthKey) (naturalAt longestFile)) _ (needs P ten p (lookup (p + 1) es lengthKey) (naturalAt longestFile) (natural-at P ten eleven longestFile))
+      (λ n. after P (must p (lookup (p + 1) es pathKey) pathAt) _ (needs P ten p (lookup (p + 1) es pathKey) pathAt path-at)
       (λ a. tt)))
 
-  as-element : (s : List ℕ) (p : ℕ) (h : Head) → Among ns (elementIn s p h)
-  as-element s p (walk.string a m q) = by-test (Among ns) (goodName (take m (drop a s))) (λ x. tt) (λ x. thirteen)
+  as-element : (s : List ℕ) (p : ℕ) (h : Head) → Among P (elementIn s p h)
+  as-element s p (walk.string a m q) = by-test (Among P) (goodName (take m (drop a s))) (λ x. tt) (λ x. thirteen)
   as-element s p (walk.integer z q) = ten
   as-element s p (walk.long a m q) = ten
   as-element s p (walk.list q) = ten
   as-element s p (walk.dictionary q) = ten
   as-element s p (walk.end q) = tt
 
-abbrev ofValue : List ℕ → List ℕ
-ofValue ns = 1 ∷ 2 ∷ 3 ∷ 4 ∷ 5 ∷ 6 ∷ ns
+-- ---- the looks, each by the numbers of which P must hold
+
+module _ (P : ℕ → Type 0) (s : List ℕ) (eight : Eight P s) (one : P 1) (two : P 2) where
+  by-look : (p : ℕ) → Among P (lookOf s p)
+  by-look p = looked P one two s eight p
+
+  by-entry : (p : ℕ) → Among P (entryOf s p)
+  by-entry p = entered P one two s eight p
+
+  by-element : P 10 → P 13 → (p : ℕ) → Among P (elementOf s p)
+  by-element ten thirteen p = after P (lookOf s p) (elementIn s p) (by-look p) (as-element P ten thirteen s p)
+
+  module _ (three : P 3) (four : P 4) (five : P 5) (six : P 6) where
+    by-skip : (p : ℕ) → Among P (skipOf s p)
+    by-skip p = skipped P one two three four five six s eight p
+
+    by-seek : (p : ℕ) (k : List ℕ) → Among P (soughtFrom s p k)
+    by-seek p k = sought P one two three four five six (suc (length s)) s eight p k
+
+    by-file : P 10 → P 11 → P 13 → (p : ℕ) → Among P (fileAt s p)
+    by-file ten eleven thirteen p = after P (valueAt s p) (fileOf p) (value-at P one two three four five six s eight p) (file-of P ten thirteen eleven p)
+
+    -- an entry of a list: the searches for its keys, peer id, ip and port, and the place past it
+    module _ (ten : P 10) (eleven : P 11) (fifteen : P 15) where
+      sought-after : (o : Outcome Hit) (k : List ℕ) → Among P o → Among P (soughtAfter s o k)
+      sought-after o k h = after P o _ h (λ x. by-seek (stopped x) k)
+
+      needed-at : {A : Type 0} (d : ℕ) (o : Outcome Hit) (f : ℕ → Outcome A) → Among P o → ((q : ℕ) → Among P (f q)) → Among P (needed d o f)
+      needed-at d o f h k = after P o (hitAt d f) h (hit P ten d f k)
+
+      a-string : (q : ℕ) → Among P (fieldString s q)
+      a-string q = after P (lookOf s q) (stringIn q) (by-look q) (as-string P ten two q)
+
+      an-id : (q : ℕ) → Among P (idOf s q)
+      an-id q = after P (fieldString s q) (idLength q) (a-string q) (λ x. by-test (Among P) (eqb (x .len) 20) (λ y. tt) (λ y. fifteen))
+
+      a-port : (q : ℕ) → Among P (naturalOf largestPort s q)
+      a-port q = after P (lookOf s q) (naturalIn largestPort q) (by-look q) (as-natural P ten eleven two largestPort q)
+
+      peer-from : (p : ℕ) (ips ids ports : Outcome Hit) → Among P ips → Among P ids → Among P ports → Among P (peerFrom s p ips ids ports)
+      peer-from p ips ids ports a b c =
+          after P (needed p ids (idOf s)) _ (needed-at p ids (idOf s) b an-id)
+          (λ id. after P (needed p ips (fieldString s)) _ (needed-at p ips (fieldString s) a a-string)
+          (λ ip. after P (needed p ports (naturalOf largestPort s)) _ (needed-at p ports (naturalOf largestPort s) c a-port)
+          (λ n. after-map P _ (skipOf s p) (by-skip p))))
+
+      inside : (p first : ℕ) → Among P (peerBy s p first)
+      inside p first =
+          let a = soughtFrom s first ipKey in
+          let b = soughtAfter s a idKey in
+          let h = by-seek first ipKey in
+          let g = sought-after a idKey h in
+          peer-from p a b (soughtAfter s b portKey) h g (sought-after b portKey g)
+
+      by-listed : (p : ℕ) → Among P (listedAt s p)
+      unfolding listedAt
+      by-listed p = after P (dictionaryOf s p) (peerBy s p) (after P (lookOf s p) (dictionaryIn p) (by-look p) (as-dictionary P ten two p)) (inside p)
+
+by-packed : (P : ℕ → Type 0) (s : List ℕ) → Eight P s → P 1 → (p : ℕ) → Among P (packedAt s p)
+unfolding packedAt
+by-packed P s eight one p = unless P s _ eight (by-test (Among P) (leb (p + 6) (length s)) (λ x. tt) (λ x. one))
+
+-- ---- no other number: the numbers of each look in a list
+
+abbrev Of : List ℕ → ℕ → Type 0
+Of ns n = In n ns
 
 -- the numbers of a list by their places there
 at0 : {a : ℕ} {l : List ℕ} → In a (a ∷ l)
@@ -322,80 +400,98 @@ at2 = List·Memᴰ·tail at1
 at3 : {a b c d : ℕ} {l : List ℕ} → In a (b ∷ c ∷ d ∷ a ∷ l)
 at3 = List·Memᴰ·tail at2
 
-past : {a b c d e f g : ℕ} {l : List ℕ} → In a l → In a (b ∷ c ∷ d ∷ e ∷ f ∷ g ∷ l)
-past i = List·Memᴰ·tail (List·Memᴰ·tail (List·Memᴰ·tail (List·Memᴰ·tail (List·Memᴰ·tail (List·Memᴰ·tail i)))))
+on4 : {a b c d e : ℕ} {l : List ℕ} → In a l → In a (b ∷ c ∷ d ∷ e ∷ l)
+on4 i = List·Memᴰ·tail (List·Memᴰ·tail (List·Memᴰ·tail (List·Memᴰ·tail i)))
 
-four-on : {l : List ℕ} → In 5 (ofValue l)
-four-on = List·Memᴰ·tail at3
+-- of a value that is read, then 8, then others
+abbrev ofValue : List ℕ → List ℕ
+ofValue ns = 1 ∷ 2 ∷ 3 ∷ 4 ∷ 5 ∷ 6 ∷ 8 ∷ ns
 
-five-on : {l : List ℕ} → In 6 (ofValue l)
-five-on = List·Memᴰ·tail (List·Memᴰ·tail at3)
+past : {a : ℕ} {l : List ℕ} → In a l → In a (ofValue l)
+past i = on4 (List·Memᴰ·tail (List·Memᴰ·tail (List·Memᴰ·tail i)))
 
--- ---- the looks
+abbrev ofFile : ℕ → Type 0
+ofFile = Of (ofValue (10 ∷ 11 ∷ 13 ∷ []))
 
-abbrev ofFile : List ℕ
-ofFile = ofValue (10 ∷ 11 ∷ 13 ∷ [])
+abbrev ofPeer : ℕ → Type 0
+ofPeer = Of (ofValue (10 ∷ 11 ∷ 15 ∷ []))
 
-abbrev ofElement : List ℕ
-ofElement = 1 ∷ 2 ∷ 10 ∷ 13 ∷ []
+pub look : (s : List ℕ) (p k q : ℕ) → lookOf s p ≡ refused k q → In k (1 ∷ 2 ∷ 8 ∷ [])
+look s p = given (Of (1 ∷ 2 ∷ 8 ∷ [])) (lookOf s p) (by-look (Of (1 ∷ 2 ∷ 8 ∷ [])) s (λ h. at2) at0 at1 p)
 
-pub look : (s : List ℕ) (p k q : ℕ) → lookOf s p ≡ refused k q → In k (1 ∷ 2 ∷ [])
-look s p = given (1 ∷ 2 ∷ []) (lookOf s p) (looked (1 ∷ 2 ∷ []) at0 at1 s p)
+pub entry-look : (s : List ℕ) (p k q : ℕ) → entryOf s p ≡ refused k q → In k (1 ∷ 2 ∷ 8 ∷ [])
+entry-look s p = given (Of (1 ∷ 2 ∷ 8 ∷ [])) (entryOf s p) (by-entry (Of (1 ∷ 2 ∷ 8 ∷ [])) s (λ h. at2) at0 at1 p)
 
-pub entry-look : (s : List ℕ) (p k q : ℕ) → entryOf s p ≡ refused k q → In k (1 ∷ 2 ∷ [])
-entry-look s p = given (1 ∷ 2 ∷ []) (entryOf s p) (entered (1 ∷ 2 ∷ []) at0 at1 s p)
+pub skip : (s : List ℕ) (p k q : ℕ) → skipOf s p ≡ refused k q → In k (1 ∷ 2 ∷ 3 ∷ 4 ∷ 5 ∷ 6 ∷ 8 ∷ [])
+skip s p = given (Of (ofValue [])) (skipOf s p) (by-skip (Of (ofValue [])) s (λ h. on4 at2) at0 at1 at2 at3 (on4 at0) (on4 at1) p)
 
-pub skip : (s : List ℕ) (p k q : ℕ) → skipOf s p ≡ refused k q → In k (1 ∷ 2 ∷ 3 ∷ 4 ∷ 5 ∷ 6 ∷ [])
-skip s p = given (ofValue []) (skipOf s p) (skipped (ofValue []) at0 at1 at2 at3 four-on five-on s p)
+pub seek : (s : List ℕ) (p : ℕ) (j : List ℕ) (k q : ℕ) → soughtFrom s p j ≡ refused k q → In k (1 ∷ 2 ∷ 3 ∷ 4 ∷ 5 ∷ 6 ∷ 8 ∷ [])
+seek s p j = given (Of (ofValue [])) (soughtFrom s p j) (by-seek (Of (ofValue [])) s (λ h. on4 at2) at0 at1 at2 at3 (on4 at0) (on4 at1) p j)
 
-pub file-at : (s : List ℕ) (p k q : ℕ) → fileAt s p ≡ refused k q → In k (1 ∷ 2 ∷ 3 ∷ 4 ∷ 5 ∷ 6 ∷ 10 ∷ 11 ∷ 13 ∷ [])
-file-at s p = given ofFile (fileAt s p) (after ofFile (valueAt s p) (fileOf p) (value-at ofFile at0 at1 at2 at3 four-on five-on s p) (file-of ofFile (past at0) (past at2) (past at1) p))
+pub file-at : (s : List ℕ) (p k q : ℕ) → fileAt s p ≡ refused k q → In k (1 ∷ 2 ∷ 3 ∷ 4 ∷ 5 ∷ 6 ∷ 8 ∷ 10 ∷ 11 ∷ 13 ∷ [])
+file-at s p = given ofFile (fileAt s p) (by-file ofFile s (λ h. on4 at2) at0 at1 at2 at3 (on4 at0) (on4 at1) (past at0) (past at1) (past at2) p)
 
-pub element-at : (s : List ℕ) (p k q : ℕ) → elementOf s p ≡ refused k q → In k (1 ∷ 2 ∷ 10 ∷ 13 ∷ [])
-element-at s p = given ofElement (elementOf s p) (after ofElement (lookOf s p) (elementIn s p) (looked ofElement at0 at1 s p) (as-element ofElement at2 at3 s p))
+pub element-at : (s : List ℕ) (p k q : ℕ) → elementOf s p ≡ refused k q → In k (1 ∷ 2 ∷ 8 ∷ 10 ∷ 13 ∷ [])
+element-at s p = given (Of (1 ∷ 2 ∷ 8 ∷ 10 ∷ 13 ∷ [])) (elementOf s p) (by-element (Of (1 ∷ 2 ∷ 8 ∷ 10 ∷ 13 ∷ [])) s (λ h. at2) at0 at1 at3 (on4 at0) p)
 
-pub packed-at : (s : List ℕ) (p k q : ℕ) → packedAt s p ≡ refused k q → In k (1 ∷ [])
-packed-at s p = given (1 ∷ []) (packedAt s p) (by-test (Among (1 ∷ [])) (leb (p + 6) (length s)) (λ x. tt) (λ x. at0))
+pub packed-at : (s : List ℕ) (p k q : ℕ) → packedAt s p ≡ refused k q → In k (1 ∷ 8 ∷ [])
+packed-at s p = given (Of (1 ∷ 8 ∷ [])) (packedAt s p) (by-packed (Of (1 ∷ 8 ∷ [])) s (λ h. at1) at0 p)
 
--- an entry of a list: the searches for its keys, peer id, ip and port, and the place past it
-abbrev ofPeer : List ℕ
-ofPeer = ofValue (10 ∷ 11 ∷ 15 ∷ [])
+pub listed-at : (s : List ℕ) (p k q : ℕ) → listedAt s p ≡ refused k q → In k (1 ∷ 2 ∷ 3 ∷ 4 ∷ 5 ∷ 6 ∷ 8 ∷ 10 ∷ 11 ∷ 15 ∷ [])
+listed-at s p = given ofPeer (listedAt s p) (by-listed ofPeer s (λ h. on4 at2) at0 at1 at2 at3 (on4 at0) (on4 at1) (past at0) (past at1) (past at2) p)
 
-sought-from : (s : List ℕ) (p : ℕ) (k : List ℕ) → Among ofPeer (soughtFrom s p k)
-sought-from s p k = sought ofPeer at0 at1 at2 at3 four-on five-on (suc (length s)) s p k
+-- ---- 8 exactly where the text is too long
 
-sought-after : (s : List ℕ) (o : Outcome Hit) (k : List ℕ) → Among ofPeer o → Among ofPeer (soughtAfter s o k)
-sought-after s o k h = after ofPeer o _ h (λ x. sought-from s (stopped x) k)
+abbrev Other : ℕ → Type 0
+Other n = n ≡ 8 → ⊥
 
-needed-at : {A : Type 0} (d : ℕ) (o : Outcome Hit) (f : ℕ → Outcome A) → Among ofPeer o → ((q : ℕ) → Among ofPeer (f q)) → Among ofPeer (needed d o f)
-needed-at d o f h k = after ofPeer o (hitAt d f) h (hit ofPeer (past at0) d f k)
+not-8 : (n : ℕ) → eqb n 8 ≡ false → Other n
+not-8 n e h = eqb-false n 8 e h
 
-a-string : (s : List ℕ) (q : ℕ) → Among ofPeer (fieldString s q)
-a-string s q = after ofPeer (lookOf s q) (stringIn q) (looked ofPeer at0 at1 s q) (as-string ofPeer (past at0) q)
+module _ {A : Type 0} (s : List ℕ) (o : Outcome A) (first : Limited s o) (short : Eight Other s → Among Other o) (q : ℕ) where
+  eight-only : o ≡ refused 8 q → (mostText < length s) × (q ≡ 0)
+  eight-only e = less-or mostText (length s)
+      (λ h. (h, same-refusal (sym e ∙ first ∙ sym (unless-long s o h)) .1))
+      (λ l. absurd (given Other o (short (λ h. absurd (omega arith))) 8 q e refl))
 
-an-id : (s : List ℕ) (q : ℕ) → Among ofPeer (idOf s q)
-an-id s q = after ofPeer (fieldString s q) (idLength q) (a-string s q) (λ x. by-test (Among ofPeer) (eqb (x .len) 20) (λ y. tt) (λ y. past at2))
+  eight-law : o ≡ refused 8 q ↔ ((mostText < length s) × (q ≡ 0))
+  eight-law = (eight-only, λ h. first ∙ sym (unless-long s o (h .0)) ∙ ap (refused 8) (sym (h .1)))
 
-a-port : (s : List ℕ) (q : ℕ) → Among ofPeer (naturalOf largestPort s q)
-a-port s q = after ofPeer (lookOf s q) (naturalIn largestPort q) (looked ofPeer at0 at1 s q) (as-natural ofPeer (past at0) (past at1) largestPort q)
+module _ (s : List ℕ) (p q : ℕ) where
+  pub look-8 : lookOf s p ≡ refused 8 q ↔ ((mostText < length s) × (q ≡ 0))
+  look-8 = eight-law s (lookOf s p) (limited-look s p) (λ e. by-look Other s e (not-8 1 refl) (not-8 2 refl) p) q
 
-peer-from : (s : List ℕ) (p : ℕ) (ips ids ports : Outcome Hit) → Among ofPeer ips → Among ofPeer ids → Among ofPeer ports → Among ofPeer (peerFrom s p ips ids ports)
-peer-from s p ips ids ports a b c =
-    after ofPeer (needed p ids (idOf s)) _ (needed-at p ids (idOf s) b (an-id s))
-    (λ id. after ofPeer (needed p ips (fieldString s)) _ (needed-at p ips (fieldString s) a (a-string s))
-    (λ ip. after ofPeer (needed p ports (naturalOf largestPort s)) _ (needed-at p ports (naturalOf largestPort s) c (a-port s))
-    (λ n. after-map ofPeer _ (skipOf s p) (skipped ofPeer at0 at1 at2 at3 four-on five-on s p))))
+  pub entry-8 : entryOf s p ≡ refused 8 q ↔ ((mostText < length s) × (q ≡ 0))
+  entry-8 = eight-law s (entryOf s p) (limited-entry s p) (λ e. by-entry Other s e (not-8 1 refl) (not-8 2 refl) p) q
 
-inside : (s : List ℕ) (p first : ℕ) → Among ofPeer (peerBy s p first)
-inside s p first =
-    let a = soughtFrom s first ipKey in
-    let b = soughtAfter s a idKey in
-    let h = sought-from s first ipKey in
-    let g = sought-after s a idKey h in
-    peer-from s p a b (soughtAfter s b portKey) h g (sought-after s b portKey g)
+  pub skip-8 : skipOf s p ≡ refused 8 q ↔ ((mostText < length s) × (q ≡ 0))
+  skip-8 = eight-law s (skipOf s p) (limited-skip s p) (λ e. by-skip Other s e (not-8 1 refl) (not-8 2 refl) (not-8 3 refl) (not-8 4 refl) (not-8 5 refl) (not-8 6 refl) p) q
 
-pub listed-at : (s : List ℕ) (p k q : ℕ) → listedAt s p ≡ refused k q → In k (1 ∷ 2 ∷ 3 ∷ 4 ∷ 5 ∷ 6 ∷ 10 ∷ 11 ∷ 15 ∷ [])
-unfolding listedAt
-listed-at s p =
-    given ofPeer (listedAt s p)
-    (after ofPeer (dictionaryOf s p) (peerBy s p) (after ofPeer (lookOf s p) (dictionaryIn p) (looked ofPeer at0 at1 s p) (as-dictionary ofPeer (past at0) p)) (inside s p))
+  pub seek-8 : (j : List ℕ) → soughtFrom s p j ≡ refused 8 q ↔ ((mostText < length s) × (q ≡ 0))
+  seek-8 j = eight-law s (soughtFrom s p j) (limited-seek s p (length s) j) (λ e. by-seek Other s e (not-8 1 refl) (not-8 2 refl) (not-8 3 refl) (not-8 4 refl) (not-8 5 refl) (not-8 6 refl) p j) q
+
+  value-limited : Limited s (valueAt s p)
+  unfolding valueAt
+  value-limited = limited s _
+
+  pub file-at-8 : fileAt s p ≡ refused 8 q ↔ ((mostText < length s) × (q ≡ 0))
+  file-at-8 = eight-law s (fileAt s p) (limited-then s (valueAt s p) (fileOf p) value-limited)
+      (λ e. by-file Other s e (not-8 1 refl) (not-8 2 refl) (not-8 3 refl) (not-8 4 refl) (not-8 5 refl) (not-8 6 refl) (not-8 10 refl) (not-8 11 refl) (not-8 13 refl) p) q
+
+  pub element-at-8 : elementOf s p ≡ refused 8 q ↔ ((mostText < length s) × (q ≡ 0))
+  element-at-8 = eight-law s (elementOf s p) (limited-then s (lookOf s p) (elementIn s p) (limited-look s p)) (λ e. by-element Other s e (not-8 1 refl) (not-8 2 refl) (not-8 10 refl) (not-8 13 refl) p) q
+
+  packed-limited : Limited s (packedAt s p)
+  unfolding packedAt
+  packed-limited = limited s _
+
+  pub packed-at-8 : packedAt s p ≡ refused 8 q ↔ ((mostText < length s) × (q ≡ 0))
+  packed-at-8 = eight-law s (packedAt s p) packed-limited (λ e. by-packed Other s e (not-8 1 refl) p) q
+
+  listed-limited : Limited s (listedAt s p)
+  unfolding listedAt
+  listed-limited = limited-then s (dictionaryOf s p) (peerBy s p) (limited-then s (lookOf s p) (dictionaryIn p) (limited-look s p))
+
+  pub listed-at-8 : listedAt s p ≡ refused 8 q ↔ ((mostText < length s) × (q ≡ 0))
+  listed-at-8 = eight-law s (listedAt s p) listed-limited
+      (λ e. by-listed Other s e (not-8 1 refl) (not-8 2 refl) (not-8 3 refl) (not-8 4 refl) (not-8 5 refl) (not-8 6 refl) (not-8 10 refl) (not-8 11 refl) (not-8 15 refl) p) q

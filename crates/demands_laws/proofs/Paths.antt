@@ -6,6 +6,7 @@ use Prim.Native.Nat.{ℕ, _+_, _≤_, _<_}
 use native.Mathlib.Omega.{arith}
 use lib.ListN.{length, take, drop, length-append, length-drop, take-append-drop}
 use lib.Seq.{take-append-seam}
+use Rattle.refusal.specs.Limits.{mostText}
 use Rattle.refusal.specs.Paper.{Outcome, taken, then}
 use Rattle.refusal.specs.Parts.{bytesAt}
 use Rattle.refusal.specs.declared.Part.{Part}
@@ -19,7 +20,7 @@ use Rattle.torrent_laws.specs.Exact.{PathAt}
 use Rattle.torrent_laws.proofs.Names.{is-good}
 use Rattle.torrent_contents.specs.Paths.{element, done, elementIn, elementOf}
 
-module _ (s : List ℕ) (p : ℕ) where
+module _ (s : List ℕ) (p : ℕ) (short : length s ≤ mostText) where
   -- what stands there, and what follows it
   there : (w : List ℕ) → take (length w) (drop p s) ≡ w → drop p s ≡ w ++ drop (length w) (drop p s)
   there w e = sym (take-append-drop (length w) (drop p s)) ∙ ap (λ (l : List ℕ). l ++ drop (length w) (drop p s)) e
@@ -34,7 +35,7 @@ module _ (s : List ℕ) (p : ℕ) where
   unfolding stringItems encodeItems count KeepsItems
   path-end e =
       let t = there (101 ∷ []) e in
-      seen (items-end s 0 p (record { rest = drop 1 (drop p s); text = t; inside = within (101 ∷ []) (drop 1 (drop p s)) (omega arith) t; keeps = tt; few = omega arith }))
+      seen (items-end s 0 p (record { rest = drop 1 (drop p s); text = t; inside = within (101 ∷ []) (drop 1 (drop p s)) (omega arith) t; short = short; keeps = tt; few = omega arith }))
 
   pub path-next : (x : List ℕ) (l : List (List ℕ)) → PathAt s p (x ∷ l) → GoodName x
       → (q : Part) × (elementOf s p ≡ taken (element q (p + length (writtenString x)))) × (bytesAt s q ≡ x) × PathAt s (p + length (writtenString x)) l
@@ -44,7 +45,7 @@ module _ (s : List ℕ) (p : ℕ) where
       let r = drop (length (writtenString x ++ w)) (drop p s) in
       let t : drop p s ≡ writtenString x ++ (w ++ r) = there (writtenString x ++ w) e ∙ append-assoc (writtenString x) w r in
       let h : 0 < length (writtenString x) = omega (arith, length-append (decimal (length x)) (58 ∷ x)) in
-      let b = string-stands s 0 p x (record { rest = w ++ r; text = t; inside = within (writtenString x) (w ++ r) h t; keeps = tt; few = omega arith }) in
+      let b = string-stands s 0 p x (record { rest = w ++ r; text = t; inside = within (writtenString x) (w ++ r) h t; short = short; keeps = tt; few = omega arith }) in
       let f : goodName (take (length x) (drop (b .from) s)) ≡ true = ap goodName (b .bytes) ∙ is-good x g in (
         record { from = b .from; len = length x },
         seen (b .seen) ∙ rw f,

@@ -11,8 +11,7 @@ use Rattle.refusal.specs.Parts.{bytesAt}
 use Rattle.refusal.specs.declared.Part.{Part}
 use Rattle.refusal.proofs.Outcomes.{then-taken}
 use Rattle.bencode_scalar.specs.Written.{writtenString}
-use Rattle.bencode.specs.Value.{Value, Items, str, int, list, dict, none, item, encode, encodeItems, start}
-use Rattle.bencode.specs.Decode.{valueFrom, kindOf}
+use Rattle.bencode.specs.Value.{Value, Items, str, int, list, dict, none, item, encode, start}
 use Rattle.bencode_walk.specs.Walk.{Head, string, lookOf}
 use Rattle.bencode_walk.specs.Stands.{Stands, StandItems}
 use Rattle.bencode_walk.specs.Lookup.{Under, nothing, under, lookup}
@@ -21,11 +20,11 @@ use Rattle.bencode_walk.proofs.Finding.{found-stands}
 use Rattle.bencode_fields.specs.Values.{partOf, naturalAt, must}
 use Rattle.torrent_metainfo.specs.Keys.{lengthKey, pathKey}
 use Rattle.torrent_metainfo.specs.Rules.{goodName, elementsOf, pathAt, fileOf, lengthsOf}
-use Rattle.torrent_metainfo.specs.Reading.{valueIn, fileAt, readOf}
+use Rattle.torrent_metainfo.specs.Reading.{readOf}
 use Rattle.torrent_metainfo.specs.declared.File.{File}
 use Rattle.torrent_metainfo.specs.declared.Torrent.{Torrent}
 use Rattle.torrent_metainfo.proofs.Naming.{no-way}
-use Rattle.torrent_metainfo.proofs.Filing.{file-stands, file-next}
+use Rattle.torrent_metainfo.proofs.Filing.{file-stands, file-end, file-next}
 use Rattle.torrent_contents.specs.declared.Entry.{Entry}
 use Rattle.torrent_contents.specs.Files.{entry, entriesFrom}
 use Rattle.torrent_contents.specs.Paths.{element, elementIn, elementOf}
@@ -99,14 +98,9 @@ module _ (s : List ℕ) where
 -- ---- the files
 
 module _ (s : List ℕ) (d : ℕ) (levels : d ≤ 32) where
-  -- where the list ends no file stands
-  end-refused : (p : ℕ) → StandItems s d p none → fileAt s p ≡ refused 2 p
-  unfolding encodeItems valueFrom kindOf
-  end-refused p t = ap (λ (l : List ℕ). then (valueIn (valueFrom 32 (length s) l p 0)) (fileOf p)) (t .text)
-
   pub files-walk : (vs : Items) (p o : ℕ) (ns : List ℕ) (es : List Entry) → StandItems s d p vs → lengthsOf p vs ≡ taken ns → entriesFrom p o vs ≡ taken es → FilesWalked s p o vs es
   unfolding entriesFrom
-  files-walk none p o ns es t e f = let g : _≡_ {A = List Entry} [] es = cc in subst (λ (l : List Entry). FilesWalked s p o none l) g (last p o (end-refused p t))
+  files-walk none p o ns es t e f = let g : _≡_ {A = List Entry} [] es = cc in subst (λ (l : List Entry). FilesWalked s p o none l) g (last p o (file-end s p d t))
   files-walk (item v vs) p o ns es t e f =
       let x = lengths-next p v vs ns e in
       let i = items-next s d p v vs t in

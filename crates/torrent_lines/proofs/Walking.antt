@@ -11,8 +11,7 @@ use Rattle.refusal.specs.Limits.{longestFile}
 use Rattle.refusal.specs.declared.Part.{Part}
 use Rattle.refusal.proofs.Outcomes.{then-taken, map-taken}
 use Rattle.bencode_scalar.specs.Written.{decimal}
-use Rattle.bencode.specs.Value.{Value, Items, Entries, str, int, list, dict, none, item, encode, encodeItems, start}
-use Rattle.bencode.specs.Decode.{kindOf, valueFrom}
+use Rattle.bencode.specs.Value.{Value, Items, Entries, str, int, list, dict, none, item, encode, start}
 use Rattle.bencode.proofs.Complete.{encode-pos}
 use Rattle.bencode_walk.specs.Walk.{Head, end}
 use Rattle.bencode_walk.specs.Stands.{Stands, StandItems}
@@ -26,10 +25,10 @@ use Rattle.bencode_fields.proofs.Standing.{string-is, part-bytes}
 use Rattle.torrent_blocks.specs.Rules.{sum}
 use Rattle.torrent_metainfo.specs.Keys.{lengthKey, pathKey}
 use Rattle.torrent_metainfo.specs.Rules.{elementsOf, pathAt, fileIn, fileOf, lengthsOf}
-use Rattle.torrent_metainfo.specs.Reading.{valueIn, fileAt}
+use Rattle.torrent_metainfo.specs.Reading.{fileAt}
 use Rattle.torrent_metainfo.specs.declared.File.{File}
 use Rattle.torrent_metainfo.proofs.Naming.{no-way}
-use Rattle.torrent_metainfo.proofs.Filing.{file-stands, file-next}
+use Rattle.torrent_metainfo.proofs.Filing.{file-stands, file-end, file-next}
 use Rattle.torrent_lines.specs.Lines.{numberIn, itemsIn, elementsIn, filesIn, found, escaped, slashed, fileLines}
 use Rattle.torrent_lines.specs.Lines as lines
 use Rattle.bencode_writer.specs.Put.{Ran}
@@ -182,11 +181,6 @@ file-read s d p v t f e =
           );
         }
 
--- where a list of files ends, no file stands
-pub no-file : (s : List ℕ) (d p : ℕ) → StandItems s d p none → fileAt s p ≡ refused 2 p
-unfolding valueFrom kindOf encodeItems
-no-file s d p t = ap (λ (l : List ℕ). then (valueIn (valueFrom 32 (length s) l p 0)) (fileOf p)) (t .text)
-
 -- the file at p, and what is left after it
 pub record Filing (s : List ℕ) (o : ℕ) (w : List ℕ) (p : ℕ) (f : File) : Type 0 where
   pub path : List ℕ
@@ -202,7 +196,7 @@ module _ (s : List ℕ) (p o : ℕ) (w : List ℕ) (a : FilesPrinted s p o w) wh
   files-more f e = go (a .items) (a .stands) (a .good) (a .printed)
     where
       go : (vs : Items) → StandItems s (a .deep) p vs → lengthsOf p vs ≡ taken (a .lengths) → w ≡ fileLines o (filesIn vs) → Filing s o w p f
-      go none t g h = let i = e ∙ no-file s (a .deep) p t in no-way (cc)
+      go none t g h = let i = e ∙ file-end s p (a .deep) t in no-way (cc)
       go (item v vs) t g h =
           let n = items-next s (a .deep) p v vs t in
           let b = then-taken (fileOf p v) (λ f. map (λ ns. f .length ∷ ns) (lengthsOf (f .next) vs)) (a .lengths) g in

@@ -9,13 +9,14 @@ use lib.Dec.{ltb, leb}
 use lib.IntN.{pos, negsuc}
 use borrow.Author.Tests.{ltb-true, ltb-false, leb-true}
 use Rattle.refusal.specs.Paper.{Outcome, taken, refused, then, map}
-use Rattle.refusal.specs.Limits.{longestFile}
+use Rattle.refusal.specs.Limits.{mostText, longestFile}
+use Rattle.refusal.proofs.Cases.{less-or}
 use Rattle.refusal.proofs.Outcomes.{map-taken}
 use Rattle.bencode_scalar.specs.Reading.{Got, got, bad}
 use Rattle.bencode_scalar.specs.Written.{keyLt}
 use Rattle.bencode_scalar.proofs.Sound.{Holds}
 use Rattle.bencode.specs.Value.{Value, Items, Entries, str, int, list, dict, none, item, encode, encodeItems, encodeEntries, count, Prev, start, last}
-use Rattle.bencode.specs.Decode.{closes, valueFrom}
+use Rattle.bencode.specs.Decode.{closes, kindOf, valueFrom}
 use Rattle.bencode.proofs.Complete.{complete, encode-pos}
 use Rattle.bencode.proofs.Sound.{Took, value-sound}
 use Rattle.bencode_walk.specs.Walk.{seekPaper, skipOf, pastOf}
@@ -23,7 +24,8 @@ use Rattle.bencode_walk.specs.Stands.{Stands, StandItems, StandEntries}
 use Rattle.bencode_walk.specs.Lookup.{Under, nothing, under, lookup}
 use Rattle.bencode_walk.specs.declared.Sought.{Sought}
 use Rattle.bencode_walk.specs.declared.Sought.the-variants.{Found, Missing, Refused}
-use Rattle.bencode_walk.proofs.Standing.{list-stands, dictionary-stands, items-next, room, keeps-more, closes-none, closes-item}
+use Rattle.bencode_walk.proofs.Standing.{list-stands, dictionary-stands, items-next, room, keeps-more, closes-none, closes-item, skip-long, skip-short}
+use Rattle.bencode_walk.proofs.Limited.{unless-long, unless-short}
 use Rattle.bencode_walk.proofs.Finding.{beyond}
 use Rattle.bencode_fields.specs.Looks.{endingAt, numberOf, listOf, dictionaryOf, soughtFrom}
 use Rattle.bencode_fields.specs.Values.{naturalAt, listAt, dictionaryAt, must}
@@ -168,27 +170,40 @@ module _ (s : List ℕ) (p : ℕ) where
   Passed (got v l q n) = Stands s 32 p v × (q ≡ p + length (encode v))
   Passed (bad r o) = Unit
 
-  passed-by : p ≤ length s → (g : Got Value) → Holds (Took (drop p s) 32 p 0) g → Passed g
-  passed-by h (got v r q m) t = (record { rest = r; text = t .at .text; inside = h; keeps = t .keeps; few = omega (arith, t .counted, t .few) }, t .at .place)
-  passed-by h (bad r q) t = tt
+  passed-by : length s ≤ mostText → p ≤ length s → (g : Got Value) → Holds (Took (drop p s) 32 p 0) g → Passed g
+  passed-by l h (got v r q m) t = (record { rest = r; text = t .at .text; inside = h; short = l; keeps = t .keeps; few = omega (arith, t .counted, t .few) }, t .at .place)
+  passed-by l h (bad r q) t = tt
 
-  passed : (t : Bool) → ltb p (length s) ≡ t → Passed (valueFrom 32 (length s) (drop p s) p 0)
+  passed : length s ≤ mostText → (t : Bool) → ltb p (length s) ≡ t → Passed (valueFrom 32 (length s) (drop p s) p 0)
   unfolding valueFrom
-  passed true e =
+  passed l true e =
       let h = ltb-true p (length s) e in
-      passed-by (omega arith) (valueFrom 32 (length s) (drop p s) p 0) (value-sound 32 (length s) (drop p s) p 0 (omega (arith, length-drop p s)))
-  passed false e = subst (λ (l : List ℕ). Passed (valueFrom 32 (length s) l p 0)) (sym (drop-of-length-le s (ltb-false p (length s) e))) tt
+      passed-by l (omega arith) (valueFrom 32 (length s) (drop p s) p 0) (value-sound 32 (length s) (drop p s) p 0 (omega (arith, length-drop p s)))
+  passed l false e = subst (λ (l : List ℕ). Passed (valueFrom 32 (length s) l p 0)) (sym (drop-of-length-le s (ltb-false p (length s) e))) tt
+
+  -- of a text that is not too long, the value reader alone decides
+  value-short : length s ≤ mostText → valueIn (valueFrom 32 (length s) (drop p s) p 0) ≡ valueAt s p
+  unfolding valueAt
+  value-short l = unless-short s _ l
+
+  value-long : mostText < length s → refused 8 0 ≡ valueAt s p
+  unfolding valueAt
+  value-long h = unless-long s _ h
 
   -- what skip goes past is the value there
   pub value-past : (q : ℕ) → taken q ≡ skipOf s p → (v : Value) × (valueAt s p ≡ taken v) × Stands s 32 p v × (q ≡ p + length (encode v))
-  value-past q e = go (valueFrom 32 (length s) (drop p s) p 0) (passed (ltb p (length s)) refl) e
+  value-past q e = less-or mostText (length s)
+      (λ h. let f = e ∙ sym (skip-long s p h) in no-way (cc))
+      (λ l. let x = go (valueFrom 32 (length s) (drop p s) p 0) (passed l (ltb p (length s)) refl) (e ∙ sym (skip-short s p l)) in (x .0, sym (value-short l) ∙ x .1, x .2, x .3))
     where
       go : (g : Got Value) → Passed g → taken q ≡ pastOf g → (v : Value) × (valueIn g ≡ taken v) × Stands s 32 p v × (q ≡ p + length (encode v))
       go (got v l i n) h f = (v, refl, h .0, (cc) ∙ h .1)
       go (bad r o) h f = no-way (cc)
 
   pub value-bad : (r o : ℕ) → refused r o ≡ skipOf s p → refused r o ≡ fileAt s p
-  value-bad r o e = go (valueFrom 32 (length s) (drop p s) p 0) e
+  value-bad r o e = less-or mostText (length s)
+      (λ h. let f = e ∙ sym (skip-long s p h) in moved f ∙ ap (λ (x : Outcome Value). then x (fileOf p)) (value-long h))
+      (λ l. go (valueFrom 32 (length s) (drop p s) p 0) (e ∙ sym (skip-short s p l)) ∙ ap (λ (x : Outcome Value). then x (fileOf p)) (value-short l))
     where
       go : (g : Got Value) → refused r o ≡ pastOf g → refused r o ≡ then (valueIn g) (fileOf p)
       go (got v l i n) f = no-way (cc)
@@ -202,7 +217,13 @@ module _ (s : List ℕ) (p : ℕ) where
   file-stands d v h t =
       let x : valueFrom 32 (length s) (encode v ++ t .rest) p 0 ≡ got v (t .rest) (p + length (encode v)) (0 + count v) =
       complete v 32 (length s) (t .rest) p 0 (keeps-more v d 32 h (t .keeps)) (omega (arith, length-drop p s, ap length (t .text), t .inside)) (omega (arith, t .few)) in
-      ap (λ (l : List ℕ). then (valueIn (valueFrom 32 (length s) l p 0)) (fileOf p)) (t .text) ∙ ap (λ (g : Got Value). then (valueIn g) (fileOf p)) x
+      ap (λ (y : Outcome Value). then y (fileOf p)) (sym (value-short (t .short)))
+      ∙ ap (λ (l : List ℕ). then (valueIn (valueFrom 32 (length s) l p 0)) (fileOf p)) (t .text) ∙ ap (λ (g : Got Value). then (valueIn g) (fileOf p)) x
+
+  -- where a list of files ends, no file stands
+  pub file-end : (d : ℕ) → StandItems s d p none → fileAt s p ≡ refused 2 p
+  unfolding valueFrom kindOf encodeItems
+  file-end d t = ap (λ (y : Outcome Value). then y (fileOf p)) (sym (value-short (t .short))) ∙ ap (λ (l : List ℕ). then (valueIn (valueFrom 32 (length s) l p 0)) (fileOf p)) (t .text)
 
 -- ---- a file's next place
 
@@ -227,7 +248,9 @@ file-next p v f e = go (dictionaryAt p v) e
 
 -- a file goes further
 pub file-further : (s : List ℕ) (p : ℕ) (f : File) → taken f ≡ fileAt s p → (p < f .next) × (f .next ≤ length s)
-file-further s p f e = go (valueFrom 32 (length s) (drop p s) p 0) (passed s p (ltb p (length s)) refl) e
+file-further s p f e = less-or mostText (length s)
+    (λ h. let x = e ∙ sym (ap (λ (y : Outcome Value). then y (fileOf p)) (value-long s p h)) in no-way (cc))
+    (λ l. go (valueFrom 32 (length s) (drop p s) p 0) (passed s p l (ltb p (length s)) refl) (e ∙ sym (ap (λ (y : Outcome Value). then y (fileOf p)) (value-short s p l))))
   where
     go : (g : Got Value) → Passed s p g → taken f ≡ then (valueIn g) (fileOf p) → (p < f .next) × (f .next ≤ length s)
     go (got v l i n) h k =

@@ -7,6 +7,7 @@ use lib.ListN.{length}
 use Rattle.refusal.specs.Paper.{Outcome, taken, refused, then, map}
 use Rattle.refusal.specs.declared.Part.{Part}
 use Rattle.bencode_scalar.specs.Written.{keyLt}
+use Rattle.bencode.specs.Decode.{unlessLong}
 use Rattle.bencode.specs.Value.{Value, Entries, dict, encode, count, Prev, start}
 use Rattle.bencode.specs.Decode.{decode}
 use Rattle.bencode.specs.Exact.{Fine}
@@ -115,7 +116,7 @@ informed s d p first es l t e k h =
     let y = h (x .0) start es g (subst (λ (q : ℕ). StandEntries s (x .0) q start es) (sym e) (x .2)) in
     record { deep = x .0; levels = g; noted = subst (λ (q : ℕ). Noted s (x .0) p q es k) e y }
 
-pub pieces-asked : (s : List ℕ) (p : ℕ) (es : Entries) (k : Known) → Informed s p es k → needed p (seekPaper (k .pieces)) (stringOf s) ≡ must p (lookup (p + 1) es piecesKey) stringAt
+pub pieces-asked : (s : List ℕ) (p : ℕ) (es : Entries) (k : Known) → Informed s p es k → unlessLong s (needed p (seekPaper (k .pieces)) (stringOf s)) ≡ must p (lookup (p + 1) es piecesKey) stringAt
 pieces-asked s p es k i = tells-needed s (i .deep) p stringAt (lookup (p + 1) es piecesKey) (k .pieces) (i .noted .pieces) (stringOf s) (λ q v t. string-is s (i .deep) q v t)
 
 pub pieces-place : (s : List ℕ) (p : ℕ) (es : Entries) (k : Known) → Informed s p es k → placeFound (k .pieces) ≡ placeUnder (lookup (p + 1) es piecesKey)
@@ -133,19 +134,19 @@ module _ (s : List ℕ) (d : ℕ) (before : Prev) (es : Entries) (levels : d ≤
       let y = tell-second s d levels 1 before es u announceKey infoKey a i x refl f in
       (x .told, y .told)
 
-  announce-asked : needed 0 (seekPaper a) (stringOf s) ≡ must 0 (lookup 1 es announceKey) stringAt
+  announce-asked : unlessLong s (needed 0 (seekPaper a) (stringOf s)) ≡ must 0 (lookup 1 es announceKey) stringAt
   announce-asked = tells-needed s d 0 stringAt (lookup 1 es announceKey) a (told .0) (stringOf s) (λ q v x. string-is s d q v x)
 
-  pub top-announce : (r o : ℕ) → refused r o ≡ needed 0 (seekPaper a) (stringOf s) → refused r o ≡ topOf es
+  pub top-announce : (r o : ℕ) → refused r o ≡ unlessLong s (needed 0 (seekPaper a) (stringOf s)) → refused r o ≡ topOf es
   unfolding topOf
   top-announce r o h = stop-then (λ b. must 0 (lookup 1 es infoKey) (infoAt b)) (must 0 (lookup 1 es announceKey) stringAt) (h ∙ announce-asked)
 
-  module _ (b : Part) (h : taken b ≡ needed 0 (seekPaper a) (stringOf s)) where
+  module _ (b : Part) (h : taken b ≡ unlessLong s (needed 0 (seekPaper a) (stringOf s))) where
     onward : must 0 (lookup 1 es infoKey) (infoAt b) ≡ topOf es
     unfolding topOf
     onward = go-then (λ b. must 0 (lookup 1 es infoKey) (infoAt b)) (must 0 (lookup 1 es announceKey) stringAt) b (h ∙ announce-asked)
 
-    pub top-info : (r o : ℕ) → refused r o ≡ needed 0 (seekPaper i) (dictionaryOf s) → refused r o ≡ topOf es
+    pub top-info : (r o : ℕ) → refused r o ≡ unlessLong s (needed 0 (seekPaper i) (dictionaryOf s)) → refused r o ≡ topOf es
     top-info r o g = go (lookup 1 es infoKey) (told .1) ∙ onward
       where
         by : (q : ℕ) (v : Value) → Stands s d q v → refused r o ≡ dictionaryOf s q → refused r o ≡ infoAt b q v
@@ -155,7 +156,7 @@ module _ (s : List ℕ) (d : ℕ) (before : Prev) (es : Entries) (levels : d ≤
         go nothing x = moved (g ∙ tells-needed s d 0 (λ q v. dictionaryOf s q) nothing i x (dictionaryOf s) (λ q v y. refl))
         go (under q v) x = by q v (tells-stands s d q v i x) (g ∙ tells-needed s d 0 (λ q v. dictionaryOf s q) (under q v) i x (dictionaryOf s) (λ q v y. refl))
 
-    pub top-read : (inside : ℕ) → taken inside ≡ needed 0 (seekPaper i) (dictionaryOf s) → (at : ℕ) → at ≡ placeFound i → (o : Outcome Torrent)
+    pub top-read : (inside : ℕ) → taken inside ≡ unlessLong s (needed 0 (seekPaper i) (dictionaryOf s)) → (at : ℕ) → at ≡ placeFound i → (o : Outcome Torrent)
         → ((d : ℕ) → (ws : Entries) → d ≤ 32 → Stands s d at (dict ws) → inside ≡ at + 1 → o ≡ infoOf b at ws) → o ≡ topOf es
     top-read inside g at v₀ o h = go (lookup 1 es infoKey) (told .1) ∙ onward
       where

@@ -15,6 +15,7 @@ use Rattle.bencode_walk.specs.Walk.{seekPaper}
 use Rattle.bencode_walk.specs.Lookup.{Under, nothing, under}
 use Rattle.bencode_walk.specs.declared.Sought.{Sought}
 use Rattle.bencode_fields.specs.Looks.{naturalOf, needed}
+use Rattle.bencode.specs.Decode.{unlessLong}
 use Rattle.bencode_fields.specs.Values.{naturalAt, must}
 use Rattle.bencode_fields.proofs.Standing.{natural-is}
 use Rattle.torrent_metainfo.specs.Keys.{Tells, placeFound}
@@ -73,24 +74,24 @@ sized-stopped a i n s p pl c h = ⊎-elim over under (lt-or-le largest (c .total
 -- ---- the piece length under its key
 
 module _ (s : List ℕ) (d D : ℕ) (u : Under) (w : Sought) (t : Tells s d u w) where
-  asked : needed D (seekPaper w) (naturalOf longestPiece s) ≡ must D u (naturalAt longestPiece)
+  asked : unlessLong s (needed D (seekPaper w) (naturalOf longestPiece s)) ≡ must D u (naturalAt longestPiece)
   asked = tells-needed s d D (naturalAt longestPiece) u w t (naturalOf longestPiece s) (λ q v x. natural-is s d q longestPiece v x)
 
-  pub piece-good : (n : ℕ) → taken n ≡ needed D (seekPaper w) (naturalOf longestPiece s) → pieceLength n ≡ true → taken n ≡ must D u pieceLengthAt
+  pub piece-good : (n : ℕ) → taken n ≡ unlessLong s (needed D (seekPaper w) (naturalOf longestPiece s)) → pieceLength n ≡ true → taken n ≡ must D u pieceLengthAt
   piece-good n e h = go u (e ∙ asked)
     where
       go : (u : Under) → taken n ≡ must D u (naturalAt longestPiece) → taken n ≡ must D u pieceLengthAt
       go nothing x = no-way (cc)
       go (under q v) x = rw (← x, h)
 
-  pub piece-bad : (n : ℕ) → taken n ≡ needed D (seekPaper w) (naturalOf longestPiece s) → pieceLength n ≡ false → refused 11 (placeFound w) ≡ must D u pieceLengthAt
+  pub piece-bad : (n : ℕ) → taken n ≡ unlessLong s (needed D (seekPaper w) (naturalOf longestPiece s)) → pieceLength n ≡ false → refused 11 (placeFound w) ≡ must D u pieceLengthAt
   piece-bad n e h = ap (λ (x : ℕ). refused 11 x) (tells-place s d u w t) ∙ go u (e ∙ asked)
     where
       go : (u : Under) → taken n ≡ must D u (naturalAt longestPiece) → refused 11 (placeUnder u) ≡ must D u pieceLengthAt
       go nothing x = no-way (cc)
       go (under q v) x = rw (← x, h)
 
-  pub piece-not : (r o : ℕ) → refused r o ≡ needed D (seekPaper w) (naturalOf longestPiece s) → refused r o ≡ must D u pieceLengthAt
+  pub piece-not : (r o : ℕ) → refused r o ≡ unlessLong s (needed D (seekPaper w) (naturalOf longestPiece s)) → refused r o ≡ must D u pieceLengthAt
   piece-not r o e = go u (e ∙ asked)
     where
       go : (u : Under) → refused r o ≡ must D u (naturalAt longestPiece) → refused r o ≡ must D u pieceLengthAt

@@ -3,14 +3,18 @@ use mathlib.Core.Path.{_≡_, refl, sym, ap, _∙_, subst}
 use mathlib.Core.Bool.{true}
 use mathlib.Core.List.{List}
 use Prim.Native.Nat.{ℕ, _≤_}
+use lib.ListN.{length}
 use Rattle.refusal.specs.Paper.{Outcome, taken, refused}
+use Rattle.refusal.specs.Limits.{mostText}
 use Rattle.bencode_scalar.specs.Written.{keyLt}
+use Rattle.bencode.specs.Decode.{unlessLong}
 use Rattle.bencode.specs.Value.{Value, Entries, Prev, start, last, follows}
 use Rattle.bencode_walk.specs.Walk.{Hit, seekPaper}
 use Rattle.bencode_walk.specs.Stands.{Stands, StandEntries}
 use Rattle.bencode_walk.specs.Lookup.{Under, nothing, under, lookup}
 use Rattle.bencode_walk.specs.declared.Sought.{Sought}
 use Rattle.bencode_walk.specs.declared.Sought.the-variants.{Found, Missing, Refused}
+use Rattle.bencode_walk.proofs.Limited.{unless-short}
 use Rattle.bencode_walk.proofs.Finding.{Says, it-is, it-is-not, found-stands, placeOf}
 use Rattle.bencode_fields.specs.Looks.{needed, soughtFrom}
 use Rattle.bencode_fields.specs.Values.{must}
@@ -41,12 +45,12 @@ module _ {A : Type 0} (s : List ℕ) (d D : ℕ) (f : ℕ → Value → Outcome 
   tells-missing nothing (Missing i) p t e = refl
   tells-missing nothing (Refused i) p t e = absurd t
 
-  pub tells-needed : (u : Under) (w : Sought) → Tells s d u w → (g : ℕ → Outcome A) → ((q : ℕ) (v : Value) → Stands s d q v → g q ≡ f q v) → needed D (seekPaper w) g ≡ must D u f
-  tells-needed (under q v) (Found i j) t g h = ap g (t .0) ∙ h q v (t .1)
+  pub tells-needed : (u : Under) (w : Sought) → Tells s d u w → (g : ℕ → Outcome A) → ((q : ℕ) (v : Value) → Stands s d q v → g q ≡ f q v) → unlessLong s (needed D (seekPaper w) g) ≡ must D u f
+  tells-needed (under q v) (Found i j) t g h = sym (unless-short s (g j) (t .1 .short)) ∙ ap g (t .0) ∙ h q v (t .1)
   tells-needed (under q v) (Missing i) t g h = absurd t
   tells-needed (under q v) (Refused i) t g h = absurd t
   tells-needed nothing (Found i j) t g h = absurd t
-  tells-needed nothing (Missing i) t g h = refl
+  tells-needed nothing (Missing i) t g h = sym (unless-short s (refused 10 D) t)
   tells-needed nothing (Refused i) t g h = absurd t
 
 module _ (s : List ℕ) (d : ℕ) where
@@ -71,13 +75,13 @@ module _ (s : List ℕ) (d : ℕ) where
   tells-stands q v (Missing i) t = absurd t
   tells-stands q v (Refused i) t = absurd t
 
-  by-hit : (u : Under) (h : Hit) → Says u h → ((q : ℕ) (v : Value) → u ≡ under q v → Stands s d q v) → (w : Sought) → seekPaper w ≡ taken h → Tells s d u w × (placeOf h ≡ stopOf w)
-  by-hit u h (it-is p q v) t (Found i j) e = ((cc, t q v refl), cc)
-  by-hit u h (it-is p q v) t (Missing i) e = no-way (cc)
-  by-hit u h (it-is p q v) t (Refused i) e = no-way (cc)
-  by-hit u h (it-is-not p) t (Found i j) e = no-way (cc)
-  by-hit u h (it-is-not p) t (Missing i) e = (tt, cc)
-  by-hit u h (it-is-not p) t (Refused i) e = no-way (cc)
+  by-hit : length s ≤ mostText → (u : Under) (h : Hit) → Says u h → ((q : ℕ) (v : Value) → u ≡ under q v → Stands s d q v) → (w : Sought) → seekPaper w ≡ taken h → Tells s d u w × (placeOf h ≡ stopOf w)
+  by-hit l u h (it-is p q v) t (Found i j) e = ((cc, t q v refl), cc)
+  by-hit l u h (it-is p q v) t (Missing i) e = no-way (cc)
+  by-hit l u h (it-is p q v) t (Refused i) e = no-way (cc)
+  by-hit l u h (it-is-not p) t (Found i j) e = no-way (cc)
+  by-hit l u h (it-is-not p) t (Missing i) e = (l, cc)
+  by-hit l u h (it-is-not p) t (Refused i) e = no-way (cc)
 
   module _ (levels : d ≤ 32) (p : ℕ) (before : Prev) (es : Entries) (t : StandEntries s d p before es) where
     -- one search in a row of them
@@ -88,7 +92,7 @@ module _ (s : List ℕ) (d : ℕ) where
     pub tell : (j : Prev) (k : List ℕ) (q : ℕ) (w : Sought) → Left s d p es j q → follows j k ≡ true → seekPaper w ≡ soughtFrom s q k → Told k w
     tell j k q w l h e =
         let y = seeks s d p es levels j k q l h in
-        let z = by-hit (lookup p es k) (y .hit) (y .says) (found-stands s d p before es k t) w (e ∙ y .seen) in
+        let z = by-hit (t .short) (lookup p es k) (y .hit) (y .says) (found-stands s d p before es k t) w (e ∙ y .seen) in
         record { told = z .0; next = subst (Left s d p es (last k)) (z .1) (y .next) }
 
     pub tell-first : (k : List ℕ) (w : Sought) → seekPaper w ≡ soughtFrom s p k → Told k w

@@ -2,7 +2,9 @@
 -- From `Tells` on they serve inner contracts alone and need not be believed: `tells-needed` and `tells-place` of torrent_metainfo/proofs/Telling.antt tie them to Rules.antt.
 use mathlib.Core.Path.{_≡_}
 use mathlib.Core.List.{List}
-use Prim.Native.Nat.{ℕ}
+use Prim.Native.Nat.{ℕ, _≤_}
+use lib.ListN.{length}
+use Rattle.refusal.specs.Limits.{mostText}
 use Rattle.refusal.specs.Texts.{bytes}
 use Rattle.bencode_walk.specs.Stands.{Stands}
 use Rattle.bencode_walk.specs.Lookup.{Under, nothing, under}
@@ -35,13 +37,13 @@ pieceLengthKey = bytes "piece length"
 abbrev pub piecesKey : List ℕ
 piecesKey = bytes "pieces"
 
--- a search tells of what is under its key: the place where the value stands, or that there is none
+-- a search tells of what is under its key: the place where the value stands, or that there is none in a text that is not too long
 abbrev pub Tells : List ℕ → ℕ → Under → Sought → Type 0
 Tells s d (under q v) (Found p r) = (r ≡ q) × Stands s d q v
 Tells s d (under q v) (Missing p) = ⊥
 Tells s d (under q v) (Unread r) = ⊥
 Tells s d nothing (Found p r) = ⊥
-Tells s d nothing (Missing p) = Unit
+Tells s d nothing (Missing p) = length s ≤ mostText
 Tells s d nothing (Unread r) = ⊥
 
 -- where a search stopped: a later key is sought from there on

@@ -9,7 +9,7 @@ use Rattle.refusal.specs.Limits.{mostLevels}
 use Rattle.refusal.specs.declared.Part.{Part}
 use Rattle.bencode_scalar.specs.Reading.{Got, got, bad}
 use Rattle.bencode.specs.Value.{Value, encode}
-use Rattle.bencode.specs.Decode.{valueFrom, decode}
+use Rattle.bencode.specs.Decode.{valueFrom, unlessLong, decode}
 use Rattle.bencode_fields.specs.Looks.{endingAt}
 use Rattle.bencode_fields.specs.Values.{listAt}
 use Rattle.torrent_metainfo.specs.Rules.{fileOf, lengthsOf, torrentOf}
@@ -61,8 +61,8 @@ abbrev pub valueIn : Got Value → Outcome Value
 valueIn (got v l q n) = taken v
 valueIn (bad r p) = refused r p
 
-abbrev pub valueAt : List ℕ → ℕ → Outcome Value
-valueAt s p = valueIn (valueFrom mostLevels (length s) (drop p s) p 0)
+unfoldable pub valueAt : List ℕ → ℕ → Outcome Value
+valueAt s p = unlessLong s (valueIn (valueFrom mostLevels (length s) (drop p s) p 0))
 
 -- the file that stands at p of any text
 abbrev pub fileAt : List ℕ → ℕ → Outcome File

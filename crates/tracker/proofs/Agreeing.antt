@@ -19,6 +19,7 @@ use Rattle.bencode_walk.specs.Walk.{Head, Hit, lookOf, skipOf}
 use Rattle.bencode_walk.specs.Stands.{Stands, StandItems, StandEntries}
 use Rattle.bencode_walk.specs.Lookup.{Under, nothing, under, lookup}
 use Rattle.bencode_walk.proofs.Standing.{room, fine-stands, skip-past, string-stands, integer-stands, list-stands, items-next, dictionary-stands, closes-none, closes-item}
+use Rattle.bencode_walk.proofs.Limited.{unless-short}
 use Rattle.bencode_walk.proofs.Finding.{Says, it-is, it-is-not, found-stands, placeOf}
 use Rattle.bencode_fields.specs.Looks.{stringOf, naturalOf, needed, soughtFrom, soughtAfter}
 use Rattle.bencode_fields.specs.Values.{partOf, stringAt, naturalAt, dictionaryAt, must}
@@ -153,7 +154,7 @@ module _ (s : List ℕ) (e : ℕ) (levels : e ≤ 32) where
   peers-is n p (list vs) t =
       let l = list-stands s e p vs t in
       looked (peersIn s n p) p (l .0)
-      ∙ ap (map (listing n (p + 1))) (count-is s (l .1 .0) (omega (arith, l .1 .1)) vs (suc (length s)) (p + 1) (l .1 .2) (omega arith))
+      ∙ ap (map (listing n (p + 1))) (sym (unless-short s (countFrom (suc (length s)) s (p + 1)) (t .short)) ∙ count-is s (l .1 .0) (omega (arith, l .1 .1)) vs (suc (length s)) (p + 1) (l .1 .2) (omega arith))
       ∙ sym (map-map (listing n (p + 1)) length (λ k. listing n (p + 1) (length k)) (λ (k : List PeerEntry). refl) (peersFrom (p + 1) vs))
       ∙ map-map counted (listing n (p + 1)) (λ k. listing n (p + 1) (length k)) (λ (k : List PeerEntry). refl) (peersFrom (p + 1) vs)
   peers-is n p (dict es) t = looked (peersIn s n p) p (dictionary-stands s e p es t .0)

@@ -1,5 +1,5 @@
 -- What the code goes through, step by step: an answer that was taken apart, an entry of a list, the loops. Assumes nothing.
-use mathlib.Core.Path.{_≡_, refl, sym, ap, _∙_}
+use mathlib.Core.Path.{_≡_, refl, sym, ap, _∙_, subst}
 use mathlib.Core.Bool.{true, false, cond}
 use mathlib.Core.List.{List}
 use Prim.Native.Nat.{ℕ, zero, suc, _+_, _-_, _/_, _%_, _<_, _≤_}
@@ -9,12 +9,15 @@ use lib.ListN.{length, getD, drop, drop-of-length-le}
 use lib.Seq.{drop-cons}
 use borrow.Author.Tests.{le-leb, lt-leb, eq-eqb, ne-eqb, lt-ltb, le-ltb}
 use Rattle.refusal.specs.Paper.{Outcome, taken, refused, refusal, map, then}
+use Rattle.refusal.specs.Limits.{mostText}
 use Rattle.refusal.specs.declared.Refusal.{Refusal}
 use Rattle.refusal.specs.declared.Part.{Part}
 use Rattle.bencode_walk.proofs.Seeking.{skip-further}
-use Rattle.bencode.specs.Decode.{closes}
-use Rattle.bencode_walk.specs.Walk.{Hit, seekPaper, skipOf, pastPaper, lookOf, lookAt}
-use Rattle.bencode_scalar.specs.Reading.{onHead}
+use Rattle.bencode_walk.proofs.Limited.{unless-long, Limited}
+use Rattle.bencode_walk.proofs.Seeing.{look-out}
+use Rattle.bencode_fields.proofs.Seeking.{sought-limited, after-limited, needed-limited}
+use Rattle.bencode.specs.Decode.{closes, unlessLong}
+use Rattle.bencode_walk.specs.Walk.{Head, Hit, seekPaper, skipOf, pastPaper}
 use Rattle.bencode_walk.specs.declared.Sought.{Sought}
 use Rattle.bencode_walk.specs.declared.Past.the-variants.{To, Refused as Bad}
 use Rattle.bencode_fields.specs.Looks.{stringPaper, naturalPaper, stringOf, naturalOf, dictionaryOf, dictionaryIn, needed, soughtFrom, soughtAfter}
@@ -64,11 +67,17 @@ listed-by s p = refl
 
 -- six bytes that are there, or not
 module _ (s : List ℕ) (p : ℕ) where
-  pub packed-whole : p + 6 ≤ length s → taken (record { entry = packed (sixAt s p); next = p + 6 }) ≡ packedAt s p
-  packed-whole h = rw (le-leb (p + 6) (length s) h)
+  pub packed-long : mostText < length s → refused 8 0 ≡ packedAt s p
+  unfolding packedAt
+  packed-long h = unless-long s _ h
 
-  pub packed-cut : length s < p + 6 → refused 1 (length s) ≡ packedAt s p
-  packed-cut h = rw (lt-leb (p + 6) (length s) h)
+  pub packed-whole : length s ≤ mostText → p + 6 ≤ length s → taken (record { entry = packed (sixAt s p); next = p + 6 }) ≡ packedAt s p
+  unfolding packedAt
+  packed-whole l h = rw (le-ltb mostText (length s) l, le-leb (p + 6) (length s) h)
+
+  pub packed-cut : length s ≤ mostText → length s < p + 6 → refused 1 (length s) ≡ packedAt s p
+  unfolding packedAt
+  packed-cut l h = rw (le-ltb mostText (length s) l, lt-leb (p + 6) (length s) h)
 
 -- the place past a peer that was read: further on, and within the text
 taken-past : {A : Type 0} (o : Outcome A) (f : A → Outcome PeerStep) (x : PeerStep) → then o f ≡ taken x → (a : A) × (f a ≡ taken x)
@@ -89,9 +98,9 @@ listed-skips s p x e =
     mapped (skipOf s p) (record { id = b .0; ip = c .0; port = d .0 }) x (d .1)
 
 -- where the text is at its end there is no entry
-nothing-listed : (s : List ℕ) (p : ℕ) → length s ≤ p → listedAt s p ≡ refused 1 (length s)
-unfolding listedAt lookOf
-nothing-listed s p h = ap (λ (l : List ℕ). then (then (onHead l (refused 1 (length s)) (λ b t. lookAt s p b)) (dictionaryIn p)) (peerBy s p)) (drop-of-length-le s h)
+nothing-listed : (s : List ℕ) (p : ℕ) → length s ≤ mostText → length s ≤ p → listedAt s p ≡ refused 1 (length s)
+unfolding listedAt
+nothing-listed s p l h = ap (λ (o : Outcome Head). then (then o (dictionaryIn p)) (peerBy s p)) (sym (look-out s p l h))
 
 closes-at : (s : List ℕ) (p : ℕ) → p < length s → closes (drop p s) ≡ eqb (getD s p 0) 101
 closes-at s p h = ap closes (drop-cons s p 0 h)
@@ -137,13 +146,13 @@ module _ (s : List ℕ) (first at n : ℕ) where
   pub counting-bad : Counting s first at n → (r : Refusal) → at < length s → (getD s at 0 ≡ 101 → ⊥) → listedPaper (Not r) ≡ listedAt s at → refusal r ≡ countFrom (suc (length s)) s first
   counting-bad c r l b e = count-bad (c .left) r (c .same) (c .enough) (closes-at s at l ∙ ne-eqb (getD s at 0) 101 b) l (sym e)
 
-  count-out : (f : ℕ) → map (λ k. n + k) (countFrom f s at) ≡ countFrom (suc (length s)) s first → length s ≤ at → refused 1 (length s) ≡ countFrom (suc (length s)) s first
+  count-out : (f : ℕ) → map (λ k. n + k) (countFrom f s at) ≡ countFrom (suc (length s)) s first → length s ≤ mostText → length s ≤ at → refused 1 (length s) ≡ countFrom (suc (length s)) s first
   unfolding countFrom
-  count-out zero e l = e
-  count-out (suc f) e l = rw (closes-none s at l, nothing-listed s at l) at e
+  count-out zero e h l = e
+  count-out (suc f) e h l = rw (closes-none s at l, nothing-listed s at h l) at e
 
-  pub counting-out : Counting s first at n → length s ≤ at → refused 1 (length s) ≡ countFrom (suc (length s)) s first
-  counting-out c l = count-out (c .left) (c .same) l
+  pub counting-out : Counting s first at n → length s ≤ mostText → length s ≤ at → refused 1 (length s) ≡ countFrom (suc (length s)) s first
+  counting-out c h l = count-out (c .left) (c .same) h l
 
   count-more : (f : ℕ) (x : Listed) (q : ℕ) → map (λ k. n + k) (countFrom f s at) ≡ countFrom (suc (length s)) s first → length s < at + f → n ≤ at → at < length s → closes (drop at s) ≡ false → listedAt s at ≡ taken (record { entry = listed x; next = q }) → Counting s first q (n + 1)
   unfolding countFrom
@@ -176,27 +185,43 @@ module _ (s : List ℕ) (at : ℕ) where
   nth-here (suc left) h = absurd (omega arith)
 
 -- a peer's checks in document 01's order, as the code goes through them
-module _ (s : List ℕ) (p first : ℕ) (ips ids ports : Sought) (a : seekPaper ips ≡ soughtFrom s first ip) (b : seekPaper ids ≡ soughtAfter s (seekPaper ips) peerId) (c : seekPaper ports ≡ soughtAfter s (seekPaper ids) port)
+module _ (s : List ℕ) (p first : ℕ) (ips ids ports : Sought) (a : seekPaper ips ≡ soughtFrom s first ip) (b : seekPaper ids ≡ unlessLong s (soughtAfter s (seekPaper ips) peerId)) (c : seekPaper ports ≡ unlessLong s (soughtAfter s (seekPaper ids) port))
     (r₁ : Bytes) (e₁ : stringPaper r₁ ≡ needed p (seekPaper ids) (idOf s)) where
+  -- the first search tells of a text that is too long, and so do those after it
+  ips-limited : Limited s (seekPaper ips)
+  ips-limited = sought-limited s (seekPaper ips) first ip a
+
+  ids-is : seekPaper ids ≡ soughtAfter s (seekPaper ips) peerId
+  ids-is = b ∙ sym (after-limited s (seekPaper ips) ips-limited peerId)
+
+  ids-limited : Limited s (seekPaper ids)
+  ids-limited = subst (λ (o : Outcome Hit). Limited s o) (sym ids-is) (after-limited s (seekPaper ips) ips-limited peerId)
+
+  ports-is : seekPaper ports ≡ soughtAfter s (seekPaper ids) port
+  ports-is = c ∙ sym (after-limited s (seekPaper ids) ids-limited port)
+
+  ports-limited : Limited s (seekPaper ports)
+  ports-limited = subst (λ (o : Outcome Hit). Limited s o) (sym ports-is) (after-limited s (seekPaper ids) ids-limited port)
+
   by-id : then (stringPaper r₁) (afterId s p (seekPaper ips) (seekPaper ports)) ≡ peerBy s p first
-  by-id = ap (λ (o : Outcome Part). then o (afterId s p (seekPaper ips) (seekPaper ports))) e₁ ∙ hits s p first (seekPaper ips) (seekPaper ids) (seekPaper ports) a b c
+  by-id = ap (λ (o : Outcome Part). then o (afterId s p (seekPaper ips) (seekPaper ports))) e₁ ∙ hits s p first (seekPaper ips) (seekPaper ids) (seekPaper ports) a ids-is ports-is
 
   pub no-id : {r : Refusal} → r₁ ≡ Unread r → refusal r ≡ peerBy s p first
   no-id g = ap (λ (x : Bytes). then (stringPaper x) (afterId s p (seekPaper ips) (seekPaper ports))) (sym g) ∙ by-id
 
-  module _ {x : Part} (g₁ : r₁ ≡ Are x) (r₂ : Bytes) (e₂ : stringPaper r₂ ≡ needed p (seekPaper ips) (stringOf s)) where
+  module _ {x : Part} (g₁ : r₁ ≡ Are x) (r₂ : Bytes) (e₂ : stringPaper r₂ ≡ unlessLong s (needed p (seekPaper ips) (stringOf s))) where
     by-ip : then (stringPaper r₂) (afterIp s p (seekPaper ports) x) ≡ peerBy s p first
     by-ip =
-        ap (λ (o : Outcome Part). then o (afterIp s p (seekPaper ports) x)) e₂
+        ap (λ (o : Outcome Part). then o (afterIp s p (seekPaper ports) x)) (e₂ ∙ sym (needed-limited s (seekPaper ips) ips-limited p (stringOf s)))
         ∙ ap (λ (y : Bytes). then (stringPaper y) (afterId s p (seekPaper ips) (seekPaper ports))) (sym g₁) ∙ by-id
 
     pub no-ip : {r : Refusal} → r₂ ≡ Unread r → refusal r ≡ peerBy s p first
     no-ip g = ap (λ (y : Bytes). then (stringPaper y) (afterIp s p (seekPaper ports) x)) (sym g) ∙ by-ip
 
-    module _ {y : Part} (g₂ : r₂ ≡ Are y) (r₃ : Natural) (e₃ : naturalPaper r₃ ≡ needed p (seekPaper ports) (naturalOf 65535 s)) where
+    module _ {y : Part} (g₂ : r₂ ≡ Are y) (r₃ : Natural) (e₃ : naturalPaper r₃ ≡ unlessLong s (needed p (seekPaper ports) (naturalOf 65535 s))) where
       by-port : then (naturalPaper r₃) (afterPort s p x y) ≡ peerBy s p first
       by-port =
-          ap (λ (o : Outcome ℕ). then o (afterPort s p x y)) e₃
+          ap (λ (o : Outcome ℕ). then o (afterPort s p x y)) (e₃ ∙ sym (needed-limited s (seekPaper ports) ports-limited p (naturalOf 65535 s)))
           ∙ ap (λ (z : Bytes). then (stringPaper z) (afterIp s p (seekPaper ports) x)) (sym g₂) ∙ by-ip
 
       pub no-port : {r : Refusal} → r₃ ≡ NoNumber r → refusal r ≡ peerBy s p first
@@ -222,11 +247,14 @@ module _ (x : Outcome PeerEntry) (count n : ℕ) where
   no-count h = rw (le-ltb n count h)
 
 -- interval and peers, as the code goes through them
-module _ (s : List ℕ) (at : ℕ) (i p : Sought) (a : seekPaper i ≡ soughtFrom s at interval) (b : seekPaper p ≡ soughtAfter s (seekPaper i) peers) (r : Natural) (e : naturalPaper r ≡ needed 0 (seekPaper i) (naturalOf 2147483647 s)) where
+module _ (s : List ℕ) (at : ℕ) (i p : Sought) (a : seekPaper i ≡ soughtFrom s at interval) (b : seekPaper p ≡ unlessLong s (soughtAfter s (seekPaper i) peers)) (r : Natural) (e : naturalPaper r ≡ unlessLong s (needed 0 (seekPaper i) (naturalOf 2147483647 s))) where
+  interval-limited : Limited s (seekPaper i)
+  interval-limited = sought-limited s (seekPaper i) at interval a
+
   by-interval : then (naturalPaper r) (λ n. needed 0 (seekPaper p) (peersOf s n)) ≡ answeredOf s at
   by-interval =
-      ap (λ (o : Outcome ℕ). then o (λ n. needed 0 (seekPaper p) (peersOf s n))) e
-      ∙ ap (λ (o : Outcome Hit). then (needed 0 (seekPaper i) (naturalOf 2147483647 s)) (λ n. needed 0 o (peersOf s n))) b
+      ap (λ (o : Outcome ℕ). then o (λ n. needed 0 (seekPaper p) (peersOf s n))) (e ∙ sym (needed-limited s (seekPaper i) interval-limited 0 (naturalOf 2147483647 s)))
+      ∙ ap (λ (o : Outcome Hit). then (needed 0 (seekPaper i) (naturalOf 2147483647 s)) (λ n. needed 0 o (peersOf s n))) (b ∙ sym (after-limited s (seekPaper i) interval-limited peers))
       ∙ ap (λ (o : Outcome Hit). then (needed 0 o (naturalOf 2147483647 s)) (λ n. needed 0 (soughtAfter s o peers) (peersOf s n))) a
 
   pub no-interval : {x : Refusal} → r ≡ NoNumber x → refusal x ≡ answeredOf s at

@@ -9,6 +9,7 @@ use lib.ListN.{length, getD, drop, length-append}
 use lib.Seq.{getD-drop}
 use borrow.Author.Tests.{lt-ltb, le-ltb, ltb-true, ltb-false}
 use Rattle.refusal.specs.Paper.{Outcome, taken, refused, map, then}
+use Rattle.refusal.specs.Limits.{mostText}
 use Rattle.refusal.specs.declared.Part.{Part}
 use Rattle.bencode_scalar.specs.Written.{decimal}
 use Rattle.bencode.specs.Value.{Value, Items, Entries, str, int, list, dict, none, item, encode, start}
@@ -41,19 +42,19 @@ module _ (s : List ℕ) (p a b c d e f : ℕ) (l : List ℕ) (t : drop p s ≡ a
   six-there : sixAt s p ≡ packedOf a b c d e f
   six-there = rw (first-byte-at, byte-at 1, byte-at 2, byte-at 3, byte-at 4, byte-at 5)
 
-pub packed-walks : (s bs rest : List ℕ) (p : ℕ) → p ≤ length s → drop p s ≡ bs ++ rest → Walks (packedAt s) p (sixes bs)
+pub packed-walks : (s bs rest : List ℕ) → length s ≤ mostText → (p : ℕ) → p ≤ length s → drop p s ≡ bs ++ rest → Walks (packedAt s) p (sixes bs)
 unfolding sixes
-packed-walks s [] rest p h t = ends p
-packed-walks s (a ∷ []) rest p h t = ends p
-packed-walks s (a ∷ b ∷ []) rest p h t = ends p
-packed-walks s (a ∷ b ∷ c ∷ []) rest p h t = ends p
-packed-walks s (a ∷ b ∷ c ∷ d ∷ []) rest p h t = ends p
-packed-walks s (a ∷ b ∷ c ∷ d ∷ e ∷ []) rest p h t = ends p
-packed-walks s (a ∷ b ∷ c ∷ d ∷ e ∷ f ∷ more) rest p h t =
+packed-walks s [] rest l p h t = ends p
+packed-walks s (a ∷ []) rest l p h t = ends p
+packed-walks s (a ∷ b ∷ []) rest l p h t = ends p
+packed-walks s (a ∷ b ∷ c ∷ []) rest l p h t = ends p
+packed-walks s (a ∷ b ∷ c ∷ d ∷ []) rest l p h t = ends p
+packed-walks s (a ∷ b ∷ c ∷ d ∷ e ∷ []) rest l p h t = ends p
+packed-walks s (a ∷ b ∷ c ∷ d ∷ e ∷ f ∷ more) rest l p h t =
     let r = room s p (a ∷ b ∷ c ∷ d ∷ e ∷ f ∷ []) (more ++ rest) h t in
     goes p (packed (packedOf a b c d e f)) (p + 6) (sixes more)
-    (sym (packed-whole s p r) ∙ ap (λ x. taken (record { entry = packed x; next = p + 6 })) (six-there s p a b c d e f (more ++ rest) t))
-    (packed-walks s more rest (p + 6) r (past s p (a ∷ b ∷ c ∷ d ∷ e ∷ f ∷ []) (more ++ rest) t))
+    (sym (packed-whole s p l r) ∙ ap (λ x. taken (record { entry = packed x; next = p + 6 })) (six-there s p a b c d e f (more ++ rest) t))
+    (packed-walks s more rest l (p + 6) r (past s p (a ∷ b ∷ c ∷ d ∷ e ∷ f ∷ []) (more ++ rest) t))
 
 module _ (s : List ℕ) (d : ℕ) (levels : d ≤ 32) where
   walks-more : (p : ℕ) (v : Value) (l : List PeerEntry) (o : Outcome Listed) (m : Outcome (List PeerEntry)) → listedAt s p ≡ map (λ x. record { entry = listed x; next = p + length (encode v) }) o
@@ -81,11 +82,16 @@ ltb-suc n m = go (ltb n m) refl
     go false e = let h = ltb-false n m e in le-ltb (suc n) (suc m) (omega arith)
 
 packed-next : (s : List ℕ) (p : ℕ) (x : PeerEntry) (q : ℕ) → packedAt s p ≡ taken (record { entry = x; next = q }) → q ≡ p + 6
-packed-next s p x q e = go (leb (p + 6) (length s)) e
+unfolding packedAt
+packed-next s p x q e = by (ltb mostText (length s)) e
   where
     go : (b : Bool) → cond {A = Outcome PeerStep} b (taken (record { entry = packed (sixAt s p); next = p + 6 })) (refused 1 (length s)) ≡ taken (record { entry = x; next = q }) → q ≡ p + 6
     go true f = let g : _≡_ {A = PeerStep} (record { entry = packed (sixAt s p); next = p + 6 }) (record { entry = x; next = q }) = cc in sym (ap (λ (z : PeerStep). z .next) g)
     go false f = absurd (let z : _≡_ {A = ℕ} 0 1 = cc in omega arith)
+
+    by : (b : Bool) → cond {A = Outcome PeerStep} b (refused 8 0) (cond (leb (p + 6) (length s)) (taken (record { entry = packed (sixAt s p); next = p + 6 })) (refused 1 (length s))) ≡ taken (record { entry = x; next = q }) → q ≡ p + 6
+    by true f = absurd (let z : _≡_ {A = ℕ} 0 1 = cc in omega arith)
+    by false f = go (leb (p + 6) (length s)) f
 
 pub packed-nth : (s : List ℕ) (p : ℕ) (l : List PeerEntry) → Walks (packedAt s) p l → (n : ℕ) → cond (ltb n (length l)) (map (λ x. x .entry) (packedAt s (p + n * 6))) (refused 31 0) ≡ nth n l
 unfolding nth
@@ -144,7 +150,7 @@ module _ (s : List ℕ) where
       let r = room s p (decimal (length bs) ++ 58 ∷ []) (bs ++ t .rest) (t .inside) g in
       let z : p + length (decimal (length bs) ++ 58 ∷ []) ≡ partOf p bs .from = omega arith in
       fit-cond (eqb (length bs % 6) 0) (compact n (partOf p bs .from) (sixes bs)) p
-      (packed-walks s bs (t .rest) (partOf p bs .from) (omega (arith, r, z)) (ap (λ (i : ℕ). drop i s) (sym z) ∙ past s p (decimal (length bs) ++ 58 ∷ []) (bs ++ t .rest) g))
+      (packed-walks s bs (t .rest) (t .short) (partOf p bs .from) (omega (arith, r, z)) (ap (λ (i : ℕ). drop i s) (sym z) ∙ past s p (decimal (length bs) ++ 58 ∷ []) (bs ++ t .rest) g))
   fit-peers e levels n p (int z) t = tt
   fit-peers e levels n p (list vs) t =
       let l = list-stands s e p vs t .1 in

@@ -9,7 +9,7 @@ use Rattle.refusal.specs.Paper.{Outcome, taken, refused, refusal, map, then}
 use Rattle.refusal.specs.Numbers.{cut, peer}
 use Rattle.refusal.specs.Limits.{largestPort}
 use Rattle.refusal.specs.declared.Part.{Part}
-use Rattle.bencode.specs.Decode.{closes}
+use Rattle.bencode.specs.Decode.{closes, unlessLong}
 use Rattle.bencode_walk.specs.Walk.{Hit, skipOf}
 use Rattle.bencode_fields.specs.Looks.{stringOf, naturalOf, dictionaryOf, needed, soughtFrom, soughtAfter}
 use Rattle.tracker.specs.Keys.{ip, peerId, port}
@@ -44,8 +44,8 @@ packedPaper (PackedNot r) = refusal r
 abbrev pub sixAt : List ℕ → ℕ → Packed
 sixAt s p = packedOf (getD s p 0) (getD s (p + 1) 0) (getD s (p + 2) 0) (getD s (p + 3) 0) (getD s (p + 4) 0) (getD s (p + 5) 0)
 
-abbrev pub packedAt : List ℕ → ℕ → Outcome PeerStep
-packedAt s p = cond (leb (p + 6) (length s)) (taken (record { entry = packed (sixAt s p); next = p + 6 })) (refused cut (length s))
+unfoldable pub packedAt : List ℕ → ℕ → Outcome PeerStep
+packedAt s p = unlessLong s (cond (leb (p + 6) (length s)) (taken (record { entry = packed (sixAt s p); next = p + 6 })) (refused cut (length s)))
 
 abbrev pub listedPaper : Listing → Outcome PeerStep
 listedPaper (Is x q) = taken (record { entry = listed x; next = q })
@@ -91,6 +91,9 @@ countFrom zero s p = refused cut (length s)
 countFrom (suc f) s p =
     let r : Outcome ℕ = then (listedAt s p) (λ x. map suc (countFrom f s (x .next))) in
     cond (closes (drop p s)) (taken 0) r
+
+abbrev pub countOf : List ℕ → ℕ → Outcome ℕ
+countOf s p = unlessLong s (countFrom (suc (length s)) s p)
 
 -- entry number n of those that stand from p on
 unfoldable pub nthAt : ℕ → List ℕ → ℕ → Outcome PeerStep

@@ -2,16 +2,15 @@
 -- From `compactOf` on they serve inner contracts alone and need not be believed: `read-whole` of tracker/proofs/Agreeing.antt ties them to Reply.antt.
 use mathlib.Core.Bool.{cond}
 use mathlib.Core.List.{List}
-use Prim.Native.Nat.{ℕ, suc, _+_, _*_, _/_, _%_}
+use Prim.Native.Nat.{ℕ, _+_, _*_, _/_, _%_}
 use lib.Dec.{eqb, ltb}
-use lib.ListN.{length}
 use Rattle.refusal.specs.Paper.{Outcome, taken, refused, refusal, map, then}
 use Rattle.refusal.specs.Numbers.{kind, peer, beyond}
 use Rattle.refusal.specs.Limits.{longestInterval}
 use Rattle.bencode_walk.specs.Walk.{Head, string, integer, long, list, dictionary, end, lookOf, Hit, found, missing}
 use Rattle.bencode_fields.specs.Looks.{stringOf, naturalOf, dictionaryOf, needed, soughtFrom, soughtAfter}
 use Rattle.tracker.specs.Keys.{failureReason, interval, peers}
-use Rattle.tracker.specs.Entries.{PeerEntry, packed, listed, packedAt, countFrom, nthAt}
+use Rattle.tracker.specs.Entries.{PeerEntry, packed, listed, packedAt, countOf, nthAt}
 use Rattle.tracker.specs.Reply.{Answer, failure, compact, listing}
 use Rattle.tracker.specs.declared.Reply.{Reply}
 use Rattle.tracker.specs.declared.Reply.the-variants.{Failure, Compact, List as Listing, Refused}
@@ -44,7 +43,7 @@ abbrev pub compactOf : ℕ → ℕ → ℕ → ℕ → Outcome (Answer ℕ)
 compactOf n p a m = cond (eqb (m % 6) 0) (taken (compact n a (m / 6))) (refused peer p)
 
 abbrev pub listingOf : List ℕ → ℕ → ℕ → Outcome (Answer ℕ)
-listingOf s n q = map (listing n q) (countFrom (suc (length s)) s q)
+listingOf s n q = map (listing n q) (countOf s q)
 
 abbrev pub peersIn : List ℕ → ℕ → ℕ → Head → Outcome (Answer ℕ)
 peersIn s n p (string a m q) = compactOf n p a m

@@ -4,6 +4,7 @@ ghost use Prim.Native.Nat.{_+_, _*_, _≤_};
 ghost use lib.ListN.{length, getD};
 ghost use Rattle.tracker.specs.Entries.{packedOf, packedPaper, packedAt};
 use refusal::Refusal;
+use refusal::limit;
 use refusal::number;
 
 // The four bytes of an address.
@@ -25,11 +26,14 @@ pub enum Packing {
 pub fn packed_at(text: &[u8], at: usize) -> Packing
     ensures { λ r. ⌜ packedPaper r ≡ packedAt (now (text .entry)) at ⌝ }
 {
+    if limit::TEXT < text.len() {
+        return no_entry(number::LONG, 0);
+    }
     if text.len() < 6 {
-        return cut(text.len());
+        return no_entry(number::CUT, text.len());
     }
     if text.len() - 6 < at {
-        return cut(text.len());
+        return no_entry(number::CUT, text.len());
     }
     Packing::Is(six(text, at), at + 6)
 }
@@ -38,12 +42,15 @@ pub fn packed_at(text: &[u8], at: usize) -> Packing
 pub(crate) fn nth(text: &[u8], first: usize, n: usize) -> Packing
     ensures { λ r. ⌜ packedPaper r ≡ packedAt (now (text .entry)) (first + n * 6) ⌝ }
 {
+    if limit::TEXT < text.len() {
+        return no_entry(number::LONG, 0);
+    }
     if text.len() / 6 <= n {
-        return cut(text.len());
+        return no_entry(number::CUT, text.len());
     }
     let skipped = n * 6;
     if text.len() - skipped < first {
-        return cut(text.len());
+        return no_entry(number::CUT, text.len());
     }
     packed_at(text, first + skipped)
 }
@@ -64,8 +71,8 @@ fn port(high: u8, low: u8) -> u64
     (high as u64) * 256 + low as u64
 }
 
-fn cut(place: usize) -> Packing
-    ensures { λ r. ⌜ r ≡ Packing.Refused (record { number = 1; place = place }) ⌝ }
+fn no_entry(number: u8, place: usize) -> Packing
+    ensures { λ r. ⌜ r ≡ Packing.Refused (record { number = number; place = place }) ⌝ }
 {
-    Packing::Refused(refusal::refuse(number::CUT, place))
+    Packing::Refused(refusal::refuse(number, place))
 }

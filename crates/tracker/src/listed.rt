@@ -1,11 +1,9 @@
 // Entries that are dictionaries of a list: peer id, ip and port.
 ghost use mathlib.Core.Path.{_≡_};
-ghost use Prim.Native.Nat.{suc};
-ghost use lib.ListN.{length};
 ghost use Rattle.refusal.specs.Numbers.{peer};
 ghost use Rattle.bencode_walk.specs.Walk.{seekPaper};
 ghost use Rattle.bencode_fields.specs.Looks.{needed, stringPaper};
-ghost use Rattle.tracker.specs.Entries.{idOf, listedPaper, peerBy, pastPeer, listedAt, countPaper, countFrom, nthAt};
+ghost use Rattle.tracker.specs.Entries.{idOf, listedPaper, peerBy, pastPeer, listedAt, countPaper, countOf, nthAt};
 use bencode_fields::Bytes;
 use bencode_fields::Inside;
 use bencode_fields::Natural;
@@ -47,8 +45,11 @@ pub fn listed_at(text: &[u8], at: usize) -> Listing
 
 // How many entries a list has whose first item stands at a place, or the first refusal among them.
 pub fn count(text: &[u8], first: usize) -> Counted
-    ensures { λ r. ⌜ countPaper r ≡ countFrom (suc (length (now (text .entry)))) (now (text .entry)) first ⌝ }
+    ensures { λ r. ⌜ countPaper r ≡ countOf (now (text .entry)) first ⌝ }
 {
+    if limit::TEXT < text.len() {
+        return uncounted(number::LONG, 0);
+    }
     let mut at = first;
     let mut n: usize = 0;
     while at < text.len() {
@@ -63,7 +64,7 @@ pub fn count(text: &[u8], first: usize) -> Counted
             Listing::Refused(r) => return Counted::Refused(r),
         }
     }
-    uncounted(text.len())
+    uncounted(number::CUT, text.len())
 }
 
 // Entry number n of those from a place on.
@@ -147,8 +148,8 @@ fn unread(number: u8, place: usize) -> Bytes
     Bytes::Refused(refusal::refuse(number, place))
 }
 
-fn uncounted(place: usize) -> Counted
-    ensures { λ r. ⌜ r ≡ Counted.Refused (record { number = 1; place = place }) ⌝ }
+fn uncounted(number: u8, place: usize) -> Counted
+    ensures { λ r. ⌜ r ≡ Counted.Refused (record { number = number; place = place }) ⌝ }
 {
-    Counted::Refused(refusal::refuse(number::CUT, place))
+    Counted::Refused(refusal::refuse(number, place))
 }

@@ -11,12 +11,15 @@ returns : tie.Need-returns
 returns c = as-seen (stringIn (c .before .before .before .before .before .args .at)) _ _ _ (c .before .before .before .look .ensures) (c .before .bytes .given .1)
 
 returns-2 : tie.Need-returns-2
-returns-2 c = as-seen (stringIn (c .before .before .before .before .before .args .at)) _ _ _ (c .before .before .before .look .ensures) (c .before .r .given .1)
+returns-2 c = ap stringPaper (c .no-string .ensures) ∙ as-seen (stringIn (c .before .before .before .before .before .args .at)) _ _ _ (c .before .before .before .look .ensures) (c .before .enum-told .given .1)
 
 returns-3 : tie.Need-returns-3
-returns-3 c =
-    ap stringPaper (c .no-string .ensures)
-    ∙ rest-seen (1 ∷ 2 ∷ 3 ∷ 4 ∷ 5 ∷ []) (stringIn (c .before .before .before .before .args .at)) _ (tt, λ z q. refl, λ a m q. refl, λ q. refl, λ q. refl, λ q. refl, tt) (c .before .before .look .result) _ (c .before .before .look .ensures) (c .before .match .keys3)
+returns-3 c = as-seen (stringIn (c .before .before .before .before .before .args .at)) _ _ _ (c .before .before .before .look .ensures) (c .before .r .given .1)
+
+returns-4 : tie.Need-returns-4
+returns-4 c =
+    ap stringPaper (c .no-string2 .ensures)
+    ∙ rest-seen (1 ∷ 2 ∷ 3 ∷ 4 ∷ []) (stringIn (c .before .before .before .before .args .at)) _ (tt, λ z q. refl, λ a m q. refl, λ q. refl, λ q. refl, tt, tt) (c .before .before .look .result) _ (c .before .before .look .ensures) (c .before .match .keys4)
 
 pub string-at-spec : {M : Type 1} → statement M
 string-at-spec =
@@ -26,6 +29,9 @@ string-at-spec =
     (λ c. search needs)
     (λ c. search needs)
     (λ c κs. search needs)
+    (λ c. search needs)
+    (λ c κs. search needs)
     returns
     returns-2
-    returns-3)
+    returns-3
+    returns-4)

@@ -167,7 +167,7 @@ text-6 text r p h = Iff·trans (as-decoded text r 6 p (omega arith)) (laws.many-
 pub text-7 : (text : Lent (List ℕ)) (r : Reader text) (p : ℕ) → length (before text) ≤ mostText → answerOf r ≡ refused 7 p ↔ After (before text) p
 text-7 text r p h = Iff·trans (as-decoded text r 7 p (omega arith)) (laws.after-law (before text) p h)
 
--- ---- 8: "text (no frame or handshake) to read or write over 1,048,576 bytes, or piece to hash over 16,777,216; place 0"
+-- ---- 8: "text (no frame or handshake) to read or write over 1,048,576 bytes, or piece to hash over 16,777,216; place 0"; of the looks at a place: Looks.antt
 
 -- given by bencode::check
 pub check-8 : (text : Lent (List ℕ)) (r : Checked) → bencode.check-ensures text r → (p : ℕ) → countPaper r ≡ refused 8 p ↔ ((mostText < length (before text)) × (p ≡ 0))

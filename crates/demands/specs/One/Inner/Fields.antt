@@ -2,6 +2,7 @@
 use mathlib.Core.List.{List}
 use mathlib.Core.Path.{_≡_}
 use Prim.Native.Nat.{ℕ}
+use Rattle.bencode.specs.Decode.{unlessLong}
 use Rattle.bencode_walk.specs.Walk.{seekPaper}
 use Rattle.bencode_walk.specs.declared.Sought.{Sought}
 use Rattle.bencode_fields.specs.Looks.{stringPaper, stringOf, naturalPaper, naturalOf, numberPaper, numberOf, insidePaper, listOf, dictionaryOf, needed, soughtAfter}
@@ -49,35 +50,35 @@ dictionary-at-determined text at r r′ e f = laws.inside-determined _ r r′ e 
 
 -- bencode_fields::string_under
 abbrev pub string-under-ensures : (text : Lent (List ℕ)) (dictionary : ℕ) (sought : Sought) → Bytes → Type 0
-string-under-ensures text dictionary sought r = stringPaper r ≡ needed dictionary (seekPaper sought) (stringOf (now (text .entry)))
+string-under-ensures text dictionary sought r = stringPaper r ≡ unlessLong (now (text .entry)) (needed dictionary (seekPaper sought) (stringOf (now (text .entry))))
 
 pub string-under-determined : (text : Lent (List ℕ)) (dictionary : ℕ) (sought : Sought) → Determined (string-under-ensures text dictionary sought)
 string-under-determined text dictionary sought r r′ e f = laws.string-determined _ r r′ e f
 
 -- bencode_fields::natural_under
 abbrev pub natural-under-ensures : (text : Lent (List ℕ)) (dictionary : ℕ) (sought : Sought) (most : ℕ) → Natural → Type 0
-natural-under-ensures text dictionary sought most r = naturalPaper r ≡ needed dictionary (seekPaper sought) (naturalOf most (now (text .entry)))
+natural-under-ensures text dictionary sought most r = naturalPaper r ≡ unlessLong (now (text .entry)) (needed dictionary (seekPaper sought) (naturalOf most (now (text .entry))))
 
 pub natural-under-determined : (text : Lent (List ℕ)) (dictionary : ℕ) (sought : Sought) (most : ℕ) → Determined (natural-under-ensures text dictionary sought most)
 natural-under-determined text dictionary sought most r r′ e f = laws.natural-determined _ r r′ e f
 
 -- bencode_fields::list_under
 abbrev pub list-under-ensures : (text : Lent (List ℕ)) (dictionary : ℕ) (sought : Sought) → Inside → Type 0
-list-under-ensures text dictionary sought r = insidePaper r ≡ needed dictionary (seekPaper sought) (listOf (now (text .entry)))
+list-under-ensures text dictionary sought r = insidePaper r ≡ unlessLong (now (text .entry)) (needed dictionary (seekPaper sought) (listOf (now (text .entry))))
 
 pub list-under-determined : (text : Lent (List ℕ)) (dictionary : ℕ) (sought : Sought) → Determined (list-under-ensures text dictionary sought)
 list-under-determined text dictionary sought r r′ e f = laws.inside-determined _ r r′ e f
 
 -- bencode_fields::dictionary_under
 abbrev pub dictionary-under-ensures : (text : Lent (List ℕ)) (dictionary : ℕ) (sought : Sought) → Inside → Type 0
-dictionary-under-ensures text dictionary sought r = insidePaper r ≡ needed dictionary (seekPaper sought) (dictionaryOf (now (text .entry)))
+dictionary-under-ensures text dictionary sought r = insidePaper r ≡ unlessLong (now (text .entry)) (needed dictionary (seekPaper sought) (dictionaryOf (now (text .entry))))
 
 pub dictionary-under-determined : (text : Lent (List ℕ)) (dictionary : ℕ) (sought : Sought) → Determined (dictionary-under-ensures text dictionary sought)
 dictionary-under-determined text dictionary sought r r′ e f = laws.inside-determined _ r r′ e f
 
 -- bencode_fields::seek_after
 abbrev pub seek-after-ensures : (text : Lent (List ℕ)) (sought : Sought) (key : Lent (List ℕ)) → Sought → Type 0
-seek-after-ensures text sought key r = seekPaper r ≡ soughtAfter (now (text .entry)) (seekPaper sought) (now (key .entry))
+seek-after-ensures text sought key r = seekPaper r ≡ unlessLong (now (text .entry)) (soughtAfter (now (text .entry)) (seekPaper sought) (now (key .entry)))
 
 pub seek-after-determined : (text : Lent (List ℕ)) (sought : Sought) (key : Lent (List ℕ)) → Determined (seek-after-ensures text sought key)
 seek-after-determined text sought key r r′ e f = laws.sought-determined _ r r′ e f
