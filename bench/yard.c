@@ -125,7 +125,7 @@ OUT_OF_LINE static uint64_t plain_feed(WARDRAIL_TABLES, size_t seat, const uint8
         break;
     }
     if (bad) return (uint64_t)bad;
-    s->fresh = false;
+    s->fresh = 0;
     *told = (struct wardrail_told){.value = 4 + len, .request = request};
     return 0;
 }
@@ -227,7 +227,7 @@ static void answers(void) {
         if (id != 7) frame(13, id, 2, 0, 7, 34);
     }
     frame(9, 7, 2, 0, 7, 21), frame(16393, 7, PIECES - 1, 0, 7, 0);
-    ours.seats[7].am_choking = theirs.seats[7].am_choking = false;
+    ours.seats[7].am_choking = theirs.seats[7].am_choking = 0;
     frame(1, 2, 0, 0, 7, 0), frame(13, 6, 2, 64, 7, 0);
     ours.seats[7].held = theirs.seats[7].held = PIECES;
     frame(5, 4, 6, 0, 7, 39);

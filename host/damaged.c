@@ -1,5 +1,5 @@
-/* Yard calls on damaged tables and on tables of wrong sizes, each answered as document 01 says; a refusal leaves every byte as it was.
- * Prints how many were tried, or each that went wrong. */
+/* Yard calls on damaged tables, on tables of wrong sizes and on tables of any bytes, each answered as document 01 says; a refusal leaves
+ * every byte as it was. Prints how many were tried, or each that went wrong. */
 #include "wardrail_yard.h"
 
 #include <stdio.h>
@@ -157,25 +157,183 @@ static void sizes(void) {
     REFUSES("start, other pieces than counts", y, 38, wardrail_yard_start(TABLES(&y), PIECES + 1, 16384, 1));
 }
 
-/* A start asks nothing of what stands in the tables: they are as if they had been zeros. */
-static void started(void) {
-    struct yard y, zeroed;
-    const struct wardrail_seat full = {true, true, true, true, true, true, 7};
-    memset(&y, 0xff, sizeof y);
-    memset(&zeroed, 0, sizeof zeroed);
-    for (size_t i = 0; i < SEATS; i++) memcpy(&y.seats[i], &full, sizeof full);
-    y.seats_count = zeroed.seats_count = SEATS;
-    y.rows_count = zeroed.rows_count = ROWS;
-    y.holders_count = zeroed.holders_count = PIECES;
-    says("a start on anything", wardrail_yard_start(TABLES(&y), PIECES, 16384, 100) == 0 && wardrail_yard_start(TABLES(&zeroed), PIECES, 16384, 100) == 0);
-    says("its head", !memcmp(&y.head, &zeroed.head, sizeof y.head) && y.head.pieces == PIECES && !y.head.taken && !y.head.complete);
-    says("its rows and holder counts", !memcmp(y.rows, zeroed.rows, ROWS) && !memcmp(y.holders, zeroed.holders, sizeof(uint16_t) * PIECES) && !y.rows[0] && !y.holders[0]);
-    says("and nothing past them", y.rows[ROWS] == 0xff && y.holders[PIECES] == 0xffff);
-    says("its seats", !memcmp(y.seats, zeroed.seats, sizeof(struct wardrail_seat) * SEATS) && !y.seats[0].taken && !y.seats[1].held);
+/* A start asks nothing of what stands in the tables: it makes zeros of everything but the sizes, and leaves what lies past them. */
+static void started(struct yard y) {
+    struct yard zeroed = y;
+    zeroed.head = (struct wardrail_head){PIECES, 16384, 100, 0, 0};
+    memset(zeroed.seats, 0, sizeof(struct wardrail_seat) * SEATS);
+    memset(zeroed.rows, 0, ROWS);
+    memset(zeroed.holders, 0, sizeof(uint16_t) * PIECES);
+    says("a start on anything", wardrail_yard_start(TABLES(&y), PIECES, 16384, 100) == 0 && !memcmp(&y, &zeroed, sizeof y));
+}
+
+/* ---- any bytes: document 01 once more, a flag being on where it is not 0. Each answers a call's number and makes of `y` what it leaves */
+
+static bool holds(const struct yard *y, size_t seat, size_t piece) { return y->rows[seat * WIDTH + piece / 8] >> (7 - piece % 8) & 1; }
+
+static uint64_t sits(struct yard *y, uint64_t *seat) {
+    size_t i = 0;
+    while (i < SEATS && y->seats[i].taken) i++;
+    if (i == SEATS) return 35;
+    if (y->head.taken >= SEATS) return 39;
+    y->head.taken++;
+    y->seats[i] = (struct wardrail_seat){1, 1, 1, 0, 1, 0, 0};
+    memset(y->rows + i * WIDTH, 0, WIDTH);
+    *seat = i;
+    return 0;
+}
+
+static uint64_t leaves(struct yard *y, size_t seat) {
+    struct wardrail_seat *s = &y->seats[seat];
+    if (!s->taken) return 36;
+    if (!y->head.taken || (s->held == PIECES && !y->head.complete)) return 39;
+    for (size_t p = 0; p < PIECES; p++)
+        if (holds(y, seat, p) && !y->holders[p]) return 39;
+    for (size_t p = 0; p < PIECES; p++) y->holders[p] = (uint16_t)(y->holders[p] - holds(y, seat, p));
+    memset(y->rows + seat * WIDTH, 0, WIDTH);
+    y->head.taken--;
+    if (s->held == PIECES) y->head.complete--;
+    *s = (struct wardrail_seat){0, 0, 0, 0, 0, 0, 0};
+    return 0;
+}
+
+static uint64_t announces(struct yard *y, size_t seat, const uint8_t *said) {
+    struct wardrail_seat *s = &y->seats[seat];
+    unsigned more = 0;
+    for (size_t p = 0; p < PIECES; p++)
+        if (said[p / 8] >> (7 - p % 8) & 1 && !holds(y, seat, p)) {
+            if (y->holders[p] >= SEATS) return 39;
+            more++;
+        }
+    if (!more) return 0;
+    if (s->held + more > PIECES || (s->held + more == PIECES && y->head.complete >= SEATS)) return 39;
+    for (size_t p = 0; p < PIECES; p++)
+        if (said[p / 8] >> (7 - p % 8) & 1 && !holds(y, seat, p)) y->holders[p]++;
+    for (size_t k = 0; k < WIDTH; k++) y->rows[seat * WIDTH + k] |= said[k];
+    s->held = (uint16_t)(s->held + more);
+    if (s->held == PIECES) y->head.complete++;
+    return 0;
+}
+
+/* A mark, a have, a bitfield of the right length, or a request for a byte of piece 0. */
+static uint64_t hears(struct yard *y, size_t seat, const uint8_t *frame, uint64_t *request) {
+    struct wardrail_seat *s = &y->seats[seat];
+    uint8_t id = frame[4], one[WIDTH] = {0};
+    uint64_t bad = 0;
+    *request = WARDRAIL_REQUEST_NONE;
+    if (!s->taken) return 36;
+    if (id < 2) s->peer_choking = id == 0;
+    else if (id < 4) s->peer_interested = id == 2;
+    else if (id == 4) {
+        if (frame[8] >= PIECES) return 31;
+        one[frame[8] / 8] = (uint8_t)(128 >> frame[8] % 8);
+        bad = announces(y, seat, one);
+    } else if (id == 5) {
+        if (!s->fresh) return 30;
+        if (frame[6] & 0x3f) return 33;
+        bad = announces(y, seat, frame + 5);
+    } else *request = !s->am_choking && s->peer_interested ? WARDRAIL_REQUEST_SERVE : WARDRAIL_REQUEST_DROP;
+    if (!bad) s->fresh = 0;
+    return bad;
+}
+
+static uint32_t any(void) {
+    static uint64_t state = 88172645463325252u;
+    state ^= state << 13, state ^= state >> 7, state ^= state << 17;
+    return (uint32_t)(state >> 16);
+}
+
+/* Any bytes in all tables, and past them. */
+static struct yard scribbled(void) {
+    struct yard y;
+    uint8_t bytes[sizeof y];
+    for (size_t i = 0; i < sizeof y; i++) bytes[i] = (uint8_t)any();
+    memcpy(&y, bytes, sizeof y);
+    y.seats_count = SEATS, y.rows_count = ROWS, y.holders_count = PIECES;
+    return y;
+}
+
+/* The same with sizes that fit, so that calls look further; most flags are 0 or another small number, and most counts near their tops. */
+static struct yard fitting(void) {
+    struct yard y = scribbled();
+    y.head.pieces = PIECES, y.head.piece_length = 16384, y.head.last_length = 100;
+    for (size_t i = 0; i < SEATS; i++) {
+        uint8_t flags[6];
+        for (size_t k = 0; k < 6; k++) flags[k] = (uint8_t)(any() % 4 ? any() % 3 : any());
+        memcpy(&y.seats[i], flags, sizeof flags);
+        if (any() % 4) y.seats[i].held = (uint16_t)(any() % (PIECES + 2));
+    }
+    if (any() % 4) y.head.taken = any() % (SEATS + 2);
+    if (any() % 4) y.head.complete = any() % (SEATS + 2);
+    for (size_t p = 0; p < PIECES; p++)
+        if (any() % 8) y.holders[p] = (uint16_t)(any() % (SEATS + 1));
+    return y;
+}
+
+static void same(const char *what, const struct yard *y, const struct yard *want, bool answer) {
+    says(what, answer && !memcmp(y, want, sizeof *want));
+}
+
+static void any_seating(struct yard *y) {
+    struct yard want = *y;
+    uint64_t seat = 7, wanted = sits(&want, &seat);
+    told.seat = 7;
+    same("any bytes: sit", y, &want, sit(y) == wanted && told.seat == seat);
+    seat = any() % SEATS, wanted = leaves(&want, seat);
+    same("any bytes: leave", y, &want, leave(y, seat) == wanted);
+}
+
+static void any_mark(struct yard *y) {
+    struct yard want = *y;
+    uint8_t choking[5] = {0, 0, 0, 0, 9}, wanting[5] = {0, 0, 0, 0, 9};
+    size_t seat = any() % SEATS;
+    bool on = any() % 2, free = !want.seats[seat].taken;
+    if (!free) want.seats[seat].am_choking = on;
+    same("any bytes: choke", y, &want, wardrail_yard_choke(TABLES(y), seat, on, choking, 5) == (free ? 36 : 0) && choking[4] == (free ? 9 : on ? 0 : 1));
+    if (!free) want.seats[seat].am_interested = on;
+    same("any bytes: interest", y, &want, wardrail_yard_interest(TABLES(y), seat, on, wanting, 5) == (free ? 36 : 0) && wanting[4] == (free ? 9 : on ? 2 : 3));
+}
+
+static void any_frame(struct yard *y) {
+    struct yard want = *y;
+    uint8_t frame[17] = {0, 0, 0, 1, (uint8_t)(any() % 7)};
+    size_t seat = any() % SEATS, count = 5;
+    uint64_t request, wanted;
+    if (frame[4] == 4) frame[3] = 5, count = 9, frame[8] = (uint8_t)(any() % (PIECES + 1));
+    if (frame[4] == 5) frame[3] = 3, count = 7, frame[5] = (uint8_t)any(), frame[6] = (uint8_t)(any() & (any() % 4 ? 0xc0 : 0xff));
+    if (frame[4] == 6) frame[3] = 13, count = 17, frame[16] = 1;
+    wanted = hears(&want, seat, frame, &request);
+    same("any bytes: feed", y, &want, feed(y, seat, frame, count) == wanted && (wanted || (told.used == count && told.request == request)));
+}
+
+static void any_look(struct yard *y) {
+    struct yard want = *y;
+    struct wardrail_seat seen;
+    uint32_t page[SEATS];
+    size_t seat = any() % SEATS, piece = any() % PIECES, lowest = 0, missing = 0;
+    for (size_t p = 1; p < PIECES; p++)
+        if (want.holders[p] < want.holders[lowest]) lowest = p;
+    for (size_t i = 0; i < SEATS; i++) missing += want.seats[i].taken && want.seats[i].held != PIECES;
+    same("any bytes: look", y, &want, wardrail_yard_look(TABLES(y), seat, &seen) == 0 && !memcmp(&seen, &want.seats[seat], sizeof seen));
+    same("any bytes: has", y, &want, wardrail_yard_has(TABLES(y), seat, piece, &told) == 0 && told.has == holds(&want, seat, piece));
+    same("any bytes: count", y, &want, wardrail_yard_count(TABLES(y), piece, &told) == 0 && told.holders == want.holders[piece]);
+    same("any bytes: scarcest", y, &want, wardrail_yard_scarcest(TABLES(y), &told) == 0 && told.piece == lowest);
+    same("any bytes: missing", y, &want, wardrail_yard_missing(TABLES(y), 0, page, SEATS, &told) == 0 && told.total == missing && told.listed == missing);
+    for (size_t k = 0; k < told.listed; k++) says("any bytes: a missing seat", want.seats[page[k]].taken && want.seats[page[k]].held != PIECES);
+}
+
+static void any_bytes(void) {
+    for (int turn = 0; turn < 3000; turn++) {
+        struct yard y = scribbled();
+        unfit("any bytes, the head's too", y);
+        started(y);
+        y = fitting();
+        for (int call = 0; call < 5; call++) any_seating(&y), any_frame(&y), any_mark(&y), any_frame(&y), any_look(&y);
+    }
 }
 
 int main(void) {
-    started();
+    any_bytes();
     tops();
     zeros();
     spares();

@@ -1,8 +1,8 @@
 /* wardrail_yard.h: the yard's calls of libwardrail.a. wardrail.h says what every call answers and what a caller owes.
  *
  * THE TABLES are the caller's: a head, S seats, S rows of P / 8 bytes rounded up, high bit first, and P holder counts. Every call
- * takes all four and keeps nothing. Any content is answered; a flag of a seat is 0 or 1. Each call first refuses tables whose sizes
- * don't fit (38).
+ * takes all four and keeps nothing. Any content is answered: a flag of a seat is on where it is not 0, and the calls write 0 and 1.
+ * Each call first refuses tables whose sizes don't fit (38).
  *
  * The place of every refusal is 0, so the word that a call answers is its number, or WARDRAIL_WAIT where more bytes are needed. */
 #ifndef WARDRAIL_YARD_H
@@ -24,12 +24,11 @@ WARDRAIL_ASSERT(sizeof(struct wardrail_head) == 20, "five words");
 WARDRAIL_ASSERT(offsetof(struct wardrail_head, complete) == 16, "five words");
 
 struct wardrail_seat {
-    bool taken, fresh;                   /* fresh: its truck has not said anything yet */
-    bool am_choking, am_interested;      /* our marks */
-    bool peer_choking, peer_interested;  /* the truck's */
-    uint16_t held;                       /* how many pieces */
+    uint8_t taken, fresh;                  /* fresh: its truck has not said anything yet */
+    uint8_t am_choking, am_interested;     /* our marks */
+    uint8_t peer_choking, peer_interested; /* the truck's */
+    uint16_t held;                         /* how many pieces */
 };
-WARDRAIL_ASSERT(sizeof(bool) == 1, "a flag is a byte");
 WARDRAIL_ASSERT(sizeof(struct wardrail_seat) == 8, "six flags and a count, no padding");
 WARDRAIL_ASSERT(offsetof(struct wardrail_seat, held) == 6, "six flags and a count, no padding");
 

@@ -19,7 +19,7 @@ STRUCT = re.compile(r"struct (wardrail_\w+) \{((?:[^{}]|\{[^{}]*\})*)\};")
 MEMBER = re.compile(r"union \{([^{}]*)\};|((?:struct )?\w+) ([^;{}]+);")
 TYPES = {"u8": "uint8_t", "u16": "uint16_t", "u32": "uint32_t", "u64": "uint64_t", "usize": "size_t", "bool": "_Bool", None: "void"}
 TYPES |= {name: f"struct wardrail_{name.lower()}" for name in RECORDS}
-SIZES = {"uint8_t": 1, "_Bool": 1, "uint16_t": 2, "uint32_t": 4, "uint64_t": 8}
+SIZES = {"uint8_t": 1, "uint16_t": 2, "uint32_t": 4, "uint64_t": 8}
 
 
 def main():

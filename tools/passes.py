@@ -210,12 +210,12 @@ LOWEST_FREE = dict(
     start='acc = length ys; is = (refl, gs .0); so = free-all ys')
 
 CLEAR_SEATS = dict(
-    laws='use mathlib.Core.List.{_++_, map}\n' + PROOFS + 'Passes.{clearBy, clear-next, clear-end}', fn='clear_seats', step='clear_step', roles=['on', 'seat'],
+    laws='use mathlib.Core.List.{_++_, map}\n' + PROOFS + 'Passes.{clearBy, clear-next, clear-end}', fn='clear_seats', step='clear_step', roles=['wanted', 'seat'],
     locals=['tyUnit', 'SeatsTy', 'tyBool', 'tyInt w64', 'tyInt w64', 'tyBool', 'L-Seat.mir', 'tyPtr', 'L-Seat.mir', 'tyInt w64', 'tyPtr'],
     at=dict(i=3, len=4, test=5, new=6, place=7, seat=8, len2=9, place2=10), tails=('t-2', 't-3'),
-    turn=['zs : List Seat', 'ns : length zs ≡ length ys', 'so : take i zs ++ map (clearBy on) (dropped i zs) ≡ map (clearBy on) ys'],
-    next=lambda z, better: 'zs = set (x .zs) (x .i) r; ns = length-set (x .zs) (x .i) r ∙ x .ns; so = clear-next on (x .zs) (x .i) r lz e ∙ x .so',
-    end='clear-end on ys (x .zs) (x .i) (subst (λ (m : ℕ). m ≤ x .i) (sym (x .ns)) l) (x .so)',
+    turn=['zs : List Seat', 'ns : length zs ≡ length ys', 'so : take i zs ++ map (clearBy wanted) (dropped i zs) ≡ map (clearBy wanted) ys'],
+    next=lambda z, better: 'zs = set (x .zs) (x .i) r; ns = length-set (x .zs) (x .i) r ∙ x .ns; so = clear-next wanted (x .zs) (x .i) r lz e ∙ x .so',
+    end='clear-end wanted ys (x .zs) (x .i) (subst (λ (m : ℕ). m ≤ x .i) (sym (x .ns)) l) (x .so)',
     before=lambda s, w: None, start='zs = ys; ns = refl; so = refl')
 
 def from_empty(s, w):

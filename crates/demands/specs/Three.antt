@@ -10,7 +10,7 @@ use Prim.Native.Nat.{ℕ, _*_, _≤_, _<_, min}
 use lib.ListN.{length, getD, take, drop}
 use lib.Seq.{sets}
 use Rattle.refusal.specs.Paper.{Outcome, taken, refused}
-use Rattle.yard_tables.specs.Counting.{count, some}
+use Rattle.yard_tables.specs.Counting.{bit, count, some}
 use Rattle.yard_tables.specs.Rows.{width, hasIn}
 use Rattle.yard_tables.specs.Seats.{cleared}
 use Rattle.yard_tables.specs.Looks.{firstOr}
@@ -85,14 +85,14 @@ module _ (lent : Yard) (h : History) (y : Yard) (made : Made lent h y) where
   pub complete-right : y .head .complete ≡ count seats (λ i. seated h i && allOf (pieces h) (announced h i))
   complete-right = demand.complete-right fixed h y agrees
 
-  -- each seat's record
+  -- each seat's record: its flags are 1 or 0
   pub seat-right : (i : ℕ) → i < seats → getD (y .seats) i cleared ≡ record {
-    taken = seated h i;
-    fresh = fresh h i;
-    «am_choking» = weAreChoking h i;
-    «am_interested» = weAreInterested h i;
-    «peer_choking» = theyAreChoking h i;
-    «peer_interested» = theyAreInterested h i;
+    taken = bit (seated h i);
+    fresh = bit (fresh h i);
+    «am_choking» = bit (weAreChoking h i);
+    «am_interested» = bit (weAreInterested h i);
+    «peer_choking» = bit (theyAreChoking h i);
+    «peer_interested» = bit (theyAreInterested h i);
     held = count (pieces h) (λ p. seated h i && announced h i p);
   }
   seat-right i l = agrees .seat-is i

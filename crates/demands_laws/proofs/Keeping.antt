@@ -7,7 +7,7 @@ use lib.Dec.{ltb, leb}
 use lib.ListN.{length, getD, replicate}
 use lib.Seq.{sets}
 use Rattle.refusal.specs.Paper.{Outcome, taken, refused}
-use Rattle.yard_tables.specs.Seats.{cleared, weChoke, weWant}
+use Rattle.yard_tables.specs.Seats.{on, cleared, weChoke, weWant}
 use Rattle.yard_tables.specs.Tables.{Yard, Said, wait, done, used, serve, dropped, seated, wrote, listed, shows, holds, heldBy, scarce, paper, Around, Turn, turn, around, sizesFit, Out, yardOf}
 use Rattle.yard_tables.specs.Seating.{startOf, markOf}
 use Rattle.yard_tables.specs.Looks.{missingOf}
@@ -81,7 +81,7 @@ mark-speaks : (g : Seat → Seat) (space i n : ℕ) (x : Around) → Speaks (mar
 unfolding markOf
 mark-speaks g space i n x =
     by-test Speaks (sizesFit (x .head) n (length (x .rows)) (length (x .holders)))
-    (λ a. by-test Speaks (ltb i n && x .seat .taken) (λ b. by-test Speaks (ltb space 5) (λ c e. no-way (cc)) (λ c e. no-way (cc))) (λ b e. no-way (cc)))
+    (λ a. by-test Speaks (ltb i n && on (x .seat .taken)) (λ b. by-test Speaks (ltb space 5) (λ c e. no-way (cc)) (λ c e. no-way (cc))) (λ b e. no-way (cc)))
     (λ a e. no-way (cc))
 
 missing-speaks : (first space : ℕ) (seats : List Seat) (n : ℕ) (x : Around) → Speaks (missingOf first space seats n x)

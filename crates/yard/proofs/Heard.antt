@@ -9,7 +9,7 @@ use Rattle.refusal.specs.Paper.{Outcome, taken, refused}
 use Rattle.peer_wire.specs.Message.{Message, keepalive, choke, unchoke, interested, notInterested, have, bitfield, request, piece, cancel, other}
 use Rattle.peer_wire.specs.Frames.{Found, wait, found, readOf, meant}
 use Rattle.yard_tables.specs.Rows.{width, bitAt, withBit, withBits}
-use Rattle.yard_tables.specs.Seats.{counted}
+use Rattle.yard_tables.specs.Seats.{on, counted}
 use Rattle.yard_tables.specs.Tables.{Said, Around, Turn, sizesFit}
 use Rattle.yard_tables.specs.Frames.{overTop, announced, announce, haveOf, spareSet, bitfieldOf, blockFits, blockOf, messageOf, frameOf, feedOf}
 
@@ -34,7 +34,7 @@ module _ (n i : ℕ) (x : Around) where
   bitfield-same : (bytes : ℕ) (bits : List ℕ) → Same x (bitfieldOf n i bytes bits x)
   unfolding bitfieldOf
   bitfield-same bytes bits =
-      either (x .seat .fresh)
+      either (on (x .seat .fresh))
       (either (eqb (length bits) (width (x .head .pieces)))
       (either (spareSet (x .head .pieces) bits) (record { head = refl })
       (announce-same bytes (bitAt bits) (withBits (width (x .head .pieces)) i bits (x .rows))))
@@ -69,5 +69,5 @@ module _ (n i : ℕ) (x : Around) where
   unfolding feedOf
   head-same s =
       either (sizesFit (x .head) n (length (x .rows)) (length (x .holders)))
-      (either (ltb i n && x .seat .taken) (frame-same s (readOf s)) (record { head = refl }))
+      (either (ltb i n && on (x .seat .taken)) (frame-same s (readOf s)) (record { head = refl }))
       (record { head = refl })

@@ -14,7 +14,7 @@ use Rattle.refusal.specs.Numbers.{late, beyond, bitfield, spare, damaged}
 use Rattle.refusal.proofs.Cases.{same-or, pick-yes, pick-no}
 use Rattle.yard_tables.specs.Counting.{bit, some, each}
 use Rattle.yard_tables.specs.Rows.{digit, width, bitAt, hasIn, withBit, withBits}
-use Rattle.yard_tables.specs.Seats.{spoken, holding, counted}
+use Rattle.yard_tables.specs.Seats.{on, spoken, holding, counted}
 use Rattle.yard_tables.specs.Tables.{Turn, around, turn}
 use Rattle.yard_tables.specs.Frames.{isNew, gain, overTop, announced, announce, haveOf, spareSet, bitfieldOf}
 use Rattle.yard_tables.specs.declared.Head.{Head}
@@ -91,15 +91,15 @@ module _ (h : Head) (s : Seat) (rows holders : List ℕ) (n i used : ℕ) (said 
   as-turn : {r t : Stepped} → r ≡ t → turn r rows holders ≡ turn t rows holders
   as-turn e = ap (λ (a : Stepped). turn a rows holders) e
 
-  pub bits-late : (r : Stepped) → s .fresh ≡ false → r ≡ refusing h s late → turn r rows holders ≡ bitfieldOf n i used said (around h s rows holders)
+  pub bits-late : (r : Stepped) → on (s .fresh) ≡ false → r ≡ refusing h s late → turn r rows holders ≡ bitfieldOf n i used said (around h s rows holders)
   unfolding bitfieldOf
-  bits-late r f er = pick-no _ (s .fresh) f (as-turn er)
+  bits-late r f er = pick-no _ (on (s .fresh)) f (as-turn er)
 
-  module _ (f : s .fresh ≡ true) (P : ℕ) (ep : P ≡ h .pieces) where
+  module _ (f : on (s .fresh) ≡ true) (P : ℕ) (ep : P ≡ h .pieces) where
     pub bits-length : (r : Stepped) → (length said ≡ (P + 7) / 8 → ⊥) → r ≡ refusing h s bitfield → turn r rows holders ≡ bitfieldOf n i used said (around h s rows holders)
     unfolding bitfieldOf
     bits-length r l er =
-        pick-yes _ (s .fresh) f
+        pick-yes _ (on (s .fresh)) f
         (pick-no _ (eqb (length said) (width (h .pieces))) (ne-eqb (length said) (width (h .pieces)) (λ e. l (e ∙ ap width (sym ep)))) (as-turn er))
 
     module _ (l : length said ≡ (P + 7) / 8) (b : Bool) (eb : b ≡ spareSet P said) where
@@ -112,13 +112,13 @@ module _ (h : Head) (s : Seat) (rows holders : List ℕ) (n i used : ℕ) (said 
       pub bits-spare : (r : Stepped) → b ≡ true → r ≡ refusing h s spare → turn r rows holders ≡ bitfieldOf n i used said (around h s rows holders)
       unfolding bitfieldOf
       bits-spare r t er =
-          pick-yes _ (s .fresh) f (pick-yes _ (eqb (length said) (width (h .pieces))) wide-enough (pick-yes _ (spareSet (h .pieces) said) (spare-test ∙ t) (as-turn er)))
+          pick-yes _ (on (s .fresh)) f (pick-yes _ (eqb (length said) (width (h .pieces))) wide-enough (pick-yes _ (spareSet (h .pieces) said) (spare-test ∙ t) (as-turn er)))
 
       pub bits-added : (o : Turn) → b ≡ false → o ≡ announce n i used (bitAt said) (withBits (width (h .pieces)) i said rows) (around h s rows holders)
           → o ≡ bitfieldOf n i used said (around h s rows holders)
       unfolding bitfieldOf
       bits-added o t eo =
-          pick-yes _ (s .fresh) f (pick-yes _ (eqb (length said) (width (h .pieces))) wide-enough (pick-no _ (spareSet (h .pieces) said) (spare-test ∙ t) eo))
+          pick-yes _ (on (s .fresh)) f (pick-yes _ (eqb (length said) (width (h .pieces))) wide-enough (pick-no _ (spareSet (h .pieces) said) (spare-test ∙ t) eo))
 
 -- ---- a have
 

@@ -27,7 +27,7 @@ use Rattle.peer_wire.specs.declared.Read.the-variants.{Wait, Keepalive, Whole, 
 use Rattle.peer_wire.proofs.Decided.{exactly}
 use Rattle.peer_wire.proofs.Steps.{by-id, message-other, read-sized, sized-whole}
 use Rattle.yard_tables.specs.Replies.{stepped, refusing}
-use Rattle.yard_tables.specs.Seats.{spoken, theyChoke, theyWant}
+use Rattle.yard_tables.specs.Seats.{on, spoken, theyChoke, theyWant}
 use Rattle.yard_tables.specs.Tables.{used, Turn, around, turn, sizesFit}
 use Rattle.yard_tables.specs.Frames.{haveOf, bitfieldOf, blockOf, requested, messageOf, frameOf, feedOf}
 use Rattle.yard_tables.specs.declared.Head.{Head}
@@ -151,26 +151,26 @@ module _ (h : Head) (s : Seat) (rows holders : List ℕ) (n i : ℕ) (text : Lis
     pub feed-past : (r : Stepped) → n ≤ i → r ≡ refusing h s seat → turn r rows holders ≡ feedOf i text n (around h s rows holders)
     unfolding feedOf
     feed-past r l er = pick-yes _ (sizesFit h n (length rows) (length holders)) (sym et ∙ f)
-        (pick-no _ (ltb i n && s .taken) (no-and (ltb i n) (s .taken) (le-ltb i n l)) (as-turn er))
+        (pick-no _ (ltb i n && on (s .taken)) (no-and (ltb i n) (on (s .taken)) (le-ltb i n l)) (as-turn er))
 
-    pub feed-free : (r : Stepped) → s .taken ≡ false → r ≡ refusing h s seat → turn r rows holders ≡ feedOf i text n (around h s rows holders)
+    pub feed-free : (r : Stepped) → on (s .taken) ≡ false → r ≡ refusing h s seat → turn r rows holders ≡ feedOf i text n (around h s rows holders)
     unfolding feedOf
     feed-free r g er = pick-yes _ (sizesFit h n (length rows) (length holders)) (sym et ∙ f)
-        (pick-no _ (ltb i n && s .taken) (and-no (ltb i n) (s .taken) g) (as-turn er))
+        (pick-no _ (ltb i n && on (s .taken)) (and-no (ltb i n) (on (s .taken)) g) (as-turn er))
 
     pub have-sized : i < n → InTables h n i rows holders
     have-sized l =
         let z = fitting h n (length rows) (length holders) (sym et ∙ f) in
         record { few = z .few; seats = z .seats; seat = l; row = z .row; counts = z .counts }
 
-    module _ (l : i < n) (g : s .taken ≡ true) (q : Read) (eq : read q ≡ readOf text) where
+    module _ (l : i < n) (g : on (s .taken) ≡ true) (q : Read) (eq : read q ≡ readOf text) where
       both : (a b : Bool) → a ≡ true → b ≡ true → (a && b) ≡ true
       both a b e k = rw (e, k)
 
       fed : (o : Turn) (p : Read) → q ≡ p → o ≡ frameOf n i text (read p) (around h s rows holders) → o ≡ feedOf i text n (around h s rows holders)
       unfolding feedOf
       fed o p ep eo = pick-yes _ (sizesFit h n (length rows) (length holders)) (sym et ∙ f)
-          (pick-yes _ (ltb i n && s .taken) (both (ltb i n) (s .taken) (lt-ltb i n l) g)
+          (pick-yes _ (ltb i n && on (s .taken)) (both (ltb i n) (on (s .taken)) (lt-ltb i n l) g)
           (eo ∙ ap (λ (x : Outcome Found). frameOf n i text x (around h s rows holders)) (ap read (sym ep) ∙ eq)))
 
       pub feed-wait : (r : Stepped) → q ≡ Wait → r ≡ stepped h s A.Wait → turn r rows holders ≡ feedOf i text n (around h s rows holders)
@@ -193,7 +193,7 @@ module _ (h : Head) (s : Seat) (rows holders : List ℕ) (n i : ℕ) (text : Lis
       whole-sized = have-sized l
 
     -- a have that is all there, before any reader
-    pub feed-have : (o : Turn) (p : PieceNumber) → i < n → s .taken ≡ true → p .0 ≡ numberIn text 5 → readOf text ≡ taken (found (have (numberIn text 5)) 9)
+    pub feed-have : (o : Turn) (p : PieceNumber) → i < n → on (s .taken) ≡ true → p .0 ≡ numberIn text 5 → readOf text ≡ taken (found (have (numberIn text 5)) 9)
         → o ≡ haveOf n i 9 (p .0) (around h s rows holders) → o ≡ feedOf i text n (around h s rows holders)
     feed-have o p l g ep er eo =
         feed-whole l g (Whole (Have p) 9) (ap {B = Outcome Found} (λ (x : ℕ). taken (found (have x) 9)) ep ∙ sym er) o (Have p) 9 refl (said-have h s rows holders n i 9 text (Have p) o p refl eo)

@@ -15,6 +15,7 @@ use yard_tables::Head;
 use yard_tables::Seat;
 use yard_tables::Stepped;
 use yard_tables::block;
+use yard_tables::on;
 use yard_tables::reply;
 use yard_tables::sizes;
 use yard_tables::sizes::wide;
@@ -43,7 +44,7 @@ pub fn feed_step(
     if n <= i {
         return reply::refused(h, s, number::SEAT);
     }
-    if !s.taken {
+    if !on(s.taken) {
         return reply::refused(h, s, number::SEAT);
     }
     // Most frames are haves. One that is all there goes past the reader of all frames, whose answer is large.

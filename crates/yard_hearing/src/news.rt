@@ -17,6 +17,7 @@ use yard_tables::Seat;
 use yard_tables::Stepped;
 use yard_tables::bits;
 use yard_tables::held;
+use yard_tables::on;
 use yard_tables::reply;
 use yard_tables::sizes::wide;
 
@@ -68,7 +69,7 @@ pub fn bitfield_step(
     requires { ⌜ InTables h n i (now rows) (now holders) ⌝ }
     ensures { λ r. ⌜ turn r (now (rows .exit)) (now (holders .exit)) ≡ bitfieldOf n i used (now (said .entry)) (around h s (now (rows .entry)) (now (holders .entry))) ⌝ }
 {
-    if !s.fresh {
+    if !on(s.fresh) {
         return reply::refused(h, s, number::LATE);
     }
     let pieces = wide(h.pieces);

@@ -42,12 +42,12 @@ module _ (v : Event) (h : History) (i : ℕ) where
 
   abbrev pub recordThen : Seat
   recordThen = record {
-    taken = seatedBy v (seated h i);
-    fresh = freshBy v (fresh h i);
-    «am_choking» = chokingBy v (weAreChoking h i);
-    «am_interested» = wantingBy v (weAreInterested h i);
-    «peer_choking» = chokedBy v (theyAreChoking h i);
-    «peer_interested» = wantedBy v (theyAreInterested h i);
+    taken = bit (seatedBy v (seated h i));
+    fresh = bit (freshBy v (fresh h i));
+    «am_choking» = bit (chokingBy v (weAreChoking h i));
+    «am_interested» = bit (wantingBy v (weAreInterested h i));
+    «peer_choking» = bit (chokedBy v (theyAreChoking h i));
+    «peer_interested» = bit (wantedBy v (theyAreInterested h i));
     held = heldThen;
   }
 

@@ -19,22 +19,23 @@ use Rattle.peer_wire.specs.Frames.{Found, found, readOf, meant}
 use Rattle.peer_wire.specs.Frames.{wait as more}
 use Rattle.yard_tables.specs.Counting.{bit, count, some, each}
 use Rattle.yard_tables.specs.Rows.{width, hasIn, rowOf, orBytes, withBit, withBits, withoutBits}
-use Rattle.yard_tables.specs.Seats.{cleared, holding, spoken}
+use Rattle.yard_tables.specs.Seats.{on, cleared, holding, spoken}
 use Rattle.yard_tables.specs.Seats.{weChoke as chokeMark, weWant as wantMark}
-use Rattle.yard_tables.specs.Tables.{Yard, Said, wait, done, used, wrote, Around, Turn, Out, around, refuse, says, sized, sitting, atSeat, sizesFit}
+use Rattle.yard_tables.specs.Tables.{Yard, Said, wait, done, used, serve, dropped, wrote, Around, Turn, Out, around, refuse, says, sized, sitting, atSeat, sizesFit}
 use Rattle.yard_tables.specs.Tables.{seated as givesSeat}
-use Rattle.yard_tables.specs.Frames.{isNew, gain, completes, overTop, announce, haveOf, spareSet, bitfieldOf, blockOf, messageOf, frameOf, feedOf}
+use Rattle.yard_tables.specs.Frames.{isNew, gain, completes, overTop, announce, haveOf, spareSet, bitfieldOf, blockOf, requested, messageOf, frameOf, feedOf}
 use Rattle.yard_tables.specs.Frames.{announced as announcedIn}
 use Rattle.yard_tables.specs.Seating.{seatedAt, sitOf, atZero, left, leaveOf, markOf}
 use Rattle.yard_tables.specs.Step.{Call, sit, leave, feed, interest}
 use Rattle.yard_tables.specs.Step.{choke as chokes}
 use Rattle.yard_tables.specs.declared.Head.{Head}
 use Rattle.yard_tables.specs.declared.Seat.{Seat}
+use Rattle.yard_tables.proofs.Flags.{on-bit}
 use Rattle.yard_tables.proofs.Counts.{count-ext, count-none, count-le, count-has, count-lacks, count-or, or-split, some-none}
 use Rattle.yard_tables.proofs.Rows.{bit-here, bit-other, bits-here, bits-other, none-here, none-other}
 use Rattle.yard_tables.proofs.Sizing.{Fitting, fitting}
 use Rattle.yard_tables.proofs.Sweeps.{length-each, getD-each}
-use Rattle.yard_laws.specs.History.{History, Fixed, entry, Event, nothing, came, gone, heard, weChoke, weWant, event, announces, seated, announced, fresh, pieces, Sizes, sizesWith, seatedBy, announcedBy}
+use Rattle.yard_laws.specs.History.{History, Fixed, entry, Event, nothing, came, gone, heard, weChoke, weWant, event, announces, seated, announced, fresh, weAreChoking, theyAreInterested, pieces, Sizes, sizesWith, seatedBy, announcedBy}
 use Rattle.yard_laws.specs.Says.{hasPiece, held, loaded, recordOf, holders, takenSeats, completeSeats, headOf}
 use Rattle.torrent_blocks.specs.Answers.{lies}
 use Rattle.yard_laws.specs.View.{byHistory}
@@ -48,6 +49,11 @@ use Rattle.yard_laws.proofs.Agreeing.{Agrees, One, Becomes, at, putBack
 pub by-same : {A B : Type 0} (Q : A → B → Type 0) (t : Bool) {x y : A} {e f : B} → (t ≡ true → Q x e) → (t ≡ false → Q y f) → Q (cond t x y) (cond t e f)
 by-same Q true f g = f refl
 by-same Q false f g = g refl
+
+-- a flag, which the tables have as a number
+by-flag : {A B : Type 0} (Q : A → B → Type 0) (t : Bool) {x y : A} {e f : B} → (t ≡ true → Q x e) → (t ≡ false → Q y f) → Q (cond (on (bit t)) x y) (cond t e f)
+by-flag Q true f g = f refl
+by-flag Q false f g = g refl
 
 spread : (s a b : Bool) → s ≡ true → (s && (a || b)) ≡ ((s && a) || b)
 spread true a b e = refl
@@ -103,9 +109,11 @@ module _ (fixed : Fixed) (h : History) (y : Yard) (agrees : Agrees fixed h y) wh
 
   sitting-good : (c : Call) (w : List ℕ) (i : ℕ) (t : Turn) (e : Outcome Said) → (i < n → seated h i ≡ true → Good c w i t e)
       → Good c w i (sitting i n (at fixed h y agrees i) t) (cond (sitsBy (byHistory fixed h) i) e (no seat))
-  sitting-good c w i t e g = by-same (Good c w i) (sitsBy (byHistory fixed h) i)
+  sitting-good c w i t e g = subst (λ (b : Bool). Good c w i (cond (ltb i n && b) t (refuse seat (at fixed h y agrees i))) (cond (sitsBy (byHistory fixed h) i) e (no seat)))
+      (sym (on-bit (seated h i)))
+      (by-same (Good c w i) (sitsBy (byHistory fixed h) i)
       (λ p. let k = and-eq-true-iff (ltb i n) (seated h i) .0 p in g (ltb-true i n (k .0)) (k .1))
-      (λ p. refuses c w i seat)
+      (λ p. refuses c w i seat))
 
   -- a piece's bit stands in its row
   in-row : (p : ℕ) → p < pieces h → p < 8 * width (pieces h)
@@ -235,6 +243,9 @@ module _ (fixed : Fixed) (h : History) (y : Yard) (agrees : Agrees fixed h y) wh
         (λ _. by-same (Good c w i) (lies (byHistory fixed h .longs p) b k) (λ _. silent m (spoken (recordOf h i)) a one none marks) (λ _. refuses c w i outside))
         (λ _. refuses c w i beyond)
 
+    asked-is : requested bytes (recordOf h i) ≡ requestBy (byHistory fixed h) i bytes
+    asked-is = ap₂ (λ (a b : Bool). cond (not a && b) (serve bytes) (dropped bytes)) (on-bit (weAreChoking h i)) (on-bit (theyAreInterested h i))
+
     message-good : (m : Message (List ℕ)) → ((a : Said) → One (entry c (taken a) w) i (heard m))
         → Good c w i (messageOf n i bytes m (at fixed h y agrees i)) (messageBy (byHistory fixed h) i bytes m)
     unfolding messageOf haveOf bitfieldOf
@@ -249,7 +260,7 @@ module _ (fixed : Fixed) (h : History) (y : Yard) (agrees : Agrees fixed h y) wh
         (λ k r. bit-here (width (pieces h)) n (y .rows) (sizes-here .row) i l p k q)
         (λ j k d r. bit-other (width (pieces h)) n (y .rows) (sizes-here .row) i l p j k q (in-row k r) d))
         (λ _. refuses c w i beyond)
-    message-good (bits b) one = by-same (Good c w i) (fresh h i)
+    message-good (bits b) one = by-flag (Good c w i) (fresh h i)
         (λ _. by-same (Good c w i) (eqb (length b) (width (pieces h)))
         (λ _. by-same (Good c w i) (spareSet (pieces h) b)
         (λ _. refuses c w i spare)
@@ -258,7 +269,8 @@ module _ (fixed : Fixed) (h : History) (y : Yard) (agrees : Agrees fixed h y) wh
         (λ j k d r. bits-other (width (pieces h)) n (y .rows) (sizes-here .row) i l b j k (in-row k r) d)))
         (λ _. refuses c w i bitfield))
         (λ _. refuses c w i late)
-    message-good (request p b k) one = block-good (request p b k) p b k (requestBy (byHistory fixed h) i bytes) (one (requestBy (byHistory fixed h) i bytes)) (λ p. refl) refl
+    message-good (request p b k) one = subst (λ (a : Said). Good c w i (blockOf p b k a (at fixed h y agrees i)) (blockBy (byHistory fixed h) p b k (requestBy (byHistory fixed h) i bytes))) (sym asked-is)
+        (block-good (request p b k) p b k (requestBy (byHistory fixed h) i bytes) (one (requestBy (byHistory fixed h) i bytes)) (λ p. refl) refl)
     message-good (piece p b block) one = block-good (piece p b block) p b (length block) (used bytes) (one (used bytes)) (λ p. refl) refl
     message-good (cancel p b k) one = block-good (cancel p b k) p b k (used bytes) (one (used bytes)) (λ p. refl) refl
     message-good (other id payload) one = silent (other id payload) _ (used bytes) (one (used bytes)) (λ p. refl) refl

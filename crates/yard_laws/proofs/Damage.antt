@@ -20,7 +20,7 @@ use Rattle.peer_wire.proofs.Decided.{exactly}
 use Rattle.yard_tables.specs.Counting.{bit, some}
 use Rattle.yard_tables.specs.Counting.{count as countOf-all}
 use Rattle.yard_tables.specs.Rows.{width, bitAt, withBit, withBits}
-use Rattle.yard_tables.specs.Seats.{cleared, weChoke, weWant}
+use Rattle.yard_tables.specs.Seats.{on, cleared, weChoke, weWant}
 use Rattle.yard_tables.specs.Tables.{Yard, Said, used, Around, around, Turn, Out, refuse, sized, sitting, sizesFit}
 use Rattle.yard_tables.specs.Frames.{isNew, gain, completes, overTop, announce, haveOf, spareSet, bitfieldOf, blockFits, blockOf, requested, messageOf, frameOf, feedOf}
 use Rattle.yard_tables.specs.Seating.{startOf, lowestFree, sitOf, atZero, leaveOf, markOf}
@@ -210,8 +210,8 @@ module _ (y : Yard) where
   sized-tells c i t f k = by-test (Tells c) fits (λ e. k (fit-is e)) (λ e. (refl, λ q. absurd (omega arith), λ q. f (λ p. cannot _ e (is-fit p))))
 
   sitting-tells : (c : Call) (i : ℕ) (t : Turn) → (Taken y i → Tells c t) → Tells c (sitting i n (seatAt i) t)
-  sitting-tells c i t k = by-test (Tells c) (ltb i n && getD (y .seats) i cleared .taken)
-      (λ e. let q = and-eq-true-iff (ltb i n) (getD (y .seats) i cleared .taken) .0 e in k (ltb-true i n (q .0), q .1))
+  sitting-tells c i t k = by-test (Tells c) (ltb i n && on (getD (y .seats) i cleared .taken))
+      (λ e. let q = and-eq-true-iff (ltb i n) (on (getD (y .seats) i cleared .taken)) .0 e in k (ltb-true i n (q .0), q .1))
       (λ e. plain c seat (omega arith))
 
   module _ (i : ℕ) (s : List ℕ) (fit : Fit y) (here : Taken y i) where
@@ -234,7 +234,7 @@ module _ (y : Yard) where
     message-tells (have p) bytes f = by-test (Tells (feed i s)) (ltb p (y .head .pieces))
         (λ d. announce-tells bytes (λ q. eqb q p) (withBit (width (y .head .pieces)) i p (y .rows)) (by-have p bytes f (ltb-true p (y .head .pieces) d)))
         (λ d. plain (feed i s) beyond (omega arith))
-    message-tells (bits b) bytes f = by-test (Tells (feed i s)) (getD (y .seats) i cleared .fresh)
+    message-tells (bits b) bytes f = by-test (Tells (feed i s)) (on (getD (y .seats) i cleared .fresh))
         (λ new. by-test (Tells (feed i s)) (eqb (length b) (width (y .head .pieces)))
         (λ size. by-test (Tells (feed i s)) (spareSet (y .head .pieces) b)
         (λ d. plain (feed i s) spare (omega arith))
@@ -303,7 +303,7 @@ module _ (y : Yard) where
   sized-to i t f = ap (λ (b : Bool). cond b t (refuse sizes (seatAt i))) (is-fit f)
 
   sitting-to : (i : ℕ) (t : Turn) → Taken y i → sitting i n (seatAt i) t ≡ t
-  sitting-to i t h = ap (λ (b : Bool). cond b t (refuse seat (seatAt i))) (both-true (ltb i n) (getD (y .seats) i cleared .taken) (lt-ltb i n (h .0)) (h .1))
+  sitting-to i t h = ap (λ (b : Bool). cond b t (refuse seat (seatAt i))) (both-true (ltb i n) (on (getD (y .seats) i cleared .taken)) (lt-ltb i n (h .0)) (h .1))
 
   heard-as : (i : ℕ) (s : List ℕ) (m : Message (List ℕ)) (bytes : ℕ) → Fit y → Taken y i → Says s m bytes
       → step (feed i s) y .answer ≡ messageOf n i bytes m (seatAt i) .answer
@@ -320,7 +320,7 @@ module _ (y : Yard) where
       ∙ ap (λ (t : Turn). t .answer) (pick (ltb p pieces) _ _ (lt-ltb p pieces l) ∙ pick (overTop n i (λ q. eqb q p) (seatAt i)) _ _ e)
   over-given i s said fit here (by-bitfield b bytes f new size none) e =
       heard-as i s (bits b) bytes fit here f
-      ∙ ap (λ (t : Turn). t .answer) (pick (seatOf y i .fresh) _ _ new
+      ∙ ap (λ (t : Turn). t .answer) (pick (on (seatOf y i .fresh)) _ _ new
       ∙ pick (eqb (length b) (width pieces)) _ _ (eq-eqb (length b) (width pieces) size)
       ∙ skip (spareSet pieces b) _ _ (spare-none pieces b none) ∙ pick (overTop n i (bitAt b) (seatAt i)) _ _ e)
 

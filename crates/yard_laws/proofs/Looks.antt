@@ -1,16 +1,16 @@
 -- Sitting down, the missing list, the scarcest piece and single looks: the answer is the one that the history says. Assumes nothing.
 use mathlib.Core.Path.{_≡_, refl, sym, ap, _∙_, subst}
-use mathlib.Core.Bool.{Bool, cond}
+use mathlib.Core.Bool.{Bool, not, cond, _&&_}
 use mathlib.Core.List.{List}
 use Prim.Native.Nat.{ℕ}
 use native.Mathlib.Omega.{arith}
 use borrow.Author.Tests.{ltb-true}
-use lib.Dec.{ltb, leb}
+use lib.Dec.{eqb, ltb, leb}
 use lib.ListN.{length, getD, take}
 use Rattle.refusal.specs.Paper.{taken}
 use Rattle.refusal.specs.Numbers.{full, seat, beyond}
 use Rattle.yard_tables.specs.Rows.{width, hasIn}
-use Rattle.yard_tables.specs.Seats.{cleared}
+use Rattle.yard_tables.specs.Seats.{on, cleared}
 use Rattle.yard_tables.specs.Tables.{Yard, listed, shows, holds, heldBy, scarce, says, atSeat}
 use Rattle.yard_tables.specs.Tables.{seated as givesSeat}
 use Rattle.yard_tables.specs.Seating.{lowestFree, sitOf}
@@ -20,9 +20,10 @@ use Rattle.yard_tables.specs.Step.{sit, missing, scarcest, look, has, count}
 use Rattle.yard_tables.specs.declared.Seat.{Seat}
 use Rattle.yard_tables.specs.declared.Head.{Head}
 use Rattle.yard_tables.specs.declared.Page.{Page}
+use Rattle.yard_tables.proofs.Flags.{on-bit}
 use Rattle.yard_tables.proofs.Sizing.{Fitting}
 use Rattle.yard_laws.specs.History.{History, Fixed, event, pieces, sizesWith, seated, announced}
-use Rattle.yard_laws.specs.Says.{hasPiece, lacking, recordOf, holders, headOf}
+use Rattle.yard_laws.specs.Says.{hasPiece, held, lacking, recordOf, holders, headOf}
 use Rattle.yard_laws.specs.View.{byHistory}
 use Rattle.yard_laws.specs.Expected.{no, freeBy, missingFrom, pageFrom, lowestWithout, leastOf}
 use Rattle.yard_laws.proofs.Agreeing.{Agrees, at}
@@ -39,7 +40,7 @@ module _ (fixed : Fixed) (h : History) (y : Yard) (agrees : Agrees fixed h y) wh
 
   free-seat : lowestFree (y .seats) ≡ freeBy (byHistory fixed h)
   free-seat =
-      free-is (y .seats) (seated h) (λ i. ap (λ (s : Seat). s .taken) (agrees .seat-is i))
+      free-is (y .seats) (seated h) (λ i. ap (λ (s : Seat). on (s .taken)) (agrees .seat-is i) ∙ on-bit (seated h i))
       ∙ ap (lowestWithout (seated h)) (agrees .seats-len)
 
   pub sit-kept : (w : List ℕ) → Kept fixed h y agrees sit w (atSeat (lowestFree (y .seats)) (sitOf (lowestFree (y .seats))) y)
@@ -50,7 +51,10 @@ module _ (fixed : Fixed) (h : History) (y : Yard) (agrees : Agrees fixed h y) wh
   -- ---- the missing list
 
   lacking-is : (i : ℕ) → isMissing (pieces h) (getD (y .seats) i cleared) ≡ lacking h i
-  lacking-is i = ap (isMissing (pieces h)) (agrees .seat-is i) ∙ sym (lacks-held (seated h i) (announced h i) (pieces h))
+  lacking-is i =
+      ap (isMissing (pieces h)) (agrees .seat-is i)
+      ∙ ap (λ (b : Bool). b && not (eqb (held h i) (pieces h))) (on-bit (seated h i))
+      ∙ sym (lacks-held (seated h i) (announced h i) (pieces h))
 
   pub lines-same : (first space : ℕ) → linesOf (y .head .pieces) first space (y .seats) ≡ take space (missingFrom fixed h first)
   lines-same first space =

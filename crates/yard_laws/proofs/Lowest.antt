@@ -10,7 +10,7 @@ use lib.Dec.{ltb}
 use lib.ListN.{length, getD}
 use Rattle.refusal.proofs.Cases.{by-test, same-or, less-or, cannot}
 use Rattle.yard_tables.specs.Counting.{Least}
-use Rattle.yard_tables.specs.Seats.{cleared}
+use Rattle.yard_tables.specs.Seats.{on, cleared}
 use Rattle.yard_tables.specs.Seating.{lowestFree}
 use Rattle.yard_tables.specs.Looks.{fewest, placeOf}
 use Rattle.yard_tables.proofs.Scarce.{least-start, least-turn, least-unique, place-least}
@@ -47,16 +47,16 @@ lowest-ext : (f g : ℕ → Bool) (n k : ℕ) → ((i : ℕ) → f i ≡ g i) �
 lowest-ext f g n k e p = record { within = p .within; below = λ j l. sym (e j) ∙ p .below j l; lacks = λ l. sym (e k) ∙ p .lacks l }
 
 abbrev takenAt : List Seat → ℕ → Bool
-takenAt l i = getD l i cleared .taken
+takenAt l i = on (getD l i cleared .taken)
 
 pub free-lowest : (l : List Seat) → Lowest (takenAt l) (length l) (lowestFree l)
 unfolding lowestFree
 free-lowest [] = record { within = omega arith; below = λ j l. absurd (not-suc-le-zero l); lacks = λ l. absurd (not-suc-le-zero l) }
-free-lowest (s ∷ ss) = by-test (Lowest (takenAt (s ∷ ss)) (suc (length ss))) (s .taken)
+free-lowest (s ∷ ss) = by-test (Lowest (takenAt (s ∷ ss)) (suc (length ss))) (on (s .taken))
     (λ t. record { within = omega (arith, free-lowest ss .within); below = up t (free-lowest ss); lacks = λ l. free-lowest ss .lacks (omega arith) })
     (λ t. record { within = omega arith; below = λ j l. absurd (not-suc-le-zero l); lacks = λ l. t })
   where
-    up : s .taken ≡ true → Lowest (takenAt ss) (length ss) (lowestFree ss) → (j : ℕ) → j < suc (lowestFree ss) → takenAt (s ∷ ss) j ≡ true
+    up : on (s .taken) ≡ true → Lowest (takenAt ss) (length ss) (lowestFree ss) → (j : ℕ) → j < suc (lowestFree ss) → takenAt (s ∷ ss) j ≡ true
     up t r zero l = t
     up t r (suc j) l = r .below j (omega arith)
 

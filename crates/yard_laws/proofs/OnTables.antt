@@ -15,7 +15,7 @@ use Rattle.peer_wire.specs.Message.{bitfield as bits}
 use Rattle.peer_wire.specs.Frames.{Found, found, readOf, meant}
 use Rattle.peer_wire.specs.Frames.{wait as more}
 use Rattle.yard_tables.specs.Rows.{width, bitAt, withBit, withBits}
-use Rattle.yard_tables.specs.Seats.{weChoke, weWant}
+use Rattle.yard_tables.specs.Seats.{on, weChoke, weWant}
 use Rattle.yard_tables.specs.Tables.{Yard, Said, wait, done, used, Turn, Out, sized}
 use Rattle.yard_tables.specs.Tables.{seated as givesSeat}
 use Rattle.yard_tables.specs.Frames.{overTop, announce, haveOf, spareSet, bitfieldOf, blockFits, blockOf, requested, messageOf, frameOf, feedOf}
@@ -102,10 +102,10 @@ module _ (y : Yard) where
   free-same = free-is (y .seats) (v .sitsAt) (λ i. refl)
 
   sits-is : (i : ℕ) → sitsBy v i ≡ true → Taken y i
-  sits-is i e = let q = and-eq-true-iff (ltb i n) (seatOf y i .taken) .0 e in (ltb-true i n (q .0), q .1)
+  sits-is i e = let q = and-eq-true-iff (ltb i n) (on (seatOf y i .taken)) .0 e in (ltb-true i n (q .0), q .1)
 
   is-sits : (i : ℕ) → Taken y i → sitsBy v i ≡ true
-  is-sits i h = both-true (ltb i n) (seatOf y i .taken) (lt-ltb i n (h .0)) (h .1)
+  is-sits i h = both-true (ltb i n) (on (seatOf y i .taken)) (lt-ltb i n (h .0)) (h .1)
 
   -- ---- where the sizes fit and no count is damaged, the answer is the one by what the tables say
 
@@ -131,7 +131,7 @@ module _ (y : Yard) where
       message-same notInterested bytes f = refl
       message-same (have p) bytes f = branch (ltb p pieces) _ _ _ _
           (λ d. announce-same bytes (λ q. eqb q p) (withBit (width pieces) i p (y .rows)) (by-have p bytes f (ltb-true p pieces d))) (λ d. refl)
-      message-same (bits b) bytes f = branch (seatOf y i .fresh) _ _ _ _
+      message-same (bits b) bytes f = branch (on (seatOf y i .fresh)) _ _ _ _
           (λ new. branch (eqb (length b) (width pieces)) _ _ _ _
           (λ size. branch (spareSet pieces b) _ _ _ _ (λ e. refl)
           (λ e. announce-same bytes (bitAt b) (withBits (width pieces) i b (y .rows)) (by-bitfield b bytes f new (eqb-true (length b) (width pieces) size) (no-spare pieces b e))))
@@ -177,7 +177,7 @@ module _ (y : Yard) where
   announced-taken i s said here (by-bitfield b bytes f new size none) = (
     used bytes,
     caused.frame-says v starts looks starts-yes starts-is i s (bits b) bytes here f
-        ∙ pick (seatOf y i .fresh) _ _ new
+        ∙ pick (on (seatOf y i .fresh)) _ _ new
         ∙ pick (eqb (length b) (width pieces)) _ _ (eq-eqb (length b) (width pieces) size)
         ∙ skip (spareSet pieces b) _ _ (spare-none pieces b none),
     used-wait bytes,

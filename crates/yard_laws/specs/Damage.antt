@@ -8,7 +8,7 @@ use lib.ListN.{length, getD}
 use Rattle.peer_wire.specs.Message.{have, bitfield}
 use Rattle.yard_tables.specs.Counting.{count}
 use Rattle.yard_tables.specs.Rows.{width, bitAt, hasIn}
-use Rattle.yard_tables.specs.Seats.{cleared}
+use Rattle.yard_tables.specs.Seats.{on, cleared}
 use Rattle.yard_tables.specs.Tables.{Yard}
 use Rattle.yard_tables.specs.Step.{Call, start, sit, leave, feed, choke, interest, missing, scarcest, look, has}
 use Rattle.yard_tables.specs.Step.{count as counts}
@@ -44,10 +44,10 @@ seatOf y i = getD (y .seats) i cleared
 
 -- a truck sits at seat i; none does
 abbrev pub Taken : Yard → ℕ → Type 0
-Taken y i = (i < length (y .seats)) × (seatOf y i .taken ≡ true)
+Taken y i = (i < length (y .seats)) × (on (seatOf y i .taken) ≡ true)
 
 abbrev pub Free : Yard → ℕ → Type 0
-Free y i = (i < length (y .seats)) × (seatOf y i .taken ≡ false)
+Free y i = (i < length (y .seats)) × (on (seatOf y i .taken) ≡ false)
 
 -- piece p is in the row of seat i
 abbrev pub inRow : Yard → ℕ → ℕ → Bool
@@ -56,7 +56,7 @@ inRow y i p = hasIn (width (y .head .pieces)) (y .rows) i p
 -- the pieces that a frame of the truck of seat i announces: a have of a piece that is there, or a bitfield that comes first, has the right length and no spare bit
 pub data Announces (y : Yard) (i : ℕ) (s : List ℕ) : (ℕ → Bool) → Type 0 where
   by-have : (p bytes : ℕ) → Says s (have p) bytes → p < y .head .pieces → Announces y i s (λ q. eqb q p)
-  by-bitfield : (b : List ℕ) (bytes : ℕ) → Says s (bitfield b) bytes → seatOf y i .fresh ≡ true → length b ≡ width (y .head .pieces)
+  by-bitfield : (b : List ℕ) (bytes : ℕ) → Says s (bitfield b) bytes → on (seatOf y i .fresh) ≡ true → length b ≡ width (y .head .pieces)
       → ((p : ℕ) → y .head .pieces ≤ p → p < 8 * length b → bitAt b p ≡ false) → Announces y i s (bitAt b)
 
 -- piece p is announced and is not in the row yet; how many are

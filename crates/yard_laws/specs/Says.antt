@@ -5,7 +5,7 @@ use mathlib.Core.Bool.{Bool, true, false, not, _&&_}
 use mathlib.Core.List.{List, [], _∷_, List·Memᴰ as In}
 use Prim.Native.Nat.{ℕ, zero, suc, _≤_, _<_}
 use lib.ListN.{length, take, drop}
-use Rattle.yard_tables.specs.Counting.{count, some}
+use Rattle.yard_tables.specs.Counting.{bit, count, some}
 use Rattle.yard_tables.specs.Looks.{firstOr}
 use Rattle.yard_tables.specs.declared.Head.{Head}
 use Rattle.yard_tables.specs.declared.Seat.{Seat}
@@ -38,12 +38,12 @@ lacking h i = seated h i && some (pieces h) (λ p. not (announced h i p))
 -- all that is to be known of seat i
 abbrev pub recordOf : History → ℕ → Seat
 recordOf h i = record {
-  taken = seated h i;
-  fresh = fresh h i;
-  «am_choking» = weAreChoking h i;
-  «am_interested» = weAreInterested h i;
-  «peer_choking» = theyAreChoking h i;
-  «peer_interested» = theyAreInterested h i;
+  taken = bit (seated h i);
+  fresh = bit (fresh h i);
+  «am_choking» = bit (weAreChoking h i);
+  «am_interested» = bit (weAreInterested h i);
+  «peer_choking» = bit (theyAreChoking h i);
+  «peer_interested» = bit (theyAreInterested h i);
   held = held h i;
 }
 

@@ -7,7 +7,7 @@ use lib.ListN.{length, getD}
 use Rattle.refusal.specs.Limits.{mostPieces, mostSeats}
 use Rattle.torrent_blocks.specs.Rules.{PieceLength}
 use Rattle.yard_tables.specs.Rows.{width}
-use Rattle.yard_tables.specs.Seats.{cleared}
+use Rattle.yard_tables.specs.Seats.{on, cleared}
 use Rattle.yard_tables.specs.Tables.{Yard}
 use Rattle.yard_tables.specs.Frames.{pieceSize}
 use Rattle.yard_laws.specs.History.{History, Fixed, seated, fresh, weAreChoking, theyAreInterested, Sizes, sizesSet}
@@ -65,10 +65,10 @@ pub record SizesFit (z : Sizes) (y : Yard) : Type 0 where
 abbrev pub byTables : Yard → View
 byTables y = record {
   seats = length (y .seats);
-  sitsAt = λ i. getD (y .seats) i cleared .taken;
-  silent = λ i. getD (y .seats) i cleared .fresh;
-  choked = λ i. getD (y .seats) i cleared .«am_choking»;
-  interested = λ i. getD (y .seats) i cleared .«peer_interested»;
+  sitsAt = λ i. on (getD (y .seats) i cleared .taken);
+  silent = λ i. on (getD (y .seats) i cleared .fresh);
+  choked = λ i. on (getD (y .seats) i cleared .«am_choking»);
+  interested = λ i. on (getD (y .seats) i cleared .«peer_interested»);
   pieces = y .head .pieces;
   longs = pieceSize (y .head);
   MayStart = λ z. SizesFit z y;

@@ -23,8 +23,8 @@ module _ (seats : List Seat) where
   pub lowest-determined : (r t : ℕ) → r ≡ lowestFree seats → t ≡ lowestFree seats → r ≡ t
   lowest-determined r t e f = e ∙ sym f
 
-  pub clear-determined : (on : Bool) (a b : List Seat) → a ≡ cond on (replicate (length seats) cleared) seats → b ≡ cond on (replicate (length seats) cleared) seats → a ≡ b
-  clear-determined on a b e f = e ∙ sym f
+  pub clear-determined : (wanted : Bool) (a b : List Seat) → a ≡ cond wanted (replicate (length seats) cleared) seats → b ≡ cond wanted (replicate (length seats) cleared) seats → a ≡ b
+  clear-determined wanted a b e f = e ∙ sym f
 
   pub list-determined : (x : Asked) (page : List ℕ) (r t : Page) (a b : List ℕ)
       → (r ≡ pageOf (x .pieces) (x .first) (x .lines) seats) × (a ≡ sets page 0 (asLines (linesOf (x .pieces) (x .first) (x .lines) seats)))

@@ -11,7 +11,7 @@ use borrow.Author.Tests.{lt-ltb, le-ltb, ltb-true, ltb-false}
 use lib.Dec.{ltb}
 use lib.ListN.{length, getD, set, take, drop, replicate, drop-of-length-le, length-drop}
 use lib.Seq.{sets, drop-cons, drop-set-lt, take-suc-set, append-snoc, take-all}
-use Rattle.yard_tables.specs.Seats.{cleared}
+use Rattle.yard_tables.specs.Seats.{on, cleared}
 use Rattle.yard_tables.specs.Seating.{lowestFree}
 use Rattle.yard_tables.specs.Looks.{isMissing, missingFrom, linesOf, firstOr, pageOf}
 use Rattle.yard_tables.specs.declared.Seat.{Seat}
@@ -22,7 +22,7 @@ use Rattle.yard_scans.proofs.Steps.{by-test, pick-yes, pick-no, step-sk
 
 -- ---- the lowest free seat
 abbrev pub freeStep : ℕ → Seat → ℕ → ℕ
-freeStep at s i = cond (ltb at i || s .taken) at i
+freeStep at s i = cond (ltb at i || on (s .taken)) at i
 
 unfoldable pub freeFrom : List Seat → ℕ → ℕ → ℕ
 freeFrom [] i at = at
@@ -31,16 +31,16 @@ freeFrom (s ∷ ss) i at = freeFrom ss (suc i) (freeStep at s i)
 found-stays : (ss : List Seat) (i at : ℕ) → at < i → freeFrom ss i at ≡ at
 unfolding freeFrom
 found-stays [] i at l = refl
-found-stays (s ∷ ss) i at l = ap (λ (t : Bool). freeFrom ss (suc i) (cond (t || s .taken) at i)) (lt-ltb at i l) ∙ found-stays ss (suc i) at (omega arith)
+found-stays (s ∷ ss) i at l = ap (λ (t : Bool). freeFrom ss (suc i) (cond (t || on (s .taken)) at i)) (lt-ltb at i l) ∙ found-stays ss (suc i) at (omega arith)
 
 lowest : (ss : List Seat) (i at : ℕ) → at ≡ i + length ss → freeFrom ss i at ≡ i + lowestFree ss
 unfolding freeFrom lowestFree
 lowest [] i at e = e
 lowest (s ∷ ss) i at e =
-    ap (λ (t : Bool). freeFrom ss (suc i) (cond (t || s .taken) at i)) (le-ltb at i (omega arith))
-    ∙ elim (by-test (s .taken)) [
-      | inl t ↦ ap (λ (b : Bool). freeFrom ss (suc i) (cond b at i)) t ∙ lowest ss (suc i) at (omega arith) ∙ suc-add i (lowestFree ss) ∙ sym (add-suc i (lowestFree ss)) ∙ ap (λ (k : ℕ). i + k) (sym (pick-yes (s .taken) (suc (lowestFree ss)) 0 t))
-      | inr t ↦ ap (λ (b : Bool). freeFrom ss (suc i) (cond b at i)) t ∙ found-stays ss (suc i) i (omega arith) ∙ sym (add-zero i) ∙ ap (λ (k : ℕ). i + k) (sym (pick-no (s .taken) (suc (lowestFree ss)) 0 t))
+    ap (λ (t : Bool). freeFrom ss (suc i) (cond (t || on (s .taken)) at i)) (le-ltb at i (omega arith))
+    ∙ elim (by-test (on (s .taken))) [
+      | inl t ↦ ap (λ (b : Bool). freeFrom ss (suc i) (cond b at i)) t ∙ lowest ss (suc i) at (omega arith) ∙ suc-add i (lowestFree ss) ∙ sym (add-suc i (lowestFree ss)) ∙ ap (λ (k : ℕ). i + k) (sym (pick-yes (on (s .taken)) (suc (lowestFree ss)) 0 t))
+      | inr t ↦ ap (λ (b : Bool). freeFrom ss (suc i) (cond b at i)) t ∙ found-stays ss (suc i) i (omega arith) ∙ sym (add-zero i) ∙ ap (λ (k : ℕ). i + k) (sym (pick-no (on (s .taken)) (suc (lowestFree ss)) 0 t))
     ]
 
 pub free-all : (ys : List Seat) → freeFrom ys 0 (length ys) ≡ lowestFree ys
@@ -56,29 +56,29 @@ free-end ys i at l = rw (drop-of-length-le ys)
 
 -- ---- every seat cleared, if that is wanted
 abbrev pub clearBy : Bool → Seat → Seat
-clearBy on s = cond on cleared s
+clearBy wanted s = cond wanted cleared s
 
-cleared-all : (on : Bool) (ys : List Seat) → map (clearBy on) ys ≡ cond on (replicate (length ys) cleared) ys
+cleared-all : (wanted : Bool) (ys : List Seat) → map (clearBy wanted) ys ≡ cond wanted (replicate (length ys) cleared) ys
 cleared-all true [] = refl
 cleared-all true (y ∷ ys) = ap {B = List Seat} (λ r. cleared ∷ r) (cleared-all true ys)
 cleared-all false [] = refl
 cleared-all false (y ∷ ys) = ap {B = List Seat} (λ r. y ∷ r) (cleared-all false ys)
 
-pub clear-next : (on : Bool) (zs : List Seat) (i : ℕ) (r : Seat) → i < length zs → r ≡ clearBy on (getD zs i cleared)
-    → take (i + 1) (set zs i r) ++ map (clearBy on) (drop (i + 1) (set zs i r)) ≡ take i zs ++ map (clearBy on) (drop i zs)
-clear-next on zs i r l e =
+pub clear-next : (wanted : Bool) (zs : List Seat) (i : ℕ) (r : Seat) → i < length zs → r ≡ clearBy wanted (getD zs i cleared)
+    → take (i + 1) (set zs i r) ++ map (clearBy wanted) (drop (i + 1) (set zs i r)) ≡ take i zs ++ map (clearBy wanted) (drop i zs)
+clear-next wanted zs i r l e =
     rw (add-one i, drop-set-lt (suc i) zs i r (omega arith), take-suc-set zs i r l)
-    (append-snoc (take i zs) r (map (clearBy on) (drop (suc i) zs))
-    ∙ ap (λ (s : Seat). take i zs ++ s ∷ map (clearBy on) (drop (suc i) zs)) e
-    ∙ ap (λ (d : List Seat). take i zs ++ map (clearBy on) d) (sym (drop-cons zs i cleared l)))
+    (append-snoc (take i zs) r (map (clearBy wanted) (drop (suc i) zs))
+    ∙ ap (λ (s : Seat). take i zs ++ s ∷ map (clearBy wanted) (drop (suc i) zs)) e
+    ∙ ap (λ (d : List Seat). take i zs ++ map (clearBy wanted) d) (sym (drop-cons zs i cleared l)))
 
-pub clear-end : (on : Bool) (ys zs : List Seat) (i : ℕ) → length zs ≤ i → take i zs ++ map (clearBy on) (drop i zs) ≡ map (clearBy on) ys
-    → zs ≡ cond on (replicate (length ys) cleared) ys
-clear-end on ys zs i l e =
+pub clear-end : (wanted : Bool) (ys zs : List Seat) (i : ℕ) → length zs ≤ i → take i zs ++ map (clearBy wanted) (drop i zs) ≡ map (clearBy wanted) ys
+    → zs ≡ cond wanted (replicate (length ys) cleared) ys
+clear-end wanted ys zs i l e =
     sym (append-nil zs)
     ∙ ap (λ (t : List Seat). t ++ []) (sym (take-all i zs l))
-    ∙ ap (λ (d : List Seat). take i zs ++ map (clearBy on) d) (sym (drop-of-length-le zs l))
-    ∙ e ∙ cleared-all on ys
+    ∙ ap (λ (d : List Seat). take i zs ++ map (clearBy wanted) d) (sym (drop-of-length-le zs l))
+    ∙ e ∙ cleared-all wanted ys
 
 -- ---- a page of the missing list, with its lines
 pub record Listing : Type 0 where

@@ -8,6 +8,7 @@ use native.Mathlib.Omega.{arith}
 use borrow.Author.Tests.{lt-ltb, le-ltb, ltb-true, ltb-false, eq-eqb, ne-eqb}
 use lib.Dec.{ltb, eqb}
 use lib.ListN.{set}
+use Rattle.yard_tables.specs.Seats.{on}
 use Rattle.yard_tables.specs.Looks.{isMissing}
 use Rattle.yard_tables.specs.declared.Seat.{Seat}
 use Rattle.yard_tables.specs.declared.Page.{Page}
@@ -44,14 +45,14 @@ lacks-free t u e = rw e
 lacks-none : (t u : Bool) → t ≡ true → u ≡ true → t && not u ≡ false
 lacks-none t u e f = rw (e, f)
 
-pub missing-is : (n : ℕ) (s : Seat) → s .taken ≡ true → (s .held ≡ n → ⊥) → isMissing n s ≡ true
-missing-is n s e f = lacks (s .taken) (eqb (s .held) n) e (ne-eqb (s .held) n f)
+pub missing-is : (n : ℕ) (s : Seat) → on (s .taken) ≡ true → (s .held ≡ n → ⊥) → isMissing n s ≡ true
+missing-is n s e f = lacks (on (s .taken)) (eqb (s .held) n) e (ne-eqb (s .held) n f)
 
-pub missing-free : (n : ℕ) (s : Seat) → s .taken ≡ false → isMissing n s ≡ false
-missing-free n s e = lacks-free (s .taken) (eqb (s .held) n) e
+pub missing-free : (n : ℕ) (s : Seat) → on (s .taken) ≡ false → isMissing n s ≡ false
+missing-free n s e = lacks-free (on (s .taken)) (eqb (s .held) n) e
 
-pub missing-whole : (n : ℕ) (s : Seat) → s .taken ≡ true → s .held ≡ n → isMissing n s ≡ false
-missing-whole n s e f = lacks-none (s .taken) (eqb (s .held) n) e (eq-eqb (s .held) n f)
+pub missing-whole : (n : ℕ) (s : Seat) → on (s .taken) ≡ true → s .held ≡ n → isMissing n s ≡ false
+missing-whole n s e f = lacks-none (on (s .taken)) (eqb (s .held) n) e (eq-eqb (s .held) n f)
 
 module _ {A : Type 0} (t u v : Bool) (early line past skip : A) where
   abbrev chosen : A

@@ -5,7 +5,7 @@ ghost use Prim.Native.Nat.{_+_, _<_, _≤_, _^_, min};
 ghost use lib.Dec.{ltb};
 ghost use lib.ListN.{length, getD, set, replicate};
 ghost use lib.Seq.{sets};
-ghost use Rattle.yard_tables.specs.Seats.{cleared};
+ghost use Rattle.yard_tables.specs.Seats.{on, cleared};
 ghost use Rattle.yard_tables.specs.Seating.{lowestFree};
 ghost use Rattle.yard_tables.specs.Looks.{pageOf, linesOf};
 ghost use Rattle.yard_scans.specs.Pages.{emptyPage, pageStep, lineStep, lineOf, asLines};
@@ -13,6 +13,7 @@ use yard_tables::Page;
 use yard_tables::Seat;
 use yard_tables::cleared_seat;
 use yard_tables::held;
+use yard_tables::on;
 use yard_tables::sizes::wide;
 
 // The seat at i, and a cleared one past the end.
@@ -50,32 +51,32 @@ pub fn lowest_free(seats: &[Seat]) -> usize
 
 // One seat more: the first that is free is kept.
 fn free_step(at: usize, s: Seat, i: usize) -> usize
-    ensures { λ r. ⌜ r ≡ cond (ltb at i || s .taken) at i ⌝ }
+    ensures { λ r. ⌜ r ≡ cond (ltb at i || on (s .taken)) at i ⌝ }
 {
     if at < i {
         return at;
     }
-    if s.taken {
+    if on(s.taken) {
         return at;
     }
     i
 }
 
 // Every seat is cleared, if that is wanted.
-pub fn clear_seats(seats: &mut [Seat], on: bool)
-    ensures { λ _. ⌜ now (seats .exit) ≡ cond on (replicate (length (now (seats .entry))) cleared) (now (seats .entry)) ⌝ }
+pub fn clear_seats(seats: &mut [Seat], wanted: bool)
+    ensures { λ _. ⌜ now (seats .exit) ≡ cond wanted (replicate (length (now (seats .entry))) cleared) (now (seats .entry)) ⌝ }
 {
     let mut i: usize = 0;
     while i < seats.len() {
-        seats[i] = clear_step(on, seats[i]);
+        seats[i] = clear_step(wanted, seats[i]);
         i += 1;
     }
 }
 
-fn clear_step(on: bool, s: Seat) -> Seat
-    ensures { λ r. ⌜ r ≡ cond on cleared s ⌝ }
+fn clear_step(wanted: bool, s: Seat) -> Seat
+    ensures { λ r. ⌜ r ≡ cond wanted cleared s ⌝ }
 {
-    if on {
+    if wanted {
         return cleared_seat();
     }
     s
@@ -109,7 +110,7 @@ fn list_step(asked: Asked, p: Page, s: Seat, i: usize, page: &mut [u32]) -> Page
     requires { ⌜ (p .written ≤ p .total) × (p .total + 1 < 2 ^ 64) ⌝ }
     ensures { λ r. ⌜ (r ≡ pageStep asked p s i) × (now (page .exit) ≡ lineStep asked p s i (now (page .entry))) ⌝ }
 {
-    if !s.taken {
+    if !on(s.taken) {
         return p;
     }
     if held(s) == wide(asked.pieces) {

@@ -19,7 +19,7 @@ use Rattle.peer_wire.specs.Frames.{least, most, allowed, writeOf}
 use Rattle.peer_wire.specs.Message.{framed}
 use Rattle.yard_tables.specs.Counting.{bit, some, each}
 use Rattle.yard_tables.specs.Rows.{width}
-use Rattle.yard_tables.specs.Seats.{cleared, arrived, counted}
+use Rattle.yard_tables.specs.Seats.{on, cleared, arrived, counted}
 use Rattle.yard_tables.specs.Step.{ifTaken, chokeFrame, interestFrame}
 use Rattle.yard_tables.specs.Tables.{wrote, seated, done, Yard, yardOf, Around, Turn, around, turn, paper, refuse, says, sizesFit, sized, sitting}
 use Rattle.yard_tables.specs.Seating.{emptied, startOf, atZero, left, leaveOf, seatedAt, sitOf, markOf}
@@ -57,19 +57,19 @@ module _ (h : Head) (s : Seat) where
 
 module _ (h : Head) (s : Seat) (i n R C : ℕ) (b : Bool) (eb : b ≡ sizesFit h n R C) where
   pub fault-sizes : not b ≡ true → sizes ≡ faultAt h s i n R C
-  fault-sizes e = pick-no (cond (ltb i n && s .taken) 0 seat) (sizesFit h n R C) (sym eb ∙ not-true b e) refl
+  fault-sizes e = pick-no (cond (ltb i n && on (s .taken)) 0 seat) (sizesFit h n R C) (sym eb ∙ not-true b e) refl
 
   fit : not b ≡ false → sizesFit h n R C ≡ true
   fit e = sym eb ∙ not-false b e
 
   pub fault-past : not b ≡ false → n ≤ i → seat ≡ faultAt h s i n R C
-  fault-past e l = pick-yes sizes (sizesFit h n R C) (fit e) (pick-no 0 (ltb i n && s .taken) (ap (λ (t : Bool). t && s .taken) (le-ltb i n l)) refl)
+  fault-past e l = pick-yes sizes (sizesFit h n R C) (fit e) (pick-no 0 (ltb i n && on (s .taken)) (ap (λ (t : Bool). t && on (s .taken)) (le-ltb i n l)) refl)
 
-  pub fault-none : not b ≡ false → i < n → s .taken ≡ true → 0 ≡ faultAt h s i n R C
-  fault-none e l t = pick-yes sizes (sizesFit h n R C) (fit e) (pick-yes seat (ltb i n && s .taken) (ap₂ _&&_ (lt-ltb i n l) t) refl)
+  pub fault-none : not b ≡ false → i < n → on (s .taken) ≡ true → 0 ≡ faultAt h s i n R C
+  fault-none e l t = pick-yes sizes (sizesFit h n R C) (fit e) (pick-yes seat (ltb i n && on (s .taken)) (ap₂ _&&_ (lt-ltb i n l) t) refl)
 
-  pub fault-free : not b ≡ false → i < n → s .taken ≡ false → seat ≡ faultAt h s i n R C
-  fault-free e l t = pick-yes sizes (sizesFit h n R C) (fit e) (pick-no 0 (ltb i n && s .taken) (ap₂ _&&_ (lt-ltb i n l) t) refl)
+  pub fault-free : not b ≡ false → i < n → on (s .taken) ≡ false → seat ≡ faultAt h s i n R C
+  fault-free e l t = pick-yes sizes (sizesFit h n R C) (fit e) (pick-no 0 (ltb i n && on (s .taken)) (ap₂ _&&_ (lt-ltb i n l) t) refl)
 
 -- what the fault says of a step that checks the sizes and the seat
 module _ (h : Head) (s : Seat) (i n : ℕ) (rows holders : List ℕ) (k : ℕ) (ek : k ≡ faultAt h s i n (length rows) (length holders)) where
@@ -80,7 +80,7 @@ module _ (h : Head) (s : Seat) (i n : ℕ) (rows holders : List ℕ) (k : ℕ) (
   F = sizesFit h n (length rows) (length holders)
 
   abbrev G : Bool
-  G = ltb i n && s .taken
+  G = ltb i n && on (s .taken)
 
   -- in one of the three ways
   ways : (Q : Type 0) → (F ≡ false → k ≡ sizes → Q) → (F ≡ true → G ≡ false → k ≡ seat → Q) → (F ≡ true → G ≡ true → k ≡ 0 → Q) → Q
@@ -109,7 +109,7 @@ module _ (h : Head) (s : Seat) (i n : ℕ) (rows holders : List ℕ) (k : ℕ) (
   fault-seat z = ways ((F ≡ true) × (i < n))
       (λ f e. absurd (some-fault z e))
       (λ f g e. absurd (some-fault z e))
-      (λ f g e. (f, ltb-true i n (and-left (ltb i n) (s .taken) g)))
+      (λ f g e. (f, ltb-true i n (and-left (ltb i n) (on (s .taken)) g)))
     where
       and-left : (a b : Bool) → (a && b) ≡ true → a ≡ true
       and-left true b e = refl

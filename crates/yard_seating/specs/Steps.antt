@@ -9,7 +9,7 @@ use Rattle.refusal.specs.Numbers.{seat, sizes, room}
 use Rattle.yard_tables.specs.Counting.{bit, some}
 use Rattle.yard_tables.specs.Replies.{refusing, stepped}
 use Rattle.yard_tables.specs.Rows.{digit}
-use Rattle.yard_tables.specs.Seats.{cleared}
+use Rattle.yard_tables.specs.Seats.{on, cleared}
 use Rattle.yard_tables.specs.Tables.{paper, Out, yardOf, sizesFit}
 use Rattle.yard_tables.specs.declared.Head.{Head}
 use Rattle.yard_tables.specs.declared.Seat.{Seat}
@@ -31,7 +31,7 @@ begun r seats rows holders = record { answer = paper (r .answer); yard = yardOf 
 
 -- the number of the refusal where the sizes do not fit or no truck sits at seat i of n, and else 0
 abbrev pub faultAt : Head → Seat → ℕ → ℕ → ℕ → ℕ → ℕ
-faultAt h s i n rows holders = cond (sizesFit h n rows holders) (cond (ltb i n && s .taken) 0 seat) sizes
+faultAt h s i n rows holders = cond (sizesFit h n rows holders) (cond (ltb i n && on (s .taken)) 0 seat) sizes
 
 -- the seat s becomes t, unless there is a fault or less room than a frame of 5 bytes takes
 abbrev pub markedOr : Head → Seat → Seat → ℕ → ℕ → Stepped

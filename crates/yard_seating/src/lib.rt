@@ -25,6 +25,7 @@ use yard_tables::Head;
 use yard_tables::Seat;
 use yard_tables::Stepped;
 use yard_tables::leaving;
+use yard_tables::on;
 use yard_tables::reply;
 use yard_tables::sizes;
 
@@ -127,7 +128,7 @@ pub fn choke_step(
     ensures frame { λ r. ⌜ now (out .exit) ≡ sets (now (out .entry)) 0 (ifTaken (paper (r .answer)) (chokeFrame on)) ⌝ }
 {
     let mut t = s;
-    t.am_choking = on;
+    t.am_choking = on as u8;
     let fault = fault_at(h, s, i, n, rows.len(), holders.len());
     mark(h, s, t, fault, choke_id(on), out)
 }
@@ -147,7 +148,7 @@ pub fn interest_step(
     ensures frame { λ r. ⌜ now (out .exit) ≡ sets (now (out .entry)) 0 (ifTaken (paper (r .answer)) (interestFrame on)) ⌝ }
 {
     let mut t = s;
-    t.am_interested = on;
+    t.am_interested = on as u8;
     let fault = fault_at(h, s, i, n, rows.len(), holders.len());
     mark(h, s, t, fault, interest_id(on), out)
 }
@@ -196,7 +197,7 @@ fn fault_at(h: Head, s: Seat, i: usize, n: usize, row_bytes: usize, counts: usiz
     if n <= i {
         return number::SEAT;
     }
-    if s.taken {
+    if on(s.taken) {
         return 0;
     }
     number::SEAT

@@ -10,7 +10,7 @@ use Rattle.refusal.specs.Limits.{longestBlock}
 use Rattle.refusal.specs.Numbers.{beyond, outside}
 use Rattle.refusal.specs.Paper.{Outcome, taken}
 use Rattle.refusal.proofs.Cases.{pick-yes, pick-no}
-use Rattle.yard_tables.specs.Seats.{spoken}
+use Rattle.yard_tables.specs.Seats.{on, spoken}
 use Rattle.yard_tables.specs.Tables.{Said, serve, dropped, around, turn, paper, refuse, says}
 use Rattle.yard_tables.specs.Frames.{pieceSize, blockFits, blockOf, passed, requested}
 use Rattle.yard_tables.specs.declared.Head.{Head}
@@ -68,11 +68,11 @@ module _ (used : ℕ) (s : Seat) where
   both : (a b : Bool) → a ≡ false → b ≡ true → (not a && b) ≡ true
   both a b e f = rw (e, f)
 
-  pub asked-choking : s .«am_choking» ≡ true → _≡_ {A = Outcome Said} (taken (dropped used)) (taken (requested used s))
-  asked-choking e = ap {B = Outcome Said} (λ x. taken x) (pick-no (serve used) (not (s .«am_choking») && s .«peer_interested») (no-and (s .«am_choking») (s .«peer_interested») e) refl)
+  pub asked-choking : on (s .«am_choking») ≡ true → _≡_ {A = Outcome Said} (taken (dropped used)) (taken (requested used s))
+  asked-choking e = ap {B = Outcome Said} (λ x. taken x) (pick-no (serve used) (not (on (s .«am_choking»)) && on (s .«peer_interested»)) (no-and (on (s .«am_choking»)) (on (s .«peer_interested»)) e) refl)
 
-  pub asked-served : s .«am_choking» ≡ false → s .«peer_interested» ≡ true → _≡_ {A = Outcome Said} (taken (serve used)) (taken (requested used s))
-  asked-served e f = ap {B = Outcome Said} (λ x. taken x) (pick-yes (dropped used) (not (s .«am_choking») && s .«peer_interested») (both (s .«am_choking») (s .«peer_interested») e f) refl)
+  pub asked-served : on (s .«am_choking») ≡ false → on (s .«peer_interested») ≡ true → _≡_ {A = Outcome Said} (taken (serve used)) (taken (requested used s))
+  asked-served e f = ap {B = Outcome Said} (λ x. taken x) (pick-yes (dropped used) (not (on (s .«am_choking»)) && on (s .«peer_interested»)) (both (on (s .«am_choking»)) (on (s .«peer_interested»)) e f) refl)
 
-  pub asked-idle : s .«peer_interested» ≡ false → _≡_ {A = Outcome Said} (taken (dropped used)) (taken (requested used s))
-  asked-idle f = ap {B = Outcome Said} (λ x. taken x) (pick-no (serve used) (not (s .«am_choking») && s .«peer_interested») (and-no (not (s .«am_choking»)) (s .«peer_interested») f) refl)
+  pub asked-idle : on (s .«peer_interested») ≡ false → _≡_ {A = Outcome Said} (taken (dropped used)) (taken (requested used s))
+  asked-idle f = ap {B = Outcome Said} (λ x. taken x) (pick-no (serve used) (not (on (s .«am_choking»)) && on (s .«peer_interested»)) (and-no (not (on (s .«am_choking»))) (on (s .«peer_interested»)) f) refl)

@@ -12,7 +12,7 @@ use Rattle.peer_wire.specs.Message.{Message, keepalive, choke, unchoke, interes
 use Rattle.peer_wire.specs.Frames.{Found, found, readOf, meant}
 use Rattle.peer_wire.specs.Frames.{wait as more}
 use Rattle.yard_tables.specs.Rows.{width, withBit, withBits, bitAt}
-use Rattle.yard_tables.specs.Seats.{cleared, weChoke, weWant}
+use Rattle.yard_tables.specs.Seats.{on, cleared, weChoke, weWant}
 use Rattle.yard_tables.specs.Tables.{Yard, Said, wait, done, used, serve, dropped, seated, wrote, listed, shows, holds, heldBy, scarce, Around, Turn, Out, around, sizesFit, sized, sitting, yardOf, atSeat}
 use Rattle.yard_tables.specs.Frames.{overTop, announce, haveOf, spareSet, bitfieldOf, blockFits, blockOf, requested, messageOf, frameOf, feedOf}
 use Rattle.yard_tables.specs.Seating.{emptied, startOf, lowestFree, sitOf, atZero, leaveOf, markOf}
@@ -46,13 +46,13 @@ module _ (x : Around) where
   sized-keeps n t k = by-test Keeps (sizesFit (x .head) n (length (x .rows)) (length (x .holders))) (λ e. k) (λ e u. refl)
 
   sitting-keeps : (i n : ℕ) (t : Turn) → Keeps t → Keeps (sitting i n x t)
-  sitting-keeps i n t k = by-test Keeps (ltb i n && x .seat .taken) (λ e. k) (λ e u. refl)
+  sitting-keeps i n t k = by-test Keeps (ltb i n && on (x .seat .taken)) (λ e. k) (λ e u. refl)
 
   announce-keeps : (n i bytes : ℕ) (said : ℕ → Bool) (rows : List ℕ) → Keeps (announce n i bytes said rows x)
   announce-keeps n i bytes said rows = by-test Keeps (overTop n i said x) (λ e u. refl) (λ e u. absurd u)
 
   requested-taken : (bytes : ℕ) → Unused (taken (requested bytes (x .seat))) → ⊥
-  requested-taken bytes = by-test (λ (a : Said). Unused (taken a) → ⊥) (not (x .seat .«am_choking») && x .seat .«peer_interested») (λ e u. u) (λ e u. u)
+  requested-taken bytes = by-test (λ (a : Said). Unused (taken a) → ⊥) (not (on (x .seat .«am_choking»)) && on (x .seat .«peer_interested»)) (λ e u. u) (λ e u. u)
 
   block-keeps : (p b k : ℕ) (a : Said) → (Unused (taken a) → ⊥) → Keeps (blockOf p b k a x)
   unfolding blockOf
@@ -66,7 +66,7 @@ module _ (x : Around) where
   message-keeps n i bytes interested = λ u. absurd u
   message-keeps n i bytes notInterested = λ u. absurd u
   message-keeps n i bytes (have p) = by-test Keeps (ltb p (x .head .pieces)) (λ e. announce-keeps n i bytes (λ q. eqb q p) (withBit (width (x .head .pieces)) i p (x .rows))) (λ e u. refl)
-  message-keeps n i bytes (bitfield b) = by-test Keeps (x .seat .fresh)
+  message-keeps n i bytes (bitfield b) = by-test Keeps (on (x .seat .fresh))
       (λ e. by-test Keeps (eqb (length b) (width (x .head .pieces)))
       (λ f. by-test Keeps (spareSet (x .head .pieces) b) (λ g u. refl) (λ g. announce-keeps n i bytes (bitAt b) (withBits (width (x .head .pieces)) i b (x .rows))))
       (λ f u. refl))

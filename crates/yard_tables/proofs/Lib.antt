@@ -8,5 +8,6 @@ pub mod Rows
 pub mod Telling
 pub mod Keeping
 pub mod Single
+pub mod Flags
 pub mod Blocks
 pub mod Lowering

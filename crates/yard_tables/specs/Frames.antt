@@ -11,7 +11,7 @@ use Rattle.peer_wire.specs.Message.{Message, keepalive, choke, unchoke, interes
 use Rattle.peer_wire.specs.Frames.{Found, wait, found, readOf, meant}
 use Rattle.yard_tables.specs.Counting.{bit, count, some, each}
 use Rattle.yard_tables.specs.Rows.{width, bitAt, hasIn, withBit, withBits}
-use Rattle.yard_tables.specs.Seats.{spoken, theyChoke, theyWant, holding, counted}
+use Rattle.yard_tables.specs.Seats.{on, spoken, theyChoke, theyWant, holding, counted}
 use Rattle.yard_tables.specs.Tables.{Said, used, serve, dropped, Around, Turn, around, refuse, says, sized, sitting}
 use Rattle.yard_tables.specs.declared.Head.{Head}
 use Rattle.yard_tables.specs.declared.Seat.{Seat}
@@ -63,7 +63,7 @@ spareSet pieces bits = some (8 * length bits) (λ p. leb pieces p && bitAt bits 
 -- bitfield: first of all frames, of the right length, no spare bit
 unfoldable pub bitfieldOf : ℕ → ℕ → ℕ → List ℕ → Around → Turn
 bitfieldOf n i bytes bits x =
-    cond (x .seat .fresh)
+    cond (on (x .seat .fresh))
     (cond (eqb (length bits) (width (x .head .pieces)))
     (cond (spareSet (x .head .pieces) bits) (refuse spare x)
     (announce n i bytes (bitAt bits) (withBits (width (x .head .pieces)) i bits (x .rows)) x))
@@ -96,7 +96,7 @@ blockOf p begin len a x =
 
 -- a request is served exactly if we don't choke and they are interested
 abbrev pub requested : ℕ → Seat → Said
-requested bytes s = cond (not (s .«am_choking») && s .«peer_interested») (serve bytes) (dropped bytes)
+requested bytes s = cond (not (on (s .«am_choking»)) && on (s .«peer_interested»)) (serve bytes) (dropped bytes)
 
 -- ---- by what the frame says
 

@@ -7,6 +7,7 @@ use lib.ListN.{length, getD, take, drop}
 use Rattle.refusal.specs.Paper.{taken}
 use Rattle.refusal.specs.Numbers.{seat, beyond}
 use Rattle.yard_tables.specs.Rows.{width, hasIn}
+use Rattle.yard_tables.specs.Seats.{on}
 use Rattle.yard_tables.specs.Tables.{listed, shows, holds, heldBy, scarce, Around, Turn, refuse, says, sized}
 use Rattle.yard_tables.specs.declared.Seat.{Seat}
 use Rattle.yard_tables.specs.declared.Page.{Page}
@@ -15,7 +16,7 @@ use Rattle.yard_tables.specs.declared.Page.{Page}
 
 -- a truck sits there and lacks a piece
 abbrev pub isMissing : ℕ → Seat → Bool
-isMissing pieces s = s .taken && not (eqb (s .held) pieces)
+isMissing pieces s = on (s .taken) && not (eqb (s .held) pieces)
 
 -- the seats of those, where the first seat is number k
 unfoldable pub missingFrom : ℕ → ℕ → List Seat → List ℕ

@@ -8,7 +8,7 @@ use Rattle.refusal.specs.Paper.{taken, refused}
 use Rattle.refusal.specs.Numbers.{full, room, sizes, damaged}
 use Rattle.yard_tables.specs.Counting.{bit, some, each}
 use Rattle.yard_tables.specs.Rows.{width, hasIn, withoutBits}
-use Rattle.yard_tables.specs.Seats.{cleared, arrived, counted}
+use Rattle.yard_tables.specs.Seats.{on, cleared, arrived, counted}
 use Rattle.yard_tables.specs.Tables.{Yard, done, seated, wrote, Around, Turn, around, refuse, says, sizesFit, sized, sitting, Out}
 use Rattle.yard_tables.specs.declared.Seat.{Seat}
 
@@ -30,7 +30,7 @@ startOf pieces pieceLength lastLength y =
 -- the lowest free seat, or the number of seats
 unfoldable pub lowestFree : List Seat → ℕ
 lowestFree [] = 0
-lowestFree (s ∷ ss) = let k : ℕ = suc (lowestFree ss) in cond (s .taken) k 0
+lowestFree (s ∷ ss) = let k : ℕ = suc (lowestFree ss) in cond (on (s .taken)) k 0
 
 -- a truck sits down at seat i of n
 unfoldable pub seatedAt : ℕ → Around → Around

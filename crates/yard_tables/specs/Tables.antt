@@ -10,7 +10,7 @@ use Rattle.refusal.specs.Limits.{mostPieces, mostSeats}
 use Rattle.torrent_blocks.specs.Rules.{pieceLength}
 use Rattle.yard_tables.specs.Counting.{every}
 use Rattle.yard_tables.specs.Rows.{width}
-use Rattle.yard_tables.specs.Seats.{cleared}
+use Rattle.yard_tables.specs.Seats.{on, cleared}
 use Rattle.yard_tables.specs.declared.Head.{Head}
 use Rattle.yard_tables.specs.declared.Seat.{Seat}
 use Rattle.yard_tables.specs.declared.Page.{Page}
@@ -105,7 +105,7 @@ sized n x t = cond (sizesFit (x .head) n (length (x .rows)) (length (x .holders)
 
 -- then, where a truck must sit there, the seat i of n
 abbrev pub sitting : ℕ → ℕ → Around → Turn → Turn
-sitting i n x t = cond (ltb i n && x .seat .taken) t (refuse seat x)
+sitting i n x t = cond (ltb i n && on (x .seat .taken)) t (refuse seat x)
 
 -- ---- the whole yard
 

@@ -8,6 +8,7 @@ use crate::Answer;
 use crate::Head;
 use crate::Seat;
 use crate::Stepped;
+use crate::on;
 use crate::reply;
 use crate::sizes::wide;
 use refusal::limit;
@@ -37,10 +38,10 @@ pub fn block_step(h: Head, s: Seat, p: PieceNumber, fits: bool, a: Answer) -> St
 pub fn asked(s: Seat, used: usize) -> Answer
     ensures { λ r. ⌜ paper r ≡ taken (requested used s) ⌝ }
 {
-    if s.am_choking {
+    if on(s.am_choking) {
         return Answer::Dropped(used);
     }
-    if s.peer_interested {
+    if on(s.peer_interested) {
         return Answer::Serve(used);
     }
     Answer::Dropped(used)

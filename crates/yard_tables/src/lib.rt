@@ -1,6 +1,6 @@
 // The yard's tables, and what a call answers. The definitions (specs/) say what each call makes of them.
 ghost use mathlib.Core.Path.{_≡_};
-ghost use Rattle.yard_tables.specs.Seats.{cleared, arrived};
+ghost use Rattle.yard_tables.specs.Seats.{on, cleared, arrived};
 use refusal::Refusal;
 
 pub mod bits;
@@ -19,15 +19,16 @@ pub struct Head {
     pub complete: u32,
 }
 
-// One seat. Fresh: its truck has not said anything yet. The marks are BEP 3's, `am` ours and `peer` the truck's.
+// One seat. Fresh: its truck has not said anything yet. The marks are BEP 3's, `am` ours and `peer` the truck's. The flags
+// and `held` are one word of 64 bits; further fields follow as whole words, so that no byte is padding.
 #[repr(C)]
 pub struct Seat {
-    pub taken: bool,
-    pub fresh: bool,
-    pub am_choking: bool,
-    pub am_interested: bool,
-    pub peer_choking: bool,
-    pub peer_interested: bool,
+    pub taken: u8,
+    pub fresh: u8,
+    pub am_choking: u8,
+    pub am_interested: u8,
+    pub peer_choking: u8,
+    pub peer_interested: u8,
     pub held: u16,
 }
 
@@ -69,7 +70,14 @@ pub struct Stepped {
     pub answer: Answer,
 }
 
-// How many pieces the truck of a seat holds. A seat's own count has 16 bits, so that no byte of a seat is padding.
+// A flag is on where it is not 0; the yard itself writes 0 and 1.
+pub fn on(flag: u8) -> bool
+    ensures { λ r. ⌜ r ≡ on flag ⌝ }
+{
+    flag != 0
+}
+
+// How many pieces the truck of a seat holds.
 pub fn held(s: Seat) -> usize
     ensures { λ r. ⌜ r ≡ s .held ⌝ }
 {
@@ -81,12 +89,12 @@ pub fn cleared_seat() -> Seat
     ensures { λ r. ⌜ r ≡ cleared ⌝ }
 {
     Seat {
-        taken: false,
-        fresh: false,
-        am_choking: false,
-        am_interested: false,
-        peer_choking: false,
-        peer_interested: false,
+        taken: 0,
+        fresh: 0,
+        am_choking: 0,
+        am_interested: 0,
+        peer_choking: 0,
+        peer_interested: 0,
         held: 0,
     }
 }
@@ -96,12 +104,12 @@ pub fn arrived_seat() -> Seat
     ensures { λ r. ⌜ r ≡ arrived ⌝ }
 {
     Seat {
-        taken: true,
-        fresh: true,
-        am_choking: true,
-        am_interested: false,
-        peer_choking: true,
-        peer_interested: false,
+        taken: 1,
+        fresh: 1,
+        am_choking: 1,
+        am_interested: 0,
+        peer_choking: 1,
+        peer_interested: 0,
         held: 0,
     }
 }

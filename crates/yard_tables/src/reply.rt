@@ -52,7 +52,7 @@ pub fn spoken(s: Seat) -> Seat
     ensures { λ r. ⌜ r ≡ spoken s ⌝ }
 {
     let mut t = s;
-    t.fresh = false;
+    t.fresh = 0;
     t
 }
 
@@ -61,7 +61,7 @@ pub fn they_choke(s: Seat, b: bool) -> Seat
     ensures { λ r. ⌜ r ≡ theyChoke b s ⌝ }
 {
     let mut t = s;
-    t.peer_choking = b;
+    t.peer_choking = b as u8;
     t
 }
 
@@ -69,6 +69,6 @@ pub fn they_want(s: Seat, b: bool) -> Seat
     ensures { λ r. ⌜ r ≡ theyWant b s ⌝ }
 {
     let mut t = s;
-    t.peer_interested = b;
+    t.peer_interested = b as u8;
     t
 }

@@ -43,12 +43,12 @@ abbrev SeatsTy : Ty
 SeatsTy = sliceTy (tyRef (named 0) mut (pointee (R-Seat .written)))
 
 -- where a turn begins
-record Turn (ys : List Seat) (on : Bool) : Type 0 where
+record Turn (ys : List Seat) (wanted : Bool) : Type 0 where
   i : ℕ
   le : i ≤ length ys
   zs : List Seat
   ns : length zs ≡ length ys
-  so : take i zs ++ map (clearBy on) (dropped i zs) ≡ map (clearBy on) ys
+  so : take i zs ++ map (clearBy wanted) (dropped i zs) ≡ map (clearBy wanted) ys
 
 module _ {M : Type 1} (𝓤 : URA M) (H : Heap 𝓤) (A : Atoms 𝓤) (mem : Memory → SProp 𝓤) (run : Routine → Fun 𝓤) where
   -- the contracts that the proof cites
@@ -56,7 +56,7 @@ module _ {M : Type 1} (𝓤 : URA M) (H : Heap 𝓤) (A : Atoms 𝓤) (mem : Mem
   Stp = tripleOf 𝓤 H A g.signature (g.spec 𝓤 H A mem run)
 
 module _ {M : Type 1} (𝓤 : URA M) (H : Heap 𝓤) (A : Atoms 𝓤) (W : Given 𝓤 H A) (mem : Memory → SProp 𝓤) (run : Routine → Fun 𝓤) (κ0 : Lft) (q0 : Share)
-    (b o : ℕ) (γ : GName) (ys : List Seat) (on : Bool) where
+    (b o : ℕ) (γ : GName) (ys : List Seat) (wanted : Bool) where
   abbrev at-seats : List Seat → RefT (List Seat)
   at-seats l = record { ptr = (b, o); name = γ; now = l }
 
@@ -64,10 +64,10 @@ module _ {M : Type 1} (𝓤 : URA M) (H : Heap 𝓤) (A : Atoms 𝓤) (W : Given
   sv = sliceVal (b, o) (length ys)
 
   abbrev xs : Args f.signature (κ0, tt)
-  xs = (at-seats ys, (on, tt))
+  xs = (at-seats ys, (wanted, tt))
 
   abbrev at : Vals f.signature (κ0, tt)
-  at = (sv ∷ [], (vbool on ∷ [], tt))
+  at = (sv ∷ [], (vbool wanted ∷ [], tt))
 
   abbrev bound : walkOf 𝓤 H A f.ended stayed (f.clauses 𝓤 H A mem run) .Ghost
   bound = (((κ0, tt), (q0, tt), tt, xs, at), tt)
@@ -79,39 +79,39 @@ module _ {M : Type 1} (𝓤 : URA M) (H : Heap 𝓤) (A : Atoms 𝓤) (W : Given
   abbrev Had : List Seat → List ℕ → List (Item 𝓤)
   Had zs ci = ‵ (flft κ0 q0) ∷ ‵ (fobs γ (codedHoleys R-Seat .code (heres R-Seat zs))) ∷ ‵ (fbor κ0 (Held R-Seat (length zs) b o γ)) ∷ []
 
-  exits : (x : Turn ys on) → Room R-Seat (length ys) → Is Boolean on (vbool on ∷ []) → (x .zs) ≡ cond on (replicate (length ys) cleared) ys → ent 𝓤 (⋆ 𝓤 H A
-      (Had (x .zs) ([]))) (Post (vunit))
-  exits x gs g-on e =
+  exits : (x : Turn ys wanted) → Room R-Seat (length ys) → Is Boolean wanted (vbool wanted ∷ []) → (x .zs) ≡ cond wanted (replicate (length ys) cleared) ys →
+      ent 𝓤 (⋆ 𝓤 H A (Had (x .zs) ([]))) (Post (vunit))
+  exits x gs g-wanted e =
       qed W (Had (x .zs) ([])) ∵
       suffices ! _ (ends-at 𝓤 H A f.ended stayed (f.clauses 𝓤 H A mem run) W bound (vunit) (tt) (x .zs, (tt, tt)) (x .ns, (tt, tt))) $ says ! e $
       move ! (1 ∷ 2 ∷ []) $ fjoin ! $ pureI ! (at-slice R-Seat (at-seats (x .zs)) (sv ∷ [])) (tt, (tt, tt))
       (ap (λ (m : ℕ). sliceVal (b, o) m ∷ []) (sym (x .ns)), subst (Room R-Seat) (sym (x .ns)) gs) $ fjoin ! $ nothing ! $ move ! (2 ∷ 0 ∷ []) $ join ! $
-      nothing ! $ owned ! Boolean (Is Boolean) (bool-makes 𝓤 H A W) on (vbool on ∷ []) g-on $ fjoin ! $ move ! (2 ∷ 0 ∷ []) $ fjoin ! $
+      nothing ! $ owned ! Boolean (Is Boolean) (bool-makes 𝓤 H A W) wanted (vbool wanted ∷ []) g-wanted $ fjoin ! $ move ! (2 ∷ 0 ∷ []) $ fjoin ! $
       move ! (1 ∷ 0 ∷ []) $ frame ! $ frame ! $ owned ! Nothing (Is Nothing) (nothing-makes 𝓤 H A W) tt (vunit ∷ []) refl $ done !
 
   -- the call
   module _ (s : Seat) (i : ℕ) where
     abbrev stp-args : Args g.signature tt
-    stp-args = (on, (s, tt))
+    stp-args = (wanted, (s, tt))
 
     abbrev to-stp : Stp 𝓤 H A mem run .Ghost
-    to-stp = ((tt, tt, tt, stp-args, (vbool on ∷ [], (L-Seat.lowered s ∷ [], tt))), tt)
+    to-stp = ((tt, tt, tt, stp-args, (vbool wanted ∷ [], (L-Seat.lowered s ∷ [], tt))), tt)
 
-    goes-stp : Is Boolean on (vbool on ∷ []) → Is R-Seat s (L-Seat.lowered s ∷ []) → i < 2 ^ 64 → ent 𝓤 (⋆ 𝓤 H A ([])) (Stp 𝓤 H A mem run .pre to-stp)
-    goes-stp g-on iss gi =
+    goes-stp : Is Boolean wanted (vbool wanted ∷ []) → Is R-Seat s (L-Seat.lowered s ∷ []) → i < 2 ^ 64 → ent 𝓤 (⋆ 𝓤 H A ([])) (Stp 𝓤 H A mem run .pre to-stp)
+    goes-stp g-wanted iss gi =
         qed W ([]) ∵
         nothing ! $ nothing ! $ owned ! R-Seat (Is R-Seat) (LL.makes T-Seat.the-type L-Seat.the-plain 𝓤 H A) s (L-Seat.lowered s ∷ []) iss $ fjoin ! $
-        owned ! Boolean (Is Boolean) (bool-makes 𝓤 H A W) on (vbool on ∷ []) g-on $ fjoin ! $ move ! (1 ∷ 0 ∷ []) $ join ! $ frame ! $ done !
+        owned ! Boolean (Is Boolean) (bool-makes 𝓤 H A W) wanted (vbool wanted ∷ []) g-wanted $ fjoin ! $ move ! (1 ∷ 0 ∷ []) $ join ! $ frame ! $ done !
 
   -- ---- the loop
-  abbrev Nearer : Turn ys on → Turn ys on → Type 0
+  abbrev Nearer : Turn ys wanted → Turn ys wanted → Type 0
   Nearer y x = length ys - y .i < length ys - x .i
 
   Nearer-wf : WellFounded Nearer
-  Nearer-wf = InvImage·wf (λ (x : Turn ys on). length ys - x .i) (Nat·lt-wfRel .wf)
+  Nearer-wf = InvImage·wf (λ (x : Turn ys wanted). length ys - x .i) (Nat·lt-wfRel .wf)
 
-  module _ (𝓣 : Tables 𝓤 H) (known-g : Triple 𝓤 (𝓣 .C #yard-scans·clear-step) (Stp 𝓤 H A mem run)) (gs : Room R-Seat (length ys)) (g-on : Is Boolean on (vbool
-      on ∷ [])) where
+  module _ (𝓣 : Tables 𝓤 H) (known-g : Triple 𝓤 (𝓣 .C #yard-scans·clear-step) (Stp 𝓤 H A mem run)) (gs : Room R-Seat (length ys)) (g-wanted : Is Boolean wanted
+      (vbool wanted ∷ [])) where
     abbrev C : Calls 𝓤 H
     C = 𝓣 .C
 
@@ -124,19 +124,19 @@ module _ {M : Type 1} (𝓤 : URA M) (H : Heap 𝓤) (A : Atoms 𝓤) (W : Given
           (tyInt w64, l9) ∷ (tyPtr, l10) ∷ []
 
       -- the invariant: the whole context where a turn begins
-      abbrev At : Turn ys on → List (Item 𝓤)
+      abbrev At : Turn ys wanted → List (Item 𝓤)
       At x = ‵ (froom tyPtr l10 0) ∷ ‵ (fdies tyPtr l10) ∷ ‵ (froom (tyInt w64) l9 0) ∷ ‵ (fdies (tyInt w64) l9)
           ∷ ‵ (froom L-Seat.mir l8 0) ∷ ‵ (fdies L-Seat.mir l8) ∷ ‵ (froom tyPtr l7 0) ∷ ‵ (fdies tyPtr l7)
           ∷ ‵ (froom L-Seat.mir l6 0) ∷ ‵ (fdies L-Seat.mir l6) ∷ ‵ (froom tyBool l5 0) ∷ ‵ (fdies tyBool l5)
           ∷ ‵ (froom (tyInt w64) l4 0) ∷ ‵ (fdies (tyInt w64) l4) ∷ ‵ (fat fullShare (tyInt w64) l3 0 (vint w64 (x .i))) ∷ ‵ (fdies (tyInt w64) l3)
-          ∷ ‵ (fat fullShare tyBool l2 0 (vbool on)) ∷ ‵ (fdies tyBool l2) ∷ ‵ (fat fullShare SeatsTy l1 0 sv) ∷ ‵ (fdies SeatsTy l1)
+          ∷ ‵ (fat fullShare tyBool l2 0 (vbool wanted)) ∷ ‵ (fdies tyBool l2) ∷ ‵ (fat fullShare SeatsTy l1 0 sv) ∷ ‵ (fdies SeatsTy l1)
           ∷ ‵ (froom tyUnit l0 0) ∷ ‵ (fdies tyUnit l0) ∷ Had (x .zs) ([])
 
       -- a turn's postcondition: it ends nearer to the end, or the loop is left and the rest of the body runs
-      abbrev Turned : Turn ys on → Out → SProp 𝓤
+      abbrev Turned : Turn ys wanted → Out → SProp 𝓤
       Turned x = afterTurn 𝓤 H (Below 𝓤 H A Nearer At x) (afterBlock 𝓤 H (afterSeq 𝓤 H (Wp 𝓤 H C Λ En Mir.t-3 (atReturn 𝓤 H En Post)) (atReturn 𝓤 H En Post)))
 
-      more : (x : Turn ys on) → x .i < length ys → x .i < length (x .zs) → Sq W (At x) (runs C Λ En Mir.turn-1 (anyQ (Turned x)))
+      more : (x : Turn ys wanted) → x .i < length ys → x .i < length (x .zs) → Sq W (At x) (runs C Λ En Mir.turn-1 (anyQ (Turned x)))
       unfolding afterTurn
       more x l lz =
           assigns ! (of-opd ! (load ! (from ! (fld ! refl (stop !))) (look-in ! 18 (sub ! 1 refl (whole !))))) (from ! (stop !)) (init ! 12 refl
@@ -151,13 +151,13 @@ module _ {M : Type 1} (𝓤 : URA M) (H : Heap 𝓤) (A : Atoms 𝓤) (W : Given
           move ! (23 ∷ 24 ∷ 22 ∷ []) $ opens-slice ! tt R-Seat (x .zs) b o $ elem-out ! R-Seat (Is R-Seat) (shows 𝓤 H A R-Seat) (λ d. L-Seat.lowered d ∷ [])
           (L-Seat.lowers .val-is) fullShare (x .zs) (x .i) cleared b o lz (λ iss. assigns ! (of-opd ! (load ! (from ! (hop ! (look ! 12 refl) (stop !)))
           (look-raw ! 0 refl))) (from ! (stop !)) (init ! 10 refl (LL.lawful T-Seat.the-type L-Seat.the-laws 𝓤 H A W .typed elem _ iss .0)) $
-          move ! (1 ∷ []) $ drop ! $ use0 W (raw (Stp 𝓤 H A mem run .pre (to-stp elem (x .i)))) (goes-stp elem (x .i) g-on iss gi) $
+          move ! (1 ∷ []) $ drop ! $ use0 W (raw (Stp 𝓤 H A mem run .pre (to-stp elem (x .i)))) (goes-stp elem (x .i) g-wanted iss gi) $
           calls-at ! (fmOf 𝓤 H (W .laws) 𝓣) (Stp 𝓤 H A mem run) known-g (to-stp elem (x .i)) (and-then ! (load ! (from ! (stop !)) (look ! 22 refl))
           (and-then ! (load ! (from ! (stop !)) (look ! 10 refl)) (no-more !))) (λ v. use1 W (later (some (λ (r : Seat). ((‵ ftrue) ⊛ ‵ (R-Seat .own r (v ∷
           []))) ⊛ raw (ensured 𝓤 H A g.ended (g.clauses 𝓤 H A mem run) tt (stp-args elem (x .i)) tt r)))) (id⊢ 𝓤 _) $ await ! tt $ pick ! (λ r. split ! $
           move ! (1 ∷ []) $ use1 W (some (λ (ws : Lasts g.ended tt (stp-args elem (x .i))). ‵ (lasts g.ended tt (stp-args elem (x .i)) ws) ⊛ raw (fact 𝓤 (r
-          ≡ cond on cleared elem)))) (id⊢ 𝓤 _) $ pick ! (λ ws. split ! $ move ! (1 ∷ []) $ heard ! (r ≡ cond on cleared elem) (λ e. fsplit ! $ drop ! $
-          fsplit ! $ drop ! $ drop ! $ split ! $ drop ! $ peeks ! R-Seat (Is R-Seat) (shows 𝓤 H A R-Seat) r (v ∷ []) (λ isr. drop ! $
+          ≡ cond wanted cleared elem)))) (id⊢ 𝓤 _) $ pick ! (λ ws. split ! $ move ! (1 ∷ []) $ heard ! (r ≡ cond wanted cleared elem) (λ e. fsplit ! $
+          drop ! $ fsplit ! $ drop ! $ drop ! $ split ! $ drop ! $ peeks ! R-Seat (Is R-Seat) (shows 𝓤 H A R-Seat) r (v ∷ []) (λ isr. drop ! $
           land ! (from ! (stop !)) (init ! 13 refl (LL.lawful T-Seat.the-type L-Seat.the-laws 𝓤 H A W .typed r _ isr .0)) $
           rewrite ! 13 (λ (u : Val). ‵ (fat fullShare L-Seat.mir l6 0 u)) (ap only (L-Seat.lowers .val-is r _ isr)) refl $
           -- the new seat is stored in its place, and the seats' borrow is closed
@@ -174,7 +174,7 @@ module _ {M : Type 1} (𝓤 : URA M) (H : Heap 𝓤) (A : Atoms 𝓤) (W : Given
           refl (tt, record { fits = le-fits (x .i + 1) (length ys) (next-le (x .i) (length ys) l) (gs .0) })) $ forget ! 15 refl $ forget ! 13 refl $
           forget ! 9 refl $ forget ! 7 refl $ forget ! 11 refl $ forget ! 5 refl $ forget ! 3 refl $ keep ! (3 ∷ 4 ∷ 5 ∷ 6 ∷ 7 ∷ 8 ∷ 9 ∷ 10 ∷ 11 ∷ 12 ∷ 13 ∷
           14 ∷ 15 ∷ 16 ∷ 17 ∷ 18 ∷ 19 ∷ 20 ∷ 21 ∷ 22 ∷ 23 ∷ 24 ∷ 2 ∷ 0 ∷ 1 ∷ []) $ again ! Nearer At x (record
-          { i = x .i + 1; le = next-le (x .i) (length ys) l; zs = set (x .zs) (x .i) r; ns = length-set (x .zs) (x .i) r ∙ x .ns; so = clear-next on (x .zs) (x .i) r lz e ∙ x .so })
+          { i = x .i + 1; le = next-le (x .i) (length ys) l; zs = set (x .zs) (x .i) r; ns = length-set (x .zs) (x .i) r ∙ x .ns; so = clear-next wanted (x .zs) (x .i) r lz e ∙ x .so })
           (nearer-less (x .i) (length ys) l)))))))
         where
           elem : Seat
@@ -183,7 +183,7 @@ module _ {M : Type 1} (𝓤 : URA M) (H : Heap 𝓤) (A : Atoms 𝓤) (W : Given
           gi : x .i < 2 ^ 64
           gi = le-fits (x .i) (length ys) (x .le) (gs .0)
 
-      ends : (x : Turn ys on) → length ys ≤ x .i → Sq W (At x) (runs C Λ En Mir.turn-1 (anyQ (Turned x)))
+      ends : (x : Turn ys wanted) → length ys ≤ x .i → Sq W (At x) (runs C Λ En Mir.turn-1 (anyQ (Turned x)))
       unfolding afterTurn
       ends x l =
           assigns ! (of-opd ! (load ! (from ! (fld ! refl (stop !))) (look-in ! 18 (sub ! 1 refl (whole !))))) (from ! (stop !)) (init ! 12 refl
@@ -194,9 +194,10 @@ module _ {M : Type 1} (𝓤 : URA M) (H : Heap 𝓤) (A : Atoms 𝓤) (W : Given
           forget ! 16 refl $ forget ! 14 refl $ forget ! 12 refl $ forget ! 10 refl $ move ! (20 ∷ 21 ∷ []) $ free1 ! $ move ! (18 ∷ 19 ∷ []) $ free1 ! $
           move ! (16 ∷ 17 ∷ []) $ free1 ! $ move ! (14 ∷ 15 ∷ []) $ free1 ! $ move ! (12 ∷ 13 ∷ []) $ free1 ! $ move ! (10 ∷ 11 ∷ []) $ free1 ! $
           move ! (8 ∷ 9 ∷ []) $ free1 ! $ move ! (6 ∷ 7 ∷ []) $ free1 ! $ move ! (4 ∷ 5 ∷ []) $ free1 ! $ move ! (2 ∷ 3 ∷ []) $ free1 ! $ free1 ! $
-          free0 ! $ keep ! (0 ∷ 1 ∷ 2 ∷ []) $ by ! (exits x gs g-on (clear-end on ys (x .zs) (x .i) (subst (λ (m : ℕ). m ≤ x .i) (sym (x .ns)) l) (x .so)))
+          free0 ! $ keep ! (0 ∷ 1 ∷ 2 ∷ []) $ by ! (exits x gs g-wanted (clear-end wanted ys (x .zs) (x .i) (subst (λ (m : ℕ). m ≤ x .i) (sym (x .ns)) l) (x
+          .so)))
 
-      turns : (x : Turn ys on) → Sq W (At x) (runs C Λ En Mir.turn-1 (anyQ (Turned x)))
+      turns : (x : Turn ys wanted) → Sq W (At x) (runs C Λ En Mir.turn-1 (anyQ (Turned x)))
       turns x = elim (by-test (ltb (x .i) (length ys))) [
         | inl t ↦ more x (ltb-true (x .i) (length ys) t) (subst (λ (m : ℕ). x .i < m) (sym (x .ns)) (ltb-true (x
             .i) (length ys) t))
@@ -204,13 +205,13 @@ module _ {M : Type 1} (𝓤 : URA M) (H : Heap 𝓤) (A : Atoms 𝓤) (W : Given
       ]
 
       -- the loop, and what follows it
-      loop-on : (x : Turn ys on) → Sq W (At x) (runs C Λ En Mir.t-2 (atRet En Post))
+      loop-on : (x : Turn ys wanted) → Sq W (At x) (runs C Λ En Mir.t-2 (atRet En Post))
       loop-on x = first ! $ blocks ! $ loops ! 𝓣 Nearer Nearer-wf At turns x
 
-    walk : ent 𝓤 (onEntry 𝓤 H A f.signature (κ0, tt) (q0, tt) xs at) (WpFn 𝓤 H C Λ code.function (sv ∷ vbool on ∷ []) Post)
+    walk : ent 𝓤 (onEntry 𝓤 H A f.signature (κ0, tt) (q0, tt) xs at) (WpFn 𝓤 H C Λ code.function (sv ∷ vbool wanted ∷ []) Post)
     walk =
-        qed W ((‵ (flft κ0 q0) ⊛ ‵ ftrue) ∷ ‵ (owns (MutSlice (named 0) κ0 R-Seat ∷ Boolean ∷ []) xs at) ∷ []) ∵ enter ! C Λ code.function (sv ∷ vbool on ∷ [])
-        _ $
+        qed W ((‵ (flft κ0 q0) ⊛ ‵ ftrue) ∷ ‵ (owns (MutSlice (named 0) κ0 R-Seat ∷ Boolean ∷ []) xs at) ∷ []) ∵ enter ! C Λ code.function (sv ∷ vbool wanted ∷
+        []) _ $
         alloc1 ! (λ l0. alloc1 ! (λ l1. alloc1 ! (λ l2. alloc1 ! (λ l3. alloc1 ! (λ l4. alloc1 ! (λ l5. alloc1 ! (λ l6. alloc1 ! (λ l7. alloc1 ! (λ l8. alloc1 !
         (λ l9. alloc1 ! (λ l10. alloc0 ! $ params1 ! $ pass1 ! (init ! 18 refl (tt, (tt, (record { fits = gs .0 }, tt)))) $
         pass1 ! (init ! 16 refl (tt, tt)) $ pass0 ! $ assigns ! (of-opd ! (lit ! tt)) (from ! (stop !)) (init ! 14 refl (tt, record { fits = lit< tt })) $

@@ -17,6 +17,7 @@ use Rattle.yard_scans.proofs.Rules.{elem-back, looks-slice, shuts-slice
 use Rattle.yard_scans.proofs.Passes.{freeFrom, free-all, free-next, free-end}
 use Rattle.yard_tables.specs.Seating.{lowestFree}
 use mathlib.Core.Bool.{cond, _||_}
+use Rattle.yard_tables.specs.Seats.{on}
 use Rattle.yard_tables.specs.declared.Seat.{Seat}
 use Rattle.yard_scans.proofs.free_step.Symbol.{name as #yard-scans·free-step}
 use Rattle.yard_scans.proofs.lowest_free.Key.{name as #yard-scans·lowest-free}
@@ -151,11 +152,11 @@ module _ {M : Type 1} (𝓤 : URA M) (H : Heap 𝓤) (A : Atoms 𝓤) (W : Given
           (no-more !)))) (λ v. use1 W (later (some (λ (r : ℕ). ((‵ ftrue) ⊛ ‵ (usize .own r (v ∷ []))) ⊛ raw (ensured 𝓤 H A g.ended (g.clauses 𝓤 H A mem
           run) tt (stp-args (x .acc) elem (x .i)) tt r)))) (id⊢ 𝓤 _) $ await ! tt $ pick ! (λ r. split ! $ move ! (1 ∷ []) $
           use1 W (some (λ (ws : Lasts g.ended tt (stp-args (x .acc) elem (x .i))). ‵ (lasts g.ended tt (stp-args (x .acc) elem (x .i)) ws) ⊛ raw (fact 𝓤 (r
-          ≡ cond (ltb (x .acc) (x .i) || elem .taken) (x .acc) (x .i))))) (id⊢ 𝓤 _) $ pick ! (λ ws. split ! $ move ! (1 ∷ []) $
-          heard ! (r ≡ cond (ltb (x .acc) (x .i) || elem .taken) (x .acc) (x .i)) (λ e. fsplit ! $ drop ! $ fsplit ! $ drop ! $ fsplit ! $ drop ! $ drop ! $
-          split ! $ drop ! $ peeks ! usize (Is usize) (shows 𝓤 H A usize) r (v ∷ []) (λ isr. drop ! $ land ! (from ! (stop !)) (store ! 12 refl (uint-lawful
-          𝓤 H A W w64 .typed r _ isr .0)) $ rewrite ! 12 (λ (u : Val). ‵ (fat fullShare (tyInt w64) l2 0 u)) (ap only (isr .0)) refl $
-          assigns-last ! (bin ! (load ! (from ! (stop !)) (look ! 10 refl)) (lit ! tt) (record
+          ≡ cond (ltb (x .acc) (x .i) || on (elem .taken)) (x .acc) (x .i))))) (id⊢ 𝓤 _) $ pick ! (λ ws. split ! $ move ! (1 ∷ []) $
+          heard ! (r ≡ cond (ltb (x .acc) (x .i) || on (elem .taken)) (x .acc) (x .i)) (λ e. fsplit ! $ drop ! $ fsplit ! $ drop ! $ fsplit ! $ drop ! $
+          drop ! $ split ! $ drop ! $ peeks ! usize (Is usize) (shows 𝓤 H A usize) r (v ∷ []) (λ isr. drop ! $
+          land ! (from ! (stop !)) (store ! 12 refl (uint-lawful 𝓤 H A W w64 .typed r _ isr .0)) $ rewrite ! 12 (λ (u : Val). ‵ (fat fullShare (tyInt w64)
+          l2 0 u)) (ap only (isr .0)) refl $ assigns-last ! (bin ! (load ! (from ! (stop !)) (look ! 10 refl)) (lit ! tt) (record
           { fits = le-fits (x .i + 1) (length ys) (next-le (x .i) (length ys) l) (gs .0) })) (from ! (stop !)) (store ! 10 refl
           (tt, record { fits = le-fits (x .i + 1) (length ys) (next-le (x .i) (length ys) l) (gs .0) })) $ forget ! 8 refl $ forget ! 6 refl $
           forget ! 4 refl $ forget ! 2 refl $ keep ! (2 ∷ 3 ∷ 4 ∷ 5 ∷ 6 ∷ 7 ∷ 8 ∷ 9 ∷ 10 ∷ 11 ∷ 12 ∷ 13 ∷ 14 ∷ 15 ∷ 16 ∷ 17 ∷ 0 ∷ 18 ∷ 19 ∷ 1 ∷ []) $

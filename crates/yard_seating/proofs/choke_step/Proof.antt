@@ -16,4 +16,4 @@ returns : tie.Need-returns
 returns c = (mark-way (c .before .before .before .before .before .before .before .before .before .args .h) (c .before .before .before .before .before .before .before .before .before .args .s) (c .before .before .before .before .before .before .before .before .before .args .i) (c .before .before .before .before .before .before .before .before .before .args .n) (c .before .before .before .before .before .before .before .before .before .args .rows .now) (c .before .before .before .before .before .before .before .before .before .args .holders .now) _ (c .before .before .before .before .before .fault-at .ensures) (weChoke (c .before .before .before .before .before .before .before .before .before .args .on)) _ (length (c .before .before .before .before .before .before .before .before .before .args .out .now)) _ refl (c .before .before .mark .ensures .0), c .before .before .mark .ensures .1 ∙ ap (λ (b : List ℕ). sets (c .before .before .before .before .before .before .before .before .before .args .out .now) 0 (ifTaken (paper (c .before .before .mark .result .answer)) b)) (choke-frame (c .before .before .before .before .before .before .before .before .before .args .on) _ (c .before .before .before .before .choke-id .ensures .0)))
 
 pub choke-step-spec : {M : Type 1} → statement M
-choke-step-spec = tie.close (tie.spec (λ c κs. search needs) (λ c κs. search needs) (λ c κs. search needs) (λ c. search needs) returns)
+choke-step-spec = tie.close (tie.spec (λ c. search needs) (λ c κs. search needs) (λ c κs. search needs) (λ c κs. search needs) (λ c. search needs) returns)

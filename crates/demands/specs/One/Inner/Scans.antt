@@ -39,11 +39,11 @@ pub lowest-free-determined : (seats : Lent (List Seat)) → Determined (lowest-f
 lowest-free-determined seats r r′ e f = e ∙ sym f
 
 -- yard_scans::clear_seats
-abbrev pub clear-seats-ensures : (on : Bool) → Unit {0} → Lent (List Seat) → Type 0
-clear-seats-ensures on r seats = now (seats .exit) ≡ cond on (replicate (length (now (seats .entry))) cleared) (now (seats .entry))
+abbrev pub clear-seats-ensures : (wanted : Bool) → Unit {0} → Lent (List Seat) → Type 0
+clear-seats-ensures wanted r seats = now (seats .exit) ≡ cond wanted (replicate (length (now (seats .entry))) cleared) (now (seats .entry))
 
-pub clear-seats-determined : (on : Bool) → Determined1 (clear-seats-ensures on)
-clear-seats-determined on seats r r′ seats₁ seats₂ e f = (refl, e ∙ sym f)
+pub clear-seats-determined : (wanted : Bool) → Determined1 (clear-seats-ensures wanted)
+clear-seats-determined wanted seats r r′ seats₁ seats₂ e f = (refl, e ∙ sym f)
 
 -- yard_scans::list_missing
 abbrev pub list-missing-ensures : (seats : Lent (List Seat)) (asked : Asked) → Page → Lent (List ℕ) → Type 0

@@ -9,7 +9,7 @@ use Rattle.yard_tables.specs.Counting.{bit}
 use Rattle.yard_tables.specs.Frames.{blockFits, requested}
 use Rattle.yard_tables.specs.Replies.{stepped, refusing, blockStep, headAtZero}
 use Rattle.yard_tables.specs.Rows.{digit}
-use Rattle.yard_tables.specs.Seats.{cleared, arrived, spoken, theyChoke, theyWant}
+use Rattle.yard_tables.specs.Seats.{on, cleared, arrived, spoken, theyChoke, theyWant}
 use Rattle.yard_tables.specs.Tables.{paper, sizesFit}
 use Rattle.yard_tables.specs.declared.Answer.{Answer}
 use Rattle.yard_tables.specs.declared.Head.{Head}
@@ -143,6 +143,13 @@ sizes-fit-ensures h n rows holders r = r ≡ sizesFit h n rows holders
 
 pub sizes-fit-determined : (h : Head) (n rows holders : ℕ) → Determined (sizes-fit-ensures h n rows holders)
 sizes-fit-determined h n rows holders r r′ e f = e ∙ sym f
+
+-- yard_tables::on
+abbrev pub on-ensures : (flag : ℕ) → Bool → Type 0
+on-ensures flag r = r ≡ on flag
+
+pub on-determined : (flag : ℕ) → Determined (on-ensures flag)
+on-determined flag r r′ e f = e ∙ sym f
 
 -- yard_tables::held
 abbrev pub held-ensures : (s : Seat) → ℕ → Type 0
