@@ -2,4 +2,5 @@
 pub mod Sound
 pub mod Complete
 pub mod Turns
+pub mod Leaves
 pub mod Exact

@@ -1,15 +1,16 @@
 -- What the value at a place p of a text s, and the turns of a list and of a dictionary, come to as the code goes through them. Assumes nothing.
 use mathlib.Core.Path.{_≡_, refl, sym, ap, _∙_, subst}
 use mathlib.Core.Bool.{Bool, true, false, cond}
-use mathlib.Core.List.{List, _∷_}
+use mathlib.Core.List.{List, [], _∷_}
 use Prim.Native.Nat.{ℕ, zero, suc, _+_, _-_, _<_, _≤_}
 use native.Mathlib.Omega.{arith}
-use lib.Dec.{eqb}
+use lib.Dec.{ltb, eqb}
 use lib.IntN.{ℤ}
 use lib.ListN.{length, getD, take, drop, length-append, length-drop, drop-of-length-le}
 use lib.Seq.{drop-drop, drop-append-seam}
 use borrow.Author.Tests.{lt-ltb, le-ltb, ne-eqb, eqb-true, eqb-false}
 use Rattle.refusal.specs.Numbers.{cut, byte, order, integer, deep, many}
+use Rattle.refusal.specs.Limits.{mostValues}
 use Rattle.refusal.specs.declared.Refusal.{Refusal}
 use Rattle.refusal.proofs.Cases.{no-way}
 use Rattle.bencode_scalar.specs.Written.{decimal, writtenString, inRange}
@@ -333,33 +334,52 @@ module _ (s : List ℕ) (d p₀ n₀ p n : ℕ) (before : Key) where
       dict-more c y = dmore-with (t .left) (t .enough) (t .same) c y
 
 -- a key at p, by the string that the code found
-module _ (s : List ℕ) (before : Prev) (p n : ℕ) where
-  pub key-out : length s ≤ p → bad cut (length s) ≡ keyOf (length s) before (drop p s) p n
+module _ (s : List ℕ) (before : Prev) (p n : ℕ) (l : p < length s) where
+  pub key-wrong : isDigit (getD s p 0) ≡ false → bad byte p ≡ keyOf (length s) before (drop p s) p n
   unfolding keyOf
-  key-out h = rw (drop-of-length-le s h)
+  key-wrong d = rw (at-head s p l, d)
 
-  module _ (l : p < length s) where
-    pub key-wrong : isDigit (getD s p 0) ≡ false → bad byte p ≡ keyOf (length s) before (drop p s) p n
+  module _ (d : isDigit (getD s p 0) ≡ true) where
+    pub key-many : 16384 ≤ n → bad many p ≡ keyOf (length s) before (drop p s) p n
     unfolding keyOf
-    key-wrong d = rw (at-head s p l, d)
+    key-many h = rw (at-head s p l, d, le-ltb n 16384 h)
 
-    module _ (d : isDigit (getD s p 0) ≡ true) where
-      pub key-many : 16384 ≤ n → bad many p ≡ keyOf (length s) before (drop p s) p n
-      unfolding keyOf
-      key-many h = rw (at-head s p l, d, le-ltb n 16384 h)
+    key-here : n < 16384 → keyOf (length s) before (drop p s) p n ≡ ordered before p (stringAt (length s) (drop p s) p (n + 1))
+    unfolding keyOf
+    key-here h = rw (at-head s p l, d, lt-ltb n 16384 h)
 
-      key-here : n < 16384 → keyOf (length s) before (drop p s) p n ≡ ordered before p (stringAt (length s) (drop p s) p (n + 1))
-      unfolding keyOf
-      key-here h = rw (at-head s p l, d, lt-ltb n 16384 h)
+    pub key-broken : n < 16384 → (r : Refusal) → textOf s (n + 1) (Broken r) ≡ stringAt (length s) (drop p s) p (n + 1) → keyIs s n (Not r) ≡ keyOf (length s) before (drop p s) p n
+    key-broken h r e = sym (key-here h ∙ ap (ordered before p) (sym e))
 
-      pub key-broken : n < 16384 → (r : Refusal) → textOf s (n + 1) (Broken r) ≡ stringAt (length s) (drop p s) p (n + 1) → keyIs s n (Not r) ≡ keyOf (length s) before (drop p s) p n
-      key-broken h r e = sym (key-here h ∙ ap (ordered before p) (sym e))
+    pub key-found : n < 16384 → (a m : ℕ) → textOf s (n + 1) (Whole a m) ≡ stringAt (length s) (drop p s) p (n + 1) → follows before (take m (drop a s)) ≡ true → keyIs s n (At a m) ≡ keyOf (length s) before (drop p s) p n
+    key-found h a m e o = sym (key-here h ∙ ap (ordered before p) (sym e) ∙ rw o)
 
-      pub key-order : n < 16384 → (a m : ℕ) → textOf s (n + 1) (Whole a m) ≡ stringAt (length s) (drop p s) p (n + 1) → follows before (take m (drop a s)) ≡ false → bad order p ≡ keyOf (length s) before (drop p s) p n
-      key-order h a m e o = sym (key-here h ∙ ap (ordered before p) (sym e) ∙ rw o)
+-- a key is one that could be the first, and greater than the one before
+key-ordered : (e : ℕ) (before : Prev) (l : List ℕ) (p n : ℕ) → ordered before p (keyOf e start l p n) ≡ keyOf e before l p n
+unfolding keyOf
+key-ordered e before [] p n = refl
+key-ordered e before (b ∷ t) p n = go (isDigit b) (ltb n mostValues) (stringOf e b t p (n + 1))
+  where
+    go : (x y : Bool) (g : Got (List ℕ))
+        → ordered before p (cond x (cond y (ordered start p g) (bad many p)) (bad byte p)) ≡ cond x (cond y (ordered before p g) (bad many p)) (bad byte p)
+    go false y g = refl
+    go true false g = refl
+    go true true (got k r q m) = refl
+    go true true (bad r q) = refl
 
-      pub key-found : n < 16384 → (a m : ℕ) → textOf s (n + 1) (Whole a m) ≡ stringAt (length s) (drop p s) p (n + 1) → follows before (take m (drop a s)) ≡ true → keyIs s n (At a m) ≡ keyOf (length s) before (drop p s) p n
-      key-found h a m e o = sym (key-here h ∙ ap (ordered before p) (sym e) ∙ rw o)
+module _ (s : List ℕ) (before : Prev) (p n : ℕ) where
+  ordered-by : (k : Found) → keyIs s n k ≡ keyOf (length s) start (drop p s) p n → ordered before p (keyIs s n k) ≡ keyOf (length s) before (drop p s) p n
+  ordered-by k e = ap (ordered before p) e ∙ key-ordered (length s) before (drop p s) p n
+
+  pub key-refused : (r : Refusal) → keyIs s n (Not r) ≡ keyOf (length s) start (drop p s) p n → keyIs s n (Not r) ≡ keyOf (length s) before (drop p s) p n
+  key-refused r e = ordered-by (Not r) e
+
+  module _ (a m : ℕ) (e : keyIs s n (At a m) ≡ keyOf (length s) start (drop p s) p n) where
+    pub key-follows : follows before (take m (drop a s)) ≡ true → keyIs s n (At a m) ≡ keyOf (length s) before (drop p s) p n
+    key-follows o = sym (rw o) ∙ ordered-by (At a m) e
+
+    pub key-order : follows before (take m (drop a s)) ≡ false → bad order p ≡ keyOf (length s) before (drop p s) p n
+    key-order o = sym (rw o) ∙ ordered-by (At a m) e
 
 -- an integer that the code read, as value number n
 module _ (p n : ℕ) where

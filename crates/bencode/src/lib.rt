@@ -1,6 +1,8 @@
 // Bencode read by BEP 3 and document 01: whether a text is the encoding of a value that keeps the limits.
+mod short;
+
 ghost use mathlib.Core.Path.{_≡_};
-ghost use Prim.Native.Nat.{suc, _+_, _≤_};
+ghost use Prim.Native.Nat.{suc, _+_, _<_, _≤_};
 ghost use lib.ListN.{length, take, drop};
 ghost use Rattle.bencode.specs.Value.{start, follows};
 ghost use Rattle.bencode.specs.Decode.{kindOf, begun, ranged, keyOf, itemsOf, entriesOf, valueFrom};
@@ -96,6 +98,14 @@ fn list(text: &[u8], c: Cursor, levels: usize) -> Step
         if text[at] == b'e' {
             return passed(at + 1, count);
         }
+        if short::plain(text, at) {
+            let end = short::leaf(text, at, count);
+            if end != 0 {
+                at = end;
+                count += 1;
+                continue;
+            }
+        }
         match value(text, Cursor { at, count }, levels) {
             Step::Past(next) => {
                 at = next.at;
@@ -124,19 +134,25 @@ fn dictionary(text: &[u8], c: Cursor, levels: usize) -> Step
         }
         match next_key(text, at, count, before) {
             Found::At(from, size) => {
-                let under = Cursor {
-                    at: from + size,
-                    count: count + 1,
+                before = Key {
+                    some: true,
+                    from,
+                    size,
                 };
-                match value(text, under, levels) {
+                at = from + size;
+                count += 1;
+                if short::plain(text, at) {
+                    let end = short::leaf(text, at, count);
+                    if end != 0 {
+                        at = end;
+                        count += 1;
+                        continue;
+                    }
+                }
+                match value(text, Cursor { at, count }, levels) {
                     Step::Past(next) => {
                         at = next.at;
                         count = next.count;
-                        before = Key {
-                            some: true,
-                            from,
-                            size,
-                        };
                     }
                     Step::Refused(r) => return Step::Refused(r),
                 }
@@ -162,23 +178,35 @@ enum Found {
 
 // The key that begins at `at`, to come after the one before.
 fn next_key(text: &[u8], at: usize, count: usize, before: Key) -> Found
-    requires { ⌜ before .from + before .size ≤ length (now text) ⌝ }
+    requires { ⌜ (at < length (now text)) × (before .from + before .size ≤ length (now text)) ⌝ }
     ensures { λ r. ⌜ keyIs (now (text .entry)) count r ≡ keyOf (length (now (text .entry))) (prevOf (now (text .entry)) before) (drop at (now (text .entry))) at count ⌝ }
 {
-    if text.len() <= at {
-        return not(number::CUT, text.len());
+    match key_at(text, at, count) {
+        Found::At(from, size) => {
+            if may_follow(text, before, from, size) {
+                return Found::At(from, size);
+            }
+            not(number::ORDER, at)
+        }
+        Found::Refused(r) => Found::Refused(r),
     }
+}
+
+// The key that begins at `at`, as the first one may.
+fn key_at(text: &[u8], at: usize, count: usize) -> Found
+    requires { ⌜ at < length (now text) ⌝ }
+    ensures { λ r. ⌜ keyIs (now (text .entry)) count r ≡ keyOf (length (now (text .entry))) start (drop at (now (text .entry))) at count ⌝ }
+{
     if bencode_scalar::digit(text[at]) {
         if limit::VALUES <= count {
             return not(number::MANY, at);
         }
+        let size = short::brief(text, at);
+        if size < 100 {
+            return Found::At(short::first(at, size), size);
+        }
         match bencode_scalar::string(text, at) {
-            Text::Whole(from, size) => {
-                if may_follow(text, before, from, size) {
-                    return Found::At(from, size);
-                }
-                return not(number::ORDER, at);
-            }
+            Text::Whole(from, size) => return Found::At(from, size),
             Text::Refused(r) => return Found::Refused(r),
         }
     }

@@ -23,6 +23,8 @@ use Rattle.bencode.proofs.integer.Reads as integer-reads
 use Rattle.bencode.proofs.next_key.Reads as next-key-reads
 use Rattle.bencode.proofs.passed.Reads as passed-reads
 use Rattle.bencode.proofs.same.Reads as same-reads
+use Rattle.bencode.proofs.short.leaf.Reads as leaf-reads
+use Rattle.bencode.proofs.short.plain.Reads as plain-reads
 use Rattle.bencode.proofs.string.Reads as string-reads
 use Rattle.bencode_scalar.proofs.digit.Reads as digit-reads
 use Rattle.bencode.proofs.+dictionary+list+value.{statement}
@@ -58,10 +60,10 @@ abbrev value-below : ℕ → In 1 value-kinds.ps
 value-below t = and 1 value-kinds.ps (falls 1 value-kinds.ps _<_ μ-value t) value.Pre
 
 abbrev dictionary-calls : ℕ → dictionary-lts.Claims
-dictionary-calls t = (passed-reads.Asked, passed-reads.Learnt, next-key-reads.Asked, next-key-reads.Learnt, value-below t, value.Post, bad-reads.Asked, bad-reads.Learnt)
+dictionary-calls t = (passed-reads.Asked, passed-reads.Learnt, next-key-reads.Asked, next-key-reads.Learnt, plain-reads.Asked, plain-reads.Learnt, leaf-reads.Asked, leaf-reads.Learnt, value-below t, value.Post, bad-reads.Asked, bad-reads.Learnt)
 
 abbrev list-calls : ℕ → list-lts.Claims
-list-calls t = (passed-reads.Asked, passed-reads.Learnt, value-below t, value.Post, bad-reads.Asked, bad-reads.Learnt)
+list-calls t = (passed-reads.Asked, passed-reads.Learnt, plain-reads.Asked, plain-reads.Learnt, leaf-reads.Asked, leaf-reads.Learnt, value-below t, value.Post, bad-reads.Asked, bad-reads.Learnt)
 
 abbrev value-calls : ℕ → value-lts.Claims
 value-calls t = (bad-reads.Asked, bad-reads.Learnt, begins-reads.Asked, begins-reads.Learnt, integer-reads.Asked, integer-reads.Learnt, digit-reads.Asked, digit-reads.Learnt, string-reads.Asked, string-reads.Learnt, list-below t, list.Post, same-reads.Asked, same-reads.Learnt, dictionary-below t, dictionary.Post)
@@ -88,16 +90,31 @@ dictionary-returns : (t : ℕ) → dictionary-lts.Need-returns (dictionary-calls
 dictionary-returns t c = c .passed .ensures ∙ dict-close (c .before .before .before .before .before .before .args .text .now) (c .before .before .before .before .before .before .args .levels) (c .before .before .before .before .before .before .args .c .at) (c .before .before .before .before .before .before .args .c .count) (c .before .before .before .before .loop .at) (c .before .before .before .before .loop .count) (c .before .before .before .before .loop .before) (c .before .before .before .before .loop .inv) (omega arith) (omega arith)
 
 dictionary-next-key-requires : (t : ℕ) → dictionary-lts.Need-next-key-requires (dictionary-calls t) (dictionary-at t) dictionary.Post dictionary-Inv-loop dictionary-μ-loop
-dictionary-next-key-requires t c κs = c .before .before .before .loop .inv .within
+dictionary-next-key-requires t c κs = (omega arith, c .before .before .before .loop .inv .within)
 
 dictionary-enum-known-from : (t : ℕ) → dictionary-lts.Need-enum-known-from (dictionary-calls t) (dictionary-at t) dictionary.Post dictionary-Inv-loop dictionary-μ-loop
 dictionary-enum-known-from t c = search needs
 
-dictionary-add-t19 : (t : ℕ) → dictionary-lts.Need-add-t19 (dictionary-calls t) (dictionary-at t) dictionary.Post dictionary-Inv-loop dictionary-μ-loop
-dictionary-add-t19 t c = omega (arith, key-further (c .before .before .before .before .before .before .before .before .before .args .text .now) (prevOf (c .before .before .before .before .before .before .before .before .before .args .text .now) (c .before .before .before .before .before .before .before .loop .before)) (c .before .before .before .before .before .before .before .loop .at) (c .before .before .before .before .before .before .before .loop .count) (c .before .from .given .0 .0) (c .before .from .given .0 .1 .0) (omega arith) (ap (keyIs (c .before .before .before .before .before .before .before .before .before .args .text .now) (c .before .before .before .before .before .before .before .loop .count)) (sym (c .before .from .given .1)) ∙ c .before .before .before .next-key .ensures))
+dictionary-add-at : (t : ℕ) → dictionary-lts.Need-add-at (dictionary-calls t) (dictionary-at t) dictionary.Post dictionary-Inv-loop dictionary-μ-loop
+dictionary-add-at t c = omega (arith, key-further (c .before .before .before .before .before .before .before .before .before .args .text .now) (prevOf (c .before .before .before .before .before .before .before .before .before .args .text .now) (c .before .before .before .before .before .before .before .loop .before)) (c .before .before .before .before .before .before .before .loop .at) (c .before .before .before .before .before .before .before .loop .count) (c .before .from .given .0 .0) (c .before .from .given .0 .1 .0) (omega arith) (ap (keyIs (c .before .before .before .before .before .before .before .before .before .args .text .now) (c .before .before .before .before .before .before .before .loop .count)) (sym (c .before .from .given .1)) ∙ c .before .before .before .next-key .ensures))
 
-dictionary-add-t20 : (t : ℕ) → dictionary-lts.Need-add-t20 (dictionary-calls t) (dictionary-at t) dictionary.Post dictionary-Inv-loop dictionary-μ-loop
-dictionary-add-t20 t c = omega (arith, key-further (c .before .before .before .before .before .before .before .before .before .args .text .now) (prevOf (c .before .before .before .before .before .before .before .before .before .args .text .now) (c .before .before .before .before .before .before .before .loop .before)) (c .before .before .before .before .before .before .before .loop .at) (c .before .before .before .before .before .before .before .loop .count) (c .before .from .given .0 .0) (c .before .from .given .0 .1 .0) (omega arith) (ap (keyIs (c .before .before .before .before .before .before .before .before .before .args .text .now) (c .before .before .before .before .before .before .before .loop .count)) (sym (c .before .from .given .1)) ∙ c .before .before .before .next-key .ensures))
+dictionary-add-count : (t : ℕ) → dictionary-lts.Need-add-count (dictionary-calls t) (dictionary-at t) dictionary.Post dictionary-Inv-loop dictionary-μ-loop
+dictionary-add-count t c = omega (arith, key-further (c .before .before .before .before .before .before .before .before .before .args .text .now) (prevOf (c .before .before .before .before .before .before .before .before .before .args .text .now) (c .before .before .before .before .before .before .before .loop .before)) (c .before .before .before .before .before .before .before .loop .at) (c .before .before .before .before .before .before .before .loop .count) (c .before .from .given .0 .0) (c .before .from .given .0 .1 .0) (omega arith) (ap (keyIs (c .before .before .before .before .before .before .before .before .before .args .text .now) (c .before .before .before .before .before .before .before .loop .count)) (sym (c .before .from .given .1)) ∙ c .before .before .before .next-key .ensures))
+
+dictionary-plain-requires : (t : ℕ) → dictionary-lts.Need-plain-requires (dictionary-calls t) (dictionary-at t) dictionary.Post dictionary-Inv-loop dictionary-μ-loop
+dictionary-plain-requires t c κs = search needs
+
+dictionary-leaf-requires : (t : ℕ) → dictionary-lts.Need-leaf-requires (dictionary-calls t) (dictionary-at t) dictionary.Post dictionary-Inv-loop dictionary-μ-loop
+dictionary-leaf-requires t c κs = c .before .plain .ensures (c .if2 .taken)
+
+dictionary-add-count-2 : (t : ℕ) → dictionary-lts.Need-add-count-2 (dictionary-calls t) (dictionary-at t) dictionary.Post dictionary-Inv-loop dictionary-μ-loop
+dictionary-add-count-2 t c = omega (arith, c .before .leaf .ensures (c .if3 .taken) .0)
+
+dictionary-loop-less : (t : ℕ) → dictionary-lts.Need-loop-less (dictionary-calls t) (dictionary-at t) dictionary.Post dictionary-Inv-loop dictionary-μ-loop
+dictionary-loop-less t c = omega (arith, dict-more (c .before .before .before .before .before .before .before .before .before .before .before .before .before .args .text .now) (c .before .before .before .before .before .before .before .before .before .before .before .before .before .args .levels) (c .before .before .before .before .before .before .before .before .before .before .before .before .before .args .c .at) (c .before .before .before .before .before .before .before .before .before .before .before .before .before .args .c .count) (c .before .before .before .before .before .before .before .before .before .before .before .loop .at) (c .before .before .before .before .before .before .before .before .before .before .before .loop .count) (c .before .before .before .before .before .before .before .before .before .before .before .loop .before) (c .before .before .before .before .before .before .before .before .before .before .before .loop .inv) (omega arith) (c .before .before .before .before .before .before .before .before .if1 .left) (c .before .before .before .before .before .from .given .0 .0) (c .before .before .before .before .before .from .given .0 .1 .0) (ap (keyIs (c .before .before .before .before .before .before .before .before .before .before .before .before .before .args .text .now) (c .before .before .before .before .before .before .before .before .before .before .before .loop .count)) (sym (c .before .before .before .before .before .from .given .1)) ∙ c .before .before .before .before .before .before .before .next-key .ensures) (record { at = c .before .leaf .result; count = c .before .before .before .before .before .before .before .before .before .before .before .loop .count + 1 + 1 }) (c .before .leaf .ensures (c .if3 .taken) .1 (c .before .before .before .before .before .before .before .before .before .before .before .before .before .args .levels)) .0)
+
+dictionary-loop-again : (t : ℕ) → dictionary-lts.Need-loop-again (dictionary-calls t) (dictionary-at t) dictionary.Post dictionary-Inv-loop dictionary-μ-loop
+dictionary-loop-again t c = dict-more (c .before .before .before .before .before .before .before .before .before .before .before .before .before .args .text .now) (c .before .before .before .before .before .before .before .before .before .before .before .before .before .args .levels) (c .before .before .before .before .before .before .before .before .before .before .before .before .before .args .c .at) (c .before .before .before .before .before .before .before .before .before .before .before .before .before .args .c .count) (c .before .before .before .before .before .before .before .before .before .before .before .loop .at) (c .before .before .before .before .before .before .before .before .before .before .before .loop .count) (c .before .before .before .before .before .before .before .before .before .before .before .loop .before) (c .before .before .before .before .before .before .before .before .before .before .before .loop .inv) (omega arith) (c .before .before .before .before .before .before .before .before .if1 .left) (c .before .before .before .before .before .from .given .0 .0) (c .before .before .before .before .before .from .given .0 .1 .0) (ap (keyIs (c .before .before .before .before .before .before .before .before .before .before .before .before .before .args .text .now) (c .before .before .before .before .before .before .before .before .before .before .before .loop .count)) (sym (c .before .before .before .before .before .from .given .1)) ∙ c .before .before .before .before .before .before .before .next-key .ensures) (record { at = c .before .leaf .result; count = c .before .before .before .before .before .before .before .before .before .before .before .loop .count + 1 + 1 }) (c .before .leaf .ensures (c .if3 .taken) .1 (c .before .before .before .before .before .before .before .before .before .before .before .before .before .args .levels)) .1
 
 dictionary-value-requires : (t : ℕ) → dictionary-lts.Need-value-requires (dictionary-calls t) (dictionary-at t) dictionary.Post dictionary-Inv-loop dictionary-μ-loop
 dictionary-value-requires t c κs = (omega arith, tt)
@@ -105,17 +122,17 @@ dictionary-value-requires t c κs = (omega arith, tt)
 dictionary-enum-known-next : (t : ℕ) → dictionary-lts.Need-enum-known-next (dictionary-calls t) (dictionary-at t) dictionary.Post dictionary-Inv-loop dictionary-μ-loop
 dictionary-enum-known-next t c = search needs
 
-dictionary-loop-less : (t : ℕ) → dictionary-lts.Need-loop-less (dictionary-calls t) (dictionary-at t) dictionary.Post dictionary-Inv-loop dictionary-μ-loop
-dictionary-loop-less t c = omega (arith, dict-more (c .before .before .before .before .before .before .before .before .before .before .before .before .before .args .text .now) (c .before .before .before .before .before .before .before .before .before .before .before .before .before .args .levels) (c .before .before .before .before .before .before .before .before .before .before .before .before .before .args .c .at) (c .before .before .before .before .before .before .before .before .before .before .before .before .before .args .c .count) (c .before .before .before .before .before .before .before .before .before .before .before .loop .at) (c .before .before .before .before .before .before .before .before .before .before .before .loop .count) (c .before .before .before .before .before .before .before .before .before .before .before .loop .before) (c .before .before .before .before .before .before .before .before .before .before .before .loop .inv) (omega arith) (c .before .before .before .before .before .before .before .before .if1 .left) (c .before .before .before .before .before .from .given .0 .0) (c .before .before .before .before .before .from .given .0 .1 .0) (ap (keyIs (c .before .before .before .before .before .before .before .before .before .before .before .before .before .args .text .now) (c .before .before .before .before .before .before .before .before .before .before .before .loop .count)) (sym (c .before .before .before .before .before .from .given .1)) ∙ c .before .before .before .before .before .before .before .next-key .ensures) (c .before .next .given .0 .0) (sym (c .before .next .given .1) ∙ c .before .before .before .value .ensures) .0)
+dictionary-loop-less-2 : (t : ℕ) → dictionary-lts.Need-loop-less-2 (dictionary-calls t) (dictionary-at t) dictionary.Post dictionary-Inv-loop dictionary-μ-loop
+dictionary-loop-less-2 t c = omega (arith, dict-more (c .before .before .before .before .before .before .before .before .before .before .before .before .before .before .before .args .text .now) (c .before .before .before .before .before .before .before .before .before .before .before .before .before .before .before .args .levels) (c .before .before .before .before .before .before .before .before .before .before .before .before .before .before .before .args .c .at) (c .before .before .before .before .before .before .before .before .before .before .before .before .before .before .before .args .c .count) (c .before .before .before .before .before .before .before .before .before .before .before .before .before .loop .at) (c .before .before .before .before .before .before .before .before .before .before .before .before .before .loop .count) (c .before .before .before .before .before .before .before .before .before .before .before .before .before .loop .before) (c .before .before .before .before .before .before .before .before .before .before .before .before .before .loop .inv) (omega arith) (c .before .before .before .before .before .before .before .before .before .before .if1 .left) (c .before .before .before .before .before .before .before .from .given .0 .0) (c .before .before .before .before .before .before .before .from .given .0 .1 .0) (ap (keyIs (c .before .before .before .before .before .before .before .before .before .before .before .before .before .before .before .args .text .now) (c .before .before .before .before .before .before .before .before .before .before .before .before .before .loop .count)) (sym (c .before .before .before .before .before .before .before .from .given .1)) ∙ c .before .before .before .before .before .before .before .before .before .next-key .ensures) (c .before .next .given .0 .0) (sym (c .before .next .given .1) ∙ c .before .before .before .value .ensures) .0)
 
-dictionary-loop-again : (t : ℕ) → dictionary-lts.Need-loop-again (dictionary-calls t) (dictionary-at t) dictionary.Post dictionary-Inv-loop dictionary-μ-loop
-dictionary-loop-again t c = dict-more (c .before .before .before .before .before .before .before .before .before .before .before .before .before .args .text .now) (c .before .before .before .before .before .before .before .before .before .before .before .before .before .args .levels) (c .before .before .before .before .before .before .before .before .before .before .before .before .before .args .c .at) (c .before .before .before .before .before .before .before .before .before .before .before .before .before .args .c .count) (c .before .before .before .before .before .before .before .before .before .before .before .loop .at) (c .before .before .before .before .before .before .before .before .before .before .before .loop .count) (c .before .before .before .before .before .before .before .before .before .before .before .loop .before) (c .before .before .before .before .before .before .before .before .before .before .before .loop .inv) (omega arith) (c .before .before .before .before .before .before .before .before .if1 .left) (c .before .before .before .before .before .from .given .0 .0) (c .before .before .before .before .before .from .given .0 .1 .0) (ap (keyIs (c .before .before .before .before .before .before .before .before .before .before .before .before .before .args .text .now) (c .before .before .before .before .before .before .before .before .before .before .before .loop .count)) (sym (c .before .before .before .before .before .from .given .1)) ∙ c .before .before .before .before .before .before .before .next-key .ensures) (c .before .next .given .0 .0) (sym (c .before .next .given .1) ∙ c .before .before .before .value .ensures) .1
+dictionary-loop-again-2 : (t : ℕ) → dictionary-lts.Need-loop-again-2 (dictionary-calls t) (dictionary-at t) dictionary.Post dictionary-Inv-loop dictionary-μ-loop
+dictionary-loop-again-2 t c = dict-more (c .before .before .before .before .before .before .before .before .before .before .before .before .before .before .before .args .text .now) (c .before .before .before .before .before .before .before .before .before .before .before .before .before .before .before .args .levels) (c .before .before .before .before .before .before .before .before .before .before .before .before .before .before .before .args .c .at) (c .before .before .before .before .before .before .before .before .before .before .before .before .before .before .before .args .c .count) (c .before .before .before .before .before .before .before .before .before .before .before .before .before .loop .at) (c .before .before .before .before .before .before .before .before .before .before .before .before .before .loop .count) (c .before .before .before .before .before .before .before .before .before .before .before .before .before .loop .before) (c .before .before .before .before .before .before .before .before .before .before .before .before .before .loop .inv) (omega arith) (c .before .before .before .before .before .before .before .before .before .before .if1 .left) (c .before .before .before .before .before .before .before .from .given .0 .0) (c .before .before .before .before .before .before .before .from .given .0 .1 .0) (ap (keyIs (c .before .before .before .before .before .before .before .before .before .before .before .before .before .before .before .args .text .now) (c .before .before .before .before .before .before .before .before .before .before .before .before .before .loop .count)) (sym (c .before .before .before .before .before .before .before .from .given .1)) ∙ c .before .before .before .before .before .before .before .before .before .next-key .ensures) (c .before .next .given .0 .0) (sym (c .before .next .given .1) ∙ c .before .before .before .value .ensures) .1
 
 dictionary-enum-known-r : (t : ℕ) → dictionary-lts.Need-enum-known-r (dictionary-calls t) (dictionary-at t) dictionary.Post dictionary-Inv-loop dictionary-μ-loop
 dictionary-enum-known-r t c = search needs
 
 dictionary-returns-2 : (t : ℕ) → dictionary-lts.Need-returns-2 (dictionary-calls t) (dictionary-at t) dictionary.Post dictionary-Inv-loop dictionary-μ-loop
-dictionary-returns-2 t c = dict-bad (c .before .before .before .before .before .before .before .before .before .before .before .before .before .args .text .now) (c .before .before .before .before .before .before .before .before .before .before .before .before .before .args .levels) (c .before .before .before .before .before .before .before .before .before .before .before .before .before .args .c .at) (c .before .before .before .before .before .before .before .before .before .before .before .before .before .args .c .count) (c .before .before .before .before .before .before .before .before .before .before .before .loop .at) (c .before .before .before .before .before .before .before .before .before .before .before .loop .count) (c .before .before .before .before .before .before .before .before .before .before .before .loop .before) (c .before .before .before .before .before .before .before .before .before .before .before .loop .inv) (omega arith) (c .before .before .before .before .before .before .before .before .if1 .left) (c .before .before .before .before .before .from .given .0 .0) (c .before .before .before .before .before .from .given .0 .1 .0) (ap (keyIs (c .before .before .before .before .before .before .before .before .before .before .before .before .before .args .text .now) (c .before .before .before .before .before .before .before .before .before .before .before .loop .count)) (sym (c .before .before .before .before .before .from .given .1)) ∙ c .before .before .before .before .before .before .before .next-key .ensures) (c .before .r .given .0 .0) (sym (c .before .r .given .1) ∙ c .before .before .before .value .ensures)
+dictionary-returns-2 t c = dict-bad (c .before .before .before .before .before .before .before .before .before .before .before .before .before .before .before .args .text .now) (c .before .before .before .before .before .before .before .before .before .before .before .before .before .before .before .args .levels) (c .before .before .before .before .before .before .before .before .before .before .before .before .before .before .before .args .c .at) (c .before .before .before .before .before .before .before .before .before .before .before .before .before .before .before .args .c .count) (c .before .before .before .before .before .before .before .before .before .before .before .before .before .loop .at) (c .before .before .before .before .before .before .before .before .before .before .before .before .before .loop .count) (c .before .before .before .before .before .before .before .before .before .before .before .before .before .loop .before) (c .before .before .before .before .before .before .before .before .before .before .before .before .before .loop .inv) (omega arith) (c .before .before .before .before .before .before .before .before .before .before .if1 .left) (c .before .before .before .before .before .before .before .from .given .0 .0) (c .before .before .before .before .before .before .before .from .given .0 .1 .0) (ap (keyIs (c .before .before .before .before .before .before .before .before .before .before .before .before .before .before .before .args .text .now) (c .before .before .before .before .before .before .before .before .before .before .before .before .before .loop .count)) (sym (c .before .before .before .before .before .before .before .from .given .1)) ∙ c .before .before .before .before .before .before .before .before .before .next-key .ensures) (c .before .r .given .0 .0) (sym (c .before .r .given .1) ∙ c .before .before .before .value .ensures)
 
 dictionary-enum-known-r-2 : (t : ℕ) → dictionary-lts.Need-enum-known-r-2 (dictionary-calls t) (dictionary-at t) dictionary.Post dictionary-Inv-loop dictionary-μ-loop
 dictionary-enum-known-r-2 t c = search needs
@@ -150,23 +167,38 @@ list-passed-requires t c κs = search needs
 list-returns : (t : ℕ) → list-lts.Need-returns (list-calls t) (list-at t) list.Post list-Inv-loop list-μ-loop
 list-returns t c = c .passed .ensures ∙ list-close (c .before .before .before .before .before .before .args .text .now) (c .before .before .before .before .before .before .args .levels) (c .before .before .before .before .before .before .args .c .at) (c .before .before .before .before .before .before .args .c .count) (c .before .before .before .before .loop .at) (c .before .before .before .before .loop .count) (c .before .before .before .before .loop .inv) (omega arith) (omega arith)
 
+list-plain-requires : (t : ℕ) → list-lts.Need-plain-requires (list-calls t) (list-at t) list.Post list-Inv-loop list-μ-loop
+list-plain-requires t c κs = search needs
+
+list-leaf-requires : (t : ℕ) → list-lts.Need-leaf-requires (list-calls t) (list-at t) list.Post list-Inv-loop list-μ-loop
+list-leaf-requires t c κs = c .before .plain .ensures (c .if2 .taken)
+
+list-add-count : (t : ℕ) → list-lts.Need-add-count (list-calls t) (list-at t) list.Post list-Inv-loop list-μ-loop
+list-add-count t c = omega (arith, c .before .leaf .ensures (c .if3 .taken) .0)
+
+list-loop-less : (t : ℕ) → list-lts.Need-loop-less (list-calls t) (list-at t) list.Post list-Inv-loop list-μ-loop
+list-loop-less t c = omega (arith, list-more (c .before .before .before .before .before .before .before .before .before .args .text .now) (c .before .before .before .before .before .before .before .before .before .args .levels) (c .before .before .before .before .before .before .before .before .before .args .c .at) (c .before .before .before .before .before .before .before .before .before .args .c .count) (c .before .before .before .before .before .before .before .loop .at) (c .before .before .before .before .before .before .before .loop .count) (c .before .before .before .before .before .before .before .loop .inv) (omega arith) (c .before .before .before .before .if1 .left) (record { at = c .before .leaf .result; count = c .before .before .before .before .before .before .before .loop .count + 1 }) (c .before .leaf .ensures (c .if3 .taken) .1 (c .before .before .before .before .before .before .before .before .before .args .levels)) .0)
+
+list-loop-again : (t : ℕ) → list-lts.Need-loop-again (list-calls t) (list-at t) list.Post list-Inv-loop list-μ-loop
+list-loop-again t c = list-more (c .before .before .before .before .before .before .before .before .before .args .text .now) (c .before .before .before .before .before .before .before .before .before .args .levels) (c .before .before .before .before .before .before .before .before .before .args .c .at) (c .before .before .before .before .before .before .before .before .before .args .c .count) (c .before .before .before .before .before .before .before .loop .at) (c .before .before .before .before .before .before .before .loop .count) (c .before .before .before .before .before .before .before .loop .inv) (omega arith) (c .before .before .before .before .if1 .left) (record { at = c .before .leaf .result; count = c .before .before .before .before .before .before .before .loop .count + 1 }) (c .before .leaf .ensures (c .if3 .taken) .1 (c .before .before .before .before .before .before .before .before .before .args .levels)) .1
+
 list-value-requires : (t : ℕ) → list-lts.Need-value-requires (list-calls t) (list-at t) list.Post list-Inv-loop list-μ-loop
 list-value-requires t c κs = (omega arith, tt)
 
 list-enum-known-next : (t : ℕ) → list-lts.Need-enum-known-next (list-calls t) (list-at t) list.Post list-Inv-loop list-μ-loop
 list-enum-known-next t c = search needs
 
-list-loop-less : (t : ℕ) → list-lts.Need-loop-less (list-calls t) (list-at t) list.Post list-Inv-loop list-μ-loop
-list-loop-less t c = omega (arith, list-more (c .before .before .before .before .before .before .before .before .before .args .text .now) (c .before .before .before .before .before .before .before .before .before .args .levels) (c .before .before .before .before .before .before .before .before .before .args .c .at) (c .before .before .before .before .before .before .before .before .before .args .c .count) (c .before .before .before .before .before .before .before .loop .at) (c .before .before .before .before .before .before .before .loop .count) (c .before .before .before .before .before .before .before .loop .inv) (omega arith) (c .before .before .before .before .if1 .left) (c .before .next .given .0 .0) (sym (c .before .next .given .1) ∙ c .before .before .before .value .ensures) .0)
+list-loop-less-2 : (t : ℕ) → list-lts.Need-loop-less-2 (list-calls t) (list-at t) list.Post list-Inv-loop list-μ-loop
+list-loop-less-2 t c = omega (arith, list-more (c .before .before .before .before .before .before .before .before .before .before .before .args .text .now) (c .before .before .before .before .before .before .before .before .before .before .before .args .levels) (c .before .before .before .before .before .before .before .before .before .before .before .args .c .at) (c .before .before .before .before .before .before .before .before .before .before .before .args .c .count) (c .before .before .before .before .before .before .before .before .before .loop .at) (c .before .before .before .before .before .before .before .before .before .loop .count) (c .before .before .before .before .before .before .before .before .before .loop .inv) (omega arith) (c .before .before .before .before .before .before .if1 .left) (c .before .next .given .0 .0) (sym (c .before .next .given .1) ∙ c .before .before .before .value .ensures) .0)
 
-list-loop-again : (t : ℕ) → list-lts.Need-loop-again (list-calls t) (list-at t) list.Post list-Inv-loop list-μ-loop
-list-loop-again t c = list-more (c .before .before .before .before .before .before .before .before .before .args .text .now) (c .before .before .before .before .before .before .before .before .before .args .levels) (c .before .before .before .before .before .before .before .before .before .args .c .at) (c .before .before .before .before .before .before .before .before .before .args .c .count) (c .before .before .before .before .before .before .before .loop .at) (c .before .before .before .before .before .before .before .loop .count) (c .before .before .before .before .before .before .before .loop .inv) (omega arith) (c .before .before .before .before .if1 .left) (c .before .next .given .0 .0) (sym (c .before .next .given .1) ∙ c .before .before .before .value .ensures) .1
+list-loop-again-2 : (t : ℕ) → list-lts.Need-loop-again-2 (list-calls t) (list-at t) list.Post list-Inv-loop list-μ-loop
+list-loop-again-2 t c = list-more (c .before .before .before .before .before .before .before .before .before .before .before .args .text .now) (c .before .before .before .before .before .before .before .before .before .before .before .args .levels) (c .before .before .before .before .before .before .before .before .before .before .before .args .c .at) (c .before .before .before .before .before .before .before .before .before .before .before .args .c .count) (c .before .before .before .before .before .before .before .before .before .loop .at) (c .before .before .before .before .before .before .before .before .before .loop .count) (c .before .before .before .before .before .before .before .before .before .loop .inv) (omega arith) (c .before .before .before .before .before .before .if1 .left) (c .before .next .given .0 .0) (sym (c .before .next .given .1) ∙ c .before .before .before .value .ensures) .1
 
 list-enum-known-r : (t : ℕ) → list-lts.Need-enum-known-r (list-calls t) (list-at t) list.Post list-Inv-loop list-μ-loop
 list-enum-known-r t c = search needs
 
 list-returns-2 : (t : ℕ) → list-lts.Need-returns-2 (list-calls t) (list-at t) list.Post list-Inv-loop list-μ-loop
-list-returns-2 t c = list-bad (c .before .before .before .before .before .before .before .before .before .args .text .now) (c .before .before .before .before .before .before .before .before .before .args .levels) (c .before .before .before .before .before .before .before .before .before .args .c .at) (c .before .before .before .before .before .before .before .before .before .args .c .count) (c .before .before .before .before .before .before .before .loop .at) (c .before .before .before .before .before .before .before .loop .count) (c .before .before .before .before .before .before .before .loop .inv) (c .before .r .given .0 .0) (omega arith) (c .before .before .before .before .if1 .left) (sym (c .before .r .given .1) ∙ c .before .before .before .value .ensures)
+list-returns-2 t c = list-bad (c .before .before .before .before .before .before .before .before .before .before .before .args .text .now) (c .before .before .before .before .before .before .before .before .before .before .before .args .levels) (c .before .before .before .before .before .before .before .before .before .before .before .args .c .at) (c .before .before .before .before .before .before .before .before .before .before .before .args .c .count) (c .before .before .before .before .before .before .before .before .before .loop .at) (c .before .before .before .before .before .before .before .before .before .loop .count) (c .before .before .before .before .before .before .before .before .before .loop .inv) (c .before .r .given .0 .0) (omega arith) (c .before .before .before .before .before .before .if1 .left) (sym (c .before .r .given .1) ∙ c .before .before .before .value .ensures)
 
 list-bad-requires : (t : ℕ) → list-lts.Need-bad-requires (list-calls t) (list-at t) list.Post list-Inv-loop list-μ-loop
 list-bad-requires t c κs = search needs
@@ -268,26 +300,24 @@ pub +dictionary+list+value-spec : {M : Type 1} → statement M
     (dictionary-returns t)
     (dictionary-next-key-requires t)
     (dictionary-enum-known-from t)
-    (dictionary-add-t19 t)
-    (dictionary-add-t20 t)
-    (dictionary-value-requires t)
-    (dictionary-enum-known-next t)
+    (dictionary-add-at t)
+    (dictionary-add-count t)
+    (dictionary-plain-requires t)
+    (dictionary-leaf-requires t)
+    (dictionary-add-count-2 t)
     (dictionary-loop-less t)
     (dictionary-loop-again t)
+    (dictionary-value-requires t)
+    (dictionary-enum-known-next t)
+    (dictionary-loop-less-2 t)
+    (dictionary-loop-again-2 t)
     (dictionary-enum-known-r t)
     (dictionary-returns-2 t)
     (dictionary-enum-known-r-2 t)
     (dictionary-returns-3 t)
     (dictionary-bad-requires t)
     (dictionary-returns-4 t))
-    (λ t. list-lts.spec (
-      passed-reads.Asked,
-      passed-reads.Learnt,
-      value-below t,
-      value.Post,
-      bad-reads.Asked,
-      bad-reads.Learnt,
-    )
+    (λ t. list-lts.spec (list-calls t)
     (list-at t)
     list.Post
     list-Inv-loop
@@ -297,32 +327,20 @@ pub +dictionary+list+value-spec : {M : Type 1} → statement M
     (list-add-passed t)
     (list-passed-requires t)
     (list-returns t)
-    (list-value-requires t)
-    (list-enum-known-next t)
+    (list-plain-requires t)
+    (list-leaf-requires t)
+    (list-add-count t)
     (list-loop-less t)
     (list-loop-again t)
+    (list-value-requires t)
+    (list-enum-known-next t)
+    (list-loop-less-2 t)
+    (list-loop-again-2 t)
     (list-enum-known-r t)
     (list-returns-2 t)
     (list-bad-requires t)
     (list-returns-3 t))
-    λ t. value-lts.spec (
-      bad-reads.Asked,
-      bad-reads.Learnt,
-      begins-reads.Asked,
-      begins-reads.Learnt,
-      integer-reads.Asked,
-      integer-reads.Learnt,
-      digit-reads.Asked,
-      digit-reads.Learnt,
-      string-reads.Asked,
-      string-reads.Learnt,
-      list-below t,
-      list.Post,
-      same-reads.Asked,
-      same-reads.Learnt,
-      dictionary-below t,
-      dictionary.Post,
-    )
+    λ t. value-lts.spec (value-calls t)
     (value-at t)
     value.Post
     (value-bad-requires t)

@@ -1,0 +1,178 @@
+// The short ways past a value: a string of up to 99 bytes, or an integer, in one go. Each answer is one number, which stays in a register.
+ghost use mathlib.Core.Path.{_≡_};
+ghost use mathlib.Core.Bool.{true};
+ghost use Prim.Native.Nat.{ℕ, _+_, _*_, _-_, _<_, _≤_, _^_};
+ghost use lib.ListN.{length, getD, drop};
+ghost use Rattle.bencode_scalar.specs.Reading.{isDigit, digitsVal, digitsLen, stringAt, minusAt, integerAt};
+ghost use Rattle.bencode_scalar.specs.Answers.{textOf};
+ghost use Rattle.bencode_scalar.specs.declared.Text.the-variants.{Whole};
+ghost use Rattle.bencode.specs.Decode.{ranged, valueFrom};
+ghost use Rattle.bencode.specs.Answers.{stepOf, shortFrom, Ended};
+ghost use Rattle.bencode.specs.declared.Step.the-variants.{Past};
+use refusal::limit;
+
+// Whether a string or an integer may begin at `at`.
+pub fn plain(text: &[u8], at: usize) -> bool
+    ensures { λ r. ⌜ (r ≡ true → at < length (now (text .entry))) ⌝ }
+{
+    if text.len() <= at {
+        return false;
+    }
+    let b = text[at];
+    if b == b'i' {
+        return true;
+    }
+    b < 58
+}
+
+// The place past the string or integer at `at`, after `count` values, where a short way leads there; 0 where `value` is to be asked.
+pub fn leaf(text: &[u8], at: usize, count: usize) -> usize
+    requires { ⌜ at < length (now text) ⌝ }
+    ensures { λ r. ⌜ ((r ≡ 0 → ⊥) → (count < 16384) × ((levels : ℕ) → Past (record { at = r; count = count + 1 }) ≡ stepOf (valueFrom levels (length (now (text .entry))) (drop at (now (text .entry))) at count))) ⌝ }
+{
+    if limit::VALUES <= count {
+        return 0;
+    }
+    if text.len() - at < 3 {
+        return 0;
+    }
+    if text[at] == b'i' {
+        return integer(text, at);
+    }
+    let size = brief(text, at);
+    if size < 100 {
+        return first(at, size) + size;
+    }
+    0
+}
+
+// How many bytes the string at `at` has, where it is whole and they are at most 99; 100 where not.
+pub fn brief(text: &[u8], at: usize) -> usize
+    requires { ⌜ at < length (now text) ⌝ }
+    ensures { λ r. ⌜ ((n : ℕ) → r < 100 → textOf (now (text .entry)) n (Whole (shortFrom at r) r) ≡ stringAt (length (now (text .entry))) (drop at (now (text .entry))) at n) ⌝ }
+{
+    if text.len() - at < 3 {
+        return 100;
+    }
+    let a = text[at];
+    if bencode_scalar::digit(a) {
+        let b = text[at + 1];
+        if b == b':' {
+            return within(text, at + 2, units(a));
+        }
+        if a != b'0' {
+            if bencode_scalar::digit(b) {
+                if text[at + 2] == b':' {
+                    return within(text, at + 3, tens(a, b));
+                }
+            }
+        }
+    }
+    100
+}
+
+// The place of the first byte of such a string: from ten bytes on, its length has two digits.
+pub fn first(at: usize, size: usize) -> usize
+    requires { ⌜ at + 3 < 2 ^ 64 ⌝ }
+    ensures { λ r. ⌜ r ≡ shortFrom at size ⌝ }
+{
+    if size < 10 {
+        return at + 2;
+    }
+    at + 3
+}
+
+// The size itself, where so many bytes stand from `from` on; 100 where not.
+fn within(text: &[u8], from: usize, size: usize) -> usize
+    requires { ⌜ from ≤ length (now text) ⌝ }
+    ensures { λ r. ⌜ (r < 100 → (r ≡ size) × (from + size ≤ length (now (text .entry)))) ⌝ }
+{
+    if text.len() - from < size {
+        return 100;
+    }
+    size
+}
+
+// What a digit stands for.
+fn units(b: u8) -> usize
+    requires { ⌜ isDigit b ≡ true ⌝ }
+    ensures { λ r. ⌜ (r ≡ b - 48) × (r < 10) ⌝ }
+{
+    b as usize - 48
+}
+
+// What two digits stand for.
+fn tens(a: u8, b: u8) -> usize
+    requires { ⌜ (isDigit a ≡ true) × (isDigit b ≡ true) ⌝ }
+    ensures { λ r. ⌜ r ≡ (a - 48) * 10 + (b - 48) ⌝ }
+{
+    units(a) * 10 + units(b)
+}
+
+// The place past the integer whose i stands at `at`, where it is whole and fits 64 bits; 0 where not.
+fn integer(text: &[u8], at: usize) -> usize
+    requires { ⌜ (at + 2 < length (now text)) × (getD (now text) at 0 ≡ 105) ⌝ }
+    ensures { λ r. ⌜ ((n : ℕ) → (r ≡ 0 → ⊥) → Past (record { at = r; count = n }) ≡ stepOf (ranged at (integerAt (length (now (text .entry))) (drop at (now (text .entry))) at n))) ⌝ }
+{
+    let b = text[at + 1];
+    if b == b'-' {
+        return negative(text, at + 2);
+    }
+    if b == b'0' {
+        return closing(text, at + 2, 0, 9223372036854775808);
+    }
+    if bencode_scalar::digit(b) {
+        return digits(text, at + 2, units(b), 9223372036854775808);
+    }
+    0
+}
+
+// The place past the integer whose minus stands before `at`, where it is whole and fits 64 bits; 0 where not.
+fn negative(text: &[u8], at: usize) -> usize
+    requires { ⌜ at < length (now text) ⌝ }
+    ensures { λ r. ⌜ ((n p : ℕ) → (r ≡ 0 → ⊥) → Past (record { at = r; count = n }) ≡ stepOf (ranged p (minusAt (length (now (text .entry))) (drop at (now (text .entry))) at n))) ⌝ }
+{
+    let b = text[at];
+    if b == b'0' {
+        return 0;
+    }
+    if bencode_scalar::digit(b) {
+        return digits(text, at + 1, units(b), 9223372036854775809);
+    }
+    0
+}
+
+// The place past the digits from `at` on and their e, where with `acc`, for those before, they stand for less than `top`; 0 where not.
+fn digits(text: &[u8], at: usize, acc: usize, top: usize) -> usize
+    requires { ⌜ (at ≤ length (now text)) × (acc < 10) ⌝ }
+    ensures { λ r. ⌜ ((r ≡ 0 → ⊥) → top < 10000000000000000000 → Ended (now (text .entry)) (at + digitsLen (drop at (now (text .entry)))) (digitsVal acc (drop at (now (text .entry)))) top r) ⌝ }
+{
+    let mut i = at;
+    let mut value = acc;
+    while i < text.len() {
+        let b = text[i];
+        if bencode_scalar::digit(b) {
+            if 1000000000000000000 <= value {
+                return 0;
+            }
+            value = value * 10 + units(b);
+            i += 1;
+        } else {
+            return closing(text, i, value, top);
+        }
+    }
+    0
+}
+
+// The place past an integer's e at `at`, where its digits stand for less than `top`; 0 where not.
+fn closing(text: &[u8], at: usize, value: usize, top: usize) -> usize
+    requires { ⌜ at < length (now text) ⌝ }
+    ensures { λ r. ⌜ ((r ≡ 0 → ⊥) → Ended (now (text .entry)) at value top r) ⌝ }
+{
+    if text[at] == b'e' {
+        if value < top {
+            return at + 1;
+        }
+    }
+    0
+}
