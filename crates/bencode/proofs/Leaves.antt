@@ -7,20 +7,15 @@ use native.Mathlib.Omega.{arith}
 use native.Mathlib.Nat.{add-zero}
 use lib.Dec.{eqb}
 use lib.ListN.{length, getD, drop}
-use borrow.Author.Tests.{lt-ltb, le-ltb, ne-eqb, eqb-true}
-use Rattle.bencode_scalar.specs.Reading.{bad, isDigit, numVal, numLen, digitsVal, digitsLen, stringAt, closedOf, minusAt, integerAt}
+use borrow.Author.Tests.{lt-ltb, ne-eqb, eqb-true}
+use Rattle.bencode_scalar.specs.Reading.{isDigit, numVal, numLen, digitsVal, digitsLen, stringAt, closedOf, minusAt, integerAt}
 use Rattle.bencode_scalar.specs.Answers.{textOf}
 use Rattle.bencode_scalar.specs.declared.Text.the-variants.{Whole}
 use Rattle.bencode_scalar.proofs.Decimal.{cap, Reading, digit-range, val-more, val-stop, len-more, len-stop, reading-stop}
-use Rattle.bencode_scalar.proofs.Forms.{string-other, string-whole, closed-whole, minus-here, int-plus, int-minus}
-use Rattle.refusal.specs.Numbers.{byte}
-use Rattle.refusal.proofs.Cases.{no-way}
-use Rattle.bencode.specs.Value.{start}
-use Rattle.bencode.specs.Decode.{ranged, keyOf, valueFrom}
-use Rattle.bencode.specs.Answers.{stepOf, keyIs, shortFrom, Ended}
+use Rattle.bencode_scalar.proofs.Forms.{string-whole, closed-whole, minus-here, int-plus, int-minus}
+use Rattle.bencode.specs.Decode.{ranged}
+use Rattle.bencode.specs.Answers.{stepOf, Held, Ended}
 use Rattle.bencode.specs.declared.Step.the-variants.{Past}
-use Rattle.bencode.specs.declared.Found.the-variants.{At}
-use Rattle.bencode.proofs.Turns.{value-str, key-found}
 
 -- a number of one digit b, before q, and of two
 module _ (s : List ℕ) (b q : ℕ) (l : q < length s) where
@@ -38,28 +33,56 @@ module _ (s : List ℕ) (b q : ℕ) (l : q < length s) where
     rw e (val-more s q (b - 48) l d ∙ val-stop s (q + 1) ((b - 48) * 10 + (getD s q 0 - 48)) k x),
   )
 
--- a string of up to 99 bytes, by what `within` answers
-module _ (s : List ℕ) (p n r : ℕ) (h : p + 2 < length s) (m : length s < cap) (d : isDigit (getD s p 0) ≡ true) where
-  pub brief-one : getD s (p + 1) 0 ≡ 58 → (z : ℕ) → z ≡ getD s p 0 - 48 → (r < 100 → (r ≡ z) × (p + 2 + z ≤ length s)) → r < 100
-      → textOf s n (Whole (shortFrom p r) r) ≡ stringAt (length s) (drop p s) p n
-  brief-one x z y w k =
-      let u = one s (getD s p 0) (p + 1) (omega arith) (rw x) in
+-- a string by its colon at c, whose digits stand for v
+module _ (s : List ℕ) (p n c v : ℕ) (l : p < length s) (m : length s < cap) (d : isDigit (getD s p 0) ≡ true) where
+  string-by : c ≡ p + 1 + numLen (getD s p 0) (drop (p + 1) s) → v ≡ numVal (getD s p 0) (drop (p + 1) s) → c < length s → getD s c 0 ≡ 58 → c + 1 + v ≤ length s
+      → textOf s n (Whole (c + 1) v) ≡ stringAt (length s) (drop p s) p n
+  string-by hc hv k x f = string-whole s p n l d c v hc (omega arith) k m x (omega arith)
+
+-- one whose length has one or two digits, by what `within` answers
+module _ (s : List ℕ) (p n r : ℕ) (m : length s < cap) (d : isDigit (getD s p 0) ≡ true) where
+  pub one-whole : p + 1 < length s → getD s (p + 1) 0 ≡ 58 → (z : ℕ) → z ≡ getD s p 0 - 48 → (r < 100 → (r ≡ z) × (p + 2 + z ≤ length s)) → r < 100
+      → textOf s n (Whole (p + 2) r) ≡ stringAt (length s) (drop p s) p n
+  one-whole h x z y w k =
+      let u = one s (getD s p 0) (p + 1) h (rw x) in
       let v : r ≡ z = w k .0 in
       let i : p + 2 + z ≤ length s = w k .1 in
       let g : p + 2 ≡ p + 1 + 1 = omega arith in
-      let o : r < 10 = omega (arith, digit-range (getD s p 0) d) in
-      rw (lt-ltb r 10 o, g) (string-whole s p n (omega arith) d (p + 1) r (omega (arith, u .0)) (omega (arith, u .1, digit-range (getD s p 0) d)) (omega arith) m x (omega arith))
+      rw g (string-by s p n (p + 1) r (omega arith) m d (omega (arith, u .0)) (omega (arith, u .1)) h x (omega arith))
 
-  pub brief-two : (getD s p 0 ≡ 48 → ⊥) → isDigit (getD s (p + 1) 0) ≡ true → getD s (p + 2) 0 ≡ 58 → (z : ℕ) → z ≡ (getD s p 0 - 48) * 10 + (getD s (p + 1) 0 - 48)
-      → (r < 100 → (r ≡ z) × (p + 3 + z ≤ length s)) → r < 100 → textOf s n (Whole (shortFrom p r) r) ≡ stringAt (length s) (drop p s) p n
-  brief-two q e x z y w k =
+  pub two-whole : p + 2 < length s → (getD s p 0 ≡ 48 → ⊥) → isDigit (getD s (p + 1) 0) ≡ true → getD s (p + 2) 0 ≡ 58
+      → (z : ℕ) → z ≡ (getD s p 0 - 48) * 10 + (getD s (p + 1) 0 - 48) → (r < 100 → (r ≡ z) × (p + 3 + z ≤ length s)) → r < 100
+      → textOf s n (Whole (p + 3) r) ≡ stringAt (length s) (drop p s) p n
+  two-whole h q e x z y w k =
       let a : p + 1 + 1 ≡ p + 2 = omega arith in
       let u = two s (getD s p 0) (p + 1) (omega arith) q e (omega arith) (rw (a, x)) in
       let v : r ≡ z = w k .0 in
       let i : p + 3 + z ≤ length s = w k .1 in
       let g : p + 3 ≡ p + 2 + 1 = omega arith in
-      let o : 10 ≤ r = omega (arith, digit-range (getD s p 0) d, digit-range (getD s (p + 1) 0) e) in
-      rw (le-ltb r 10 o, g) (string-whole s p n (omega arith) d (p + 2) r (omega (arith, u .0)) (omega (arith, u .1, digit-range (getD s p 0) d, digit-range (getD s (p + 1) 0) e)) (omega arith) m x (omega arith))
+      rw g (string-by s p n (p + 2) r (omega arith) m d (omega (arith, u .0)) (omega (arith, u .1)) h x (omega arith))
+
+-- the digits of a string's length, by what `held` answers
+pub held-digits : (s : List ℕ) (at acc i v r : ℕ) → length s < cap → Reading s at acc i v → i < length s → isDigit (getD s i 0) ≡ false → Held s i v r
+    → Held s (at + digitsLen (drop at s)) (digitsVal acc (drop at s)) r
+held-digits s at acc i v r m w l x e =
+    let u = reading-stop s at acc w l x in
+    let y : digitsVal acc (drop at s) ≡ v = omega (arith, u .0, e .ends) in
+    rw (← (u .1), y) e
+
+module _ (s : List ℕ) (p n r : ℕ) (l : p < length s) (m : length s < cap) (d : isDigit (getD s p 0) ≡ true) where
+  abbrev read-string : Type 0
+  read-string = Past (record { at = r; count = n }) ≡ stepOf (stringAt (length s) (drop p s) p n)
+
+  held-by : (c v : ℕ) → c ≡ p + 1 + numLen (getD s p 0) (drop (p + 1) s) → v ≡ numVal (getD s p 0) (drop (p + 1) s) → Held s c v r → read-string
+  held-by c v hc hv e = rw (e .past) (ap stepOf (string-by s p n c v l m d hc hv (e .here) (e .colon) (e .ends)))
+
+  pub none-past : getD s p 0 ≡ 48 → Held s (p + 1) 0 r → read-string
+  none-past x e = held-by (p + 1) 0 (rw x (sym (add-zero (p + 1)))) (rw x) e
+
+  pub some-past : (getD s p 0 ≡ 48 → ⊥) → (a : ℕ) → a ≡ getD s p 0 - 48 → Held s (p + 1 + digitsLen (drop (p + 1) s)) (digitsVal a (drop (p + 1) s)) r → read-string
+  some-past z a y e =
+      let o = ne-eqb (getD s p 0) 48 z in
+      held-by (p + 1 + digitsLen (drop (p + 1) s)) (digitsVal a (drop (p + 1) s)) (rw o) (rw (o, y)) e
 
 -- the digits of an integer, by what `closing` answers
 pub ended-digits : (s : List ℕ) (at acc i v m r : ℕ) → Reading s at acc i v → i < length s → isDigit (getD s i 0) ≡ false → m < cap → Ended s i v m r
@@ -108,21 +131,3 @@ minus-past s p n o r l z d a y e =
     let k : p + 1 + digitsLen (drop (p + 1) s) ≡ p + 1 + numLen (getD s p 0) (drop (p + 1) s) = rw t in
     let u : pred (numVal (getD s p 0) (drop (p + 1) s)) < 2 ^ 63 = omega (arith, e .fits, v) in
     sym (ap (λ g. stepOf (ranged o g)) (minus-here s p n l z d ∙ closed-whole s true (getD s p 0) (p + 1) n (p + 1 + digitsLen (drop (p + 1) s)) k (e .here) (e .ends)) ∙ rw (lt-ltb (pred (numVal (getD s p 0) (drop (p + 1) s))) (2 ^ 63) u, e .past))
-
--- a string that is read whole at p begins with a digit
-whole-digit : (s : List ℕ) (p n a m : ℕ) → p < length s → textOf s n (Whole a m) ≡ stringAt (length s) (drop p s) p n → isDigit (getD s p 0) ≡ true
-whole-digit s p n a m l e = go (isDigit (getD s p 0)) refl
-  where
-    go : (t : Bool) → isDigit (getD s p 0) ≡ t → isDigit (getD s p 0) ≡ true
-    go true x = x
-    go false x = let z : textOf s n (Whole a m) ≡ bad byte p = e ∙ sym (string-other s p n l x) in no-way (cc)
-
--- a short string at p, as a value and as a key
-module _ (s : List ℕ) (p n : ℕ) where
-  pub brief-past : (d : ℕ) → p < length s → n < 16384 → (a m : ℕ) → a ≡ shortFrom p m → textOf s (n + 1) (Whole (shortFrom p m) m) ≡ stringAt (length s) (drop p s) p (n + 1)
-      → Past (record { at = a + m; count = n + 1 }) ≡ stepOf (valueFrom d (length s) (drop p s) p n)
-  brief-past d l h a m x e = rw x (ap stepOf e ∙ value-str s p n l d (whole-digit s p (n + 1) (shortFrom p m) m l e) h)
-
-  pub key-brief : p < length s → n < 16384 → (a m : ℕ) → a ≡ shortFrom p m → textOf s (n + 1) (Whole (shortFrom p m) m) ≡ stringAt (length s) (drop p s) p (n + 1)
-      → keyIs s n (At a m) ≡ keyOf (length s) start (drop p s) p n
-  key-brief l h a m x e = rw x (key-found s start p n l (whole-digit s p (n + 1) (shortFrom p m) m l e) h (shortFrom p m) m e refl)

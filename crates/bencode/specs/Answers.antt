@@ -1,10 +1,9 @@
 -- What the code's answers say in the paper's words. Assumes nothing: these are definitions.
 -- From `prevIs` on they serve inner contracts alone and need not be believed: the contracts of `check` and `value` speak of those before and of Decode.antt.
 use mathlib.Core.Path.{_≡_}
-use mathlib.Core.Bool.{Bool, true, false, cond}
+use mathlib.Core.Bool.{Bool, true, false}
 use mathlib.Core.List.{List}
-use Prim.Native.Nat.{ℕ, _+_, _<_}
-use lib.Dec.{ltb}
+use Prim.Native.Nat.{ℕ, _+_, _<_, _≤_}
 use lib.ListN.{length, getD, take, drop}
 use Rattle.refusal.specs.Paper.{Outcome, taken, refusal, map}
 use Rattle.bencode_scalar.specs.Reading.{Got, got, bad}
@@ -45,9 +44,12 @@ abbrev pub keyIs : List ℕ → ℕ → Found → Got (List ℕ)
 keyIs s n (At a m) = got (take m (drop a s)) (drop (a + m) s) (a + m) (n + 1)
 keyIs s n (Not r) = bad (r .number) (r .place)
 
--- the first byte of a string of m bytes, at most 99, whose digits stand at p
-abbrev pub shortFrom : ℕ → ℕ → ℕ
-shortFrom p m = cond (ltb m 10) (p + 2) (p + 3)
+-- a string's colon at c, with v bytes after it; r is past them
+pub record Held (s : List ℕ) (c v r : ℕ) : Type 0 where
+  pub here : c < length s
+  pub colon : getD s c 0 ≡ 58
+  pub ends : c + 1 + v ≤ length s
+  pub past : r ≡ c + 1 + v
 
 -- an integer's e at c, whose digits stand for v, less than m; r is past it
 pub record Ended (s : List ℕ) (c v m r : ℕ) : Type 0 where

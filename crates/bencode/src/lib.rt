@@ -201,9 +201,13 @@ fn key_at(text: &[u8], at: usize, count: usize) -> Found
         if limit::VALUES <= count {
             return not(number::MANY, at);
         }
-        let size = short::brief(text, at);
-        if size < 100 {
-            return Found::At(short::first(at, size), size);
+        let few = short::one_digit(text, at);
+        if few < 100 {
+            return Found::At(at + 2, few);
+        }
+        let some = short::two_digits(text, at);
+        if some < 100 {
+            return Found::At(at + 3, some);
         }
         match bencode_scalar::string(text, at) {
             Text::Whole(from, size) => return Found::At(from, size),

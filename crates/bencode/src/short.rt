@@ -1,13 +1,13 @@
-// The short ways past a value: a string of up to 99 bytes, or an integer, in one go. Each answer is one number, which stays in a register.
+// The short ways past a value: a string or an integer in one go, which answers one number, and that stays in a register.
 ghost use mathlib.Core.Path.{_≡_};
 ghost use mathlib.Core.Bool.{true};
-ghost use Prim.Native.Nat.{ℕ, _+_, _*_, _-_, _<_, _≤_, _^_};
+ghost use Prim.Native.Nat.{ℕ, _+_, _*_, _-_, _<_, _≤_};
 ghost use lib.ListN.{length, getD, drop};
 ghost use Rattle.bencode_scalar.specs.Reading.{isDigit, digitsVal, digitsLen, stringAt, minusAt, integerAt};
 ghost use Rattle.bencode_scalar.specs.Answers.{textOf};
 ghost use Rattle.bencode_scalar.specs.declared.Text.the-variants.{Whole};
 ghost use Rattle.bencode.specs.Decode.{ranged, valueFrom};
-ghost use Rattle.bencode.specs.Answers.{stepOf, shortFrom, Ended};
+ghost use Rattle.bencode.specs.Answers.{stepOf, Held, Ended};
 ghost use Rattle.bencode.specs.declared.Step.the-variants.{Past};
 use refusal::limit;
 
@@ -25,7 +25,7 @@ pub fn plain(text: &[u8], at: usize) -> bool
     b < 58
 }
 
-// The place past the string or integer at `at`, after `count` values, where a short way leads there; 0 where `value` is to be asked.
+// The place past the string or integer at `at`, after `count` values, as `value` reads it; 0 where `value` is to be asked.
 pub fn leaf(text: &[u8], at: usize, count: usize) -> usize
     requires { ⌜ at < length (now text) ⌝ }
     ensures { λ r. ⌜ ((r ≡ 0 → ⊥) → (count < 16384) × ((levels : ℕ) → Past (record { at = r; count = count + 1 }) ≡ stepOf (valueFrom levels (length (now (text .entry))) (drop at (now (text .entry))) at count))) ⌝ }
@@ -33,53 +33,53 @@ pub fn leaf(text: &[u8], at: usize, count: usize) -> usize
     if limit::VALUES <= count {
         return 0;
     }
-    if text.len() - at < 3 {
-        return 0;
-    }
-    if text[at] == b'i' {
+    let b = text[at];
+    if b == b'i' {
         return integer(text, at);
     }
-    let size = brief(text, at);
-    if size < 100 {
-        return first(at, size) + size;
+    if bencode_scalar::digit(b) {
+        return string(text, at);
     }
     0
 }
 
-// How many bytes the string at `at` has, where it is whole and they are at most 99; 100 where not.
-pub fn brief(text: &[u8], at: usize) -> usize
+// How many bytes the string at `at` has, where it is whole and its length has one digit; 100 where not.
+pub fn one_digit(text: &[u8], at: usize) -> usize
     requires { ⌜ at < length (now text) ⌝ }
-    ensures { λ r. ⌜ ((n : ℕ) → r < 100 → textOf (now (text .entry)) n (Whole (shortFrom at r) r) ≡ stringAt (length (now (text .entry))) (drop at (now (text .entry))) at n) ⌝ }
+    ensures { λ r. ⌜ ((n : ℕ) → r < 100 → textOf (now (text .entry)) n (Whole (at + 2) r) ≡ stringAt (length (now (text .entry))) (drop at (now (text .entry))) at n) ⌝ }
+{
+    if text.len() - at < 2 {
+        return 100;
+    }
+    let a = text[at];
+    if text[at + 1] == b':' {
+        if bencode_scalar::digit(a) {
+            return within(text, at + 2, units(a));
+        }
+    }
+    100
+}
+
+// The same where its length has two digits.
+pub fn two_digits(text: &[u8], at: usize) -> usize
+    requires { ⌜ at < length (now text) ⌝ }
+    ensures { λ r. ⌜ ((n : ℕ) → r < 100 → textOf (now (text .entry)) n (Whole (at + 3) r) ≡ stringAt (length (now (text .entry))) (drop at (now (text .entry))) at n) ⌝ }
 {
     if text.len() - at < 3 {
         return 100;
     }
     let a = text[at];
-    if bencode_scalar::digit(a) {
-        let b = text[at + 1];
-        if b == b':' {
-            return within(text, at + 2, units(a));
-        }
-        if a != b'0' {
-            if bencode_scalar::digit(b) {
-                if text[at + 2] == b':' {
+    let b = text[at + 1];
+    if text[at + 2] == b':' {
+        if bencode_scalar::digit(a) {
+            if a != b'0' {
+                if bencode_scalar::digit(b) {
                     return within(text, at + 3, tens(a, b));
                 }
             }
         }
     }
     100
-}
-
-// The place of the first byte of such a string: from ten bytes on, its length has two digits.
-pub fn first(at: usize, size: usize) -> usize
-    requires { ⌜ at + 3 < 2 ^ 64 ⌝ }
-    ensures { λ r. ⌜ r ≡ shortFrom at size ⌝ }
-{
-    if size < 10 {
-        return at + 2;
-    }
-    at + 3
 }
 
 // The size itself, where so many bytes stand from `from` on; 100 where not.
@@ -109,11 +109,64 @@ fn tens(a: u8, b: u8) -> usize
     units(a) * 10 + units(b)
 }
 
+// The place past the string whose first digit stands at `at`, where it is whole; 0 where not.
+fn string(text: &[u8], at: usize) -> usize
+    requires { ⌜ (at < length (now text)) × (isDigit (getD (now text) at 0) ≡ true) ⌝ }
+    ensures { λ r. ⌜ ((n : ℕ) → (r ≡ 0 → ⊥) → Past (record { at = r; count = n }) ≡ stepOf (stringAt (length (now (text .entry))) (drop at (now (text .entry))) at n)) ⌝ }
+{
+    let b = text[at];
+    if b == b'0' {
+        return held(text, at + 1, 0);
+    }
+    sized(text, at + 1, units(b))
+}
+
+// The place past the digits from `at` on, a colon and as many bytes as they stand for with `acc`, for those before; 0 where these are not there.
+fn sized(text: &[u8], at: usize, acc: usize) -> usize
+    requires { ⌜ (at ≤ length (now text)) × (acc < 10) ⌝ }
+    ensures { λ r. ⌜ ((r ≡ 0 → ⊥) → Held (now (text .entry)) (at + digitsLen (drop at (now (text .entry)))) (digitsVal acc (drop at (now (text .entry)))) r) ⌝ }
+{
+    let mut i = at;
+    let mut size = acc;
+    while i < text.len() {
+        let b = text[i];
+        if bencode_scalar::digit(b) {
+            if 1000000000000000000 <= size {
+                return 0;
+            }
+            size = size * 10 + units(b);
+            i += 1;
+        } else {
+            return held(text, i, size);
+        }
+    }
+    0
+}
+
+// The place past a string's colon at `at` and `size` bytes; 0 where these are not there.
+fn held(text: &[u8], at: usize, size: usize) -> usize
+    requires { ⌜ at ≤ length (now text) ⌝ }
+    ensures { λ r. ⌜ ((r ≡ 0 → ⊥) → Held (now (text .entry)) at size r) ⌝ }
+{
+    if text.len() <= at {
+        return 0;
+    }
+    if text[at] == b':' {
+        if size <= text.len() - (at + 1) {
+            return at + 1 + size;
+        }
+    }
+    0
+}
+
 // The place past the integer whose i stands at `at`, where it is whole and fits 64 bits; 0 where not.
 fn integer(text: &[u8], at: usize) -> usize
-    requires { ⌜ (at + 2 < length (now text)) × (getD (now text) at 0 ≡ 105) ⌝ }
+    requires { ⌜ (at < length (now text)) × (getD (now text) at 0 ≡ 105) ⌝ }
     ensures { λ r. ⌜ ((n : ℕ) → (r ≡ 0 → ⊥) → Past (record { at = r; count = n }) ≡ stepOf (ranged at (integerAt (length (now (text .entry))) (drop at (now (text .entry))) at n))) ⌝ }
 {
+    if text.len() - at < 3 {
+        return 0;
+    }
     let b = text[at + 1];
     if b == b'-' {
         return negative(text, at + 2);

@@ -6,36 +6,35 @@ use Rattle.bencode.proofs.Leaves.{below-past, zero-past, plus-past}
 use Rattle.bencode.proofs.short.integer.Statement.{statement}
 use Rattle.bencode.proofs.short.integer.Tie as tie
 
-returns : tie.Need-returns
-returns c = λ n z. below-past (c .before .before .before .before .args .text .now) (c .before .before .before .before .args .at) n _ (c .before .before .before .before .pre .0) (c .before .before .before .before .pre .1) (c .before .if1 .taken) (c .negative .ensures n (c .before .before .before .before .args .at) z)
-
 returns-2 : tie.Need-returns-2
-returns-2 c = λ n z. zero-past (c .before .before .before .before .before .args .text .now) (c .before .before .before .before .before .args .at) n _ (c .before .before .before .before .before .pre .0) (c .before .before .before .before .before .pre .1) (c .before .if2 .taken) (c .closing .ensures z)
-
-units-requires : tie.Need-units-requires
-units-requires c κs = sym (c .before .digit .ensures) ∙ c .if3 .taken
-
-digits-requires : tie.Need-digits-requires
-digits-requires c κs = (omega arith, c .units .ensures .1)
+returns-2 c = λ n z. below-past (c .before .before .before .before .before .args .text .now) (c .before .before .before .before .before .args .at) n _ (omega arith) (c .before .before .before .before .before .pre .1) (c .before .if2 .taken) (c .negative .ensures n (c .before .before .before .before .before .args .at) z)
 
 returns-3 : tie.Need-returns-3
-returns-3 c = λ n z. plus-past (c .before .before .before .before .before .before .before .before .args .text .now) (c .before .before .before .before .before .before .before .before .args .at) n _ (c .before .before .before .before .before .before .before .before .pre .0) (c .before .before .before .before .before .before .before .before .pre .1) (c .before .before .before .before .if2 .left) (sym (c .before .before .before .digit .ensures) ∙ c .before .before .if3 .taken) _ (c .before .units .ensures .0) (c .digits .ensures z (omega arith))
+returns-3 c = λ n z. zero-past (c .before .before .before .before .before .before .args .text .now) (c .before .before .before .before .before .before .args .at) n _ (omega arith) (c .before .before .before .before .before .before .pre .1) (c .before .if3 .taken) (c .closing .ensures z)
+
+units-requires : tie.Need-units-requires
+units-requires c κs = sym (c .before .digit .ensures) ∙ c .if4 .taken
+
+returns-4 : tie.Need-returns-4
+returns-4 c = λ n z. plus-past (c .before .before .before .before .before .before .before .before .before .args .text .now) (c .before .before .before .before .before .before .before .before .before .args .at) n _ (omega arith) (c .before .before .before .before .before .before .before .before .before .pre .1) (c .before .before .before .before .if3 .left) (sym (c .before .before .before .digit .ensures) ∙ c .before .before .if4 .taken) _ (c .before .units .ensures .0) (c .digits .ensures z (omega arith))
 
 pub integer-spec : {M : Type 1} → statement M
 integer-spec =
     tie.close
     (tie.spec
     (λ c. search needs)
+    (λ c n z. absurd (z refl))
     (λ c. search needs)
     (λ c. search needs)
-    (λ c κs. omega arith)
-    returns
     (λ c. search needs)
     (λ c κs. omega arith)
     returns-2
+    (λ c. search needs)
+    (λ c κs. omega arith)
+    returns-3
     (λ c κs. search needs)
     (λ c. search needs)
     units-requires
-    digits-requires
-    returns-3
+    (λ c κs. (omega arith, c .units .ensures .1))
+    returns-4
     (λ c n z. absurd (z refl)))
