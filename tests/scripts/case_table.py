@@ -107,9 +107,26 @@ ORDER = [
     "d1:b0:1:a0:ex",
 ]
 
+# strings and integers where others stand before them: inside a list, as a key and under one
+INSIDE = [
+    "l9:(9*a)e l9:(8*a)e l9:(8*a) l10:(10*a)e l10:(9*a) l99:(99*a)e l99:(98*a)e l99:(98*a) l100:(100*a)e l100:(99*a)",
+    "l999:(999*a)e l999:(998*a) l00:e l09:(9*a)e l010:(10*a)e l0 l0: l9 l9: l99 l99: l100 l100: l1x l1e l10e l10x l100x",
+    "l9(18*0):e l9(19*0):e l1(4999*0):e l1(4999*0)x l18446744073709551617:ae",
+    "li0ee li0e li0 li li00ee li01ee li0xe li-0ee li-01ee li-ee li- li-1 li1 li1x li-1x li1e li-1e li--1ee",
+    "li999999999999999999ee li-999999999999999999ee li1(18*0)ee li-1(18*0)ee li1(18*0) li1(18*0)x li1(19*0)ee li1(19*0)x",
+    "li9223372036854775807ee li-9223372036854775808ee li-9223372036854775809ee li-9223372036854775809x",
+    "li9999999999999999999ee li18446744073709551616ee li(5000*9)ee li-(5000*9)ee l/e l;e l:e l-e",
+    "d9:(9*a)0:e d9:(8*a) d10:(10*a)0:e d10:(9*a) d99:(99*a)0:e d99:(98*a) d100:(100*a)0:e d100:(99*a) d00:0:e",
+    "d09:(9*a)0:e d010:(10*a)0:e d0 d9 d9: d10 d10: d99 d99: d1e0:e d10e0:e d1:a9:(9*a)e d1:a9:(8*a) d1:a99:(99*a)e",
+    "d1:a99:(98*a) d1:a100:(100*a)e d1:ai0ee d1:ai00ee d1:ai999999999999999999ee d1:ai1(18*0)ee d1:a/e d1:a",
+    "l(16383*i0e)e l(16384*i0e)e l(16383*i-1e)e l(16384*i-1e)e l(16382*0:)10:(10*a)e l(16383*0:)10:(10*a)e",
+    "l(16382*0:)100:(100*a)e l(16383*0:)100:(100*a)e l(16383*0:)/ l(16380*0:)d1:ai1eee l(16381*0:)d1:ai1eee",
+    "l(16382*0:)d1:ai1eee",
+]
+
 
 def bencode():
-    texts = DOCUMENT + INTEGERS + STRINGS + SHAPES + KEYS + LIMITS + ORDER
+    texts = DOCUMENT + INTEGERS + STRINGS + SHAPES + KEYS + LIMITS + ORDER + INSIDE
     return calls_of("bencode", texts) + calls_of("walk", DOCUMENT[:1] + INTEGERS + STRINGS + SHAPES + TOO_LONG)
 
 

@@ -1,4 +1,4 @@
-// The short ways past a value: a string or an integer in one go, which answers one number, and that stays in a register.
+// The short ways past a string or an integer, which `value` reads too. Each answer is one number, which stays in a register; an enum's goes through memory.
 ghost use mathlib.Core.Path.{_≡_};
 ghost use mathlib.Core.Bool.{true};
 ghost use Prim.Native.Nat.{ℕ, _+_, _*_, _-_, _<_, _≤_};
@@ -25,7 +25,7 @@ pub fn plain(text: &[u8], at: usize) -> bool
     b < 58
 }
 
-// The place past the string or integer at `at`, after `count` values, as `value` reads it; 0 where `value` is to be asked.
+// The place past the string or integer at `at`, after `count` values, where it is whole and in range; 0 where `value` is to tell.
 pub fn leaf(text: &[u8], at: usize, count: usize) -> usize
     requires { ⌜ at < length (now text) ⌝ }
     ensures { λ r. ⌜ ((r ≡ 0 → ⊥) → (count < 16384) × ((levels : ℕ) → Past (record { at = r; count = count + 1 }) ≡ stepOf (valueFrom levels (length (now (text .entry))) (drop at (now (text .entry))) at count))) ⌝ }
@@ -167,15 +167,15 @@ fn integer(text: &[u8], at: usize) -> usize
     if text.len() - at < 3 {
         return 0;
     }
-    let b = text[at + 1];
-    if b == b'-' {
+    let first = text[at + 1];
+    if first == b'-' {
         return negative(text, at + 2);
     }
-    if b == b'0' {
+    if first == b'0' {
         return closing(text, at + 2, 0, 9223372036854775808);
     }
-    if bencode_scalar::digit(b) {
-        return digits(text, at + 2, units(b), 9223372036854775808);
+    if bencode_scalar::digit(first) {
+        return digits(text, at + 2, units(first), 9223372036854775808);
     }
     0
 }
