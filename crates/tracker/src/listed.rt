@@ -1,12 +1,21 @@
 // Entries that are dictionaries of a list: peer id, ip and port.
 ghost use mathlib.Core.Path.{_≡_};
+ghost use mathlib.Core.Bool.{false};
+ghost use Prim.Native.Nat.{ℕ, _+_, _≤_};
+ghost use lib.IntN.{pos};
+ghost use lib.ListN.{length};
+ghost use Rattle.refusal.specs.Limits.{largestPort};
 ghost use Rattle.refusal.specs.Numbers.{peer};
+ghost use Rattle.refusal.specs.Paper.{taken};
 ghost use Rattle.bencode_walk.specs.Walk.{seekPaper};
 ghost use Rattle.bencode_fields.specs.Looks.{needed, stringPaper};
-ghost use Rattle.tracker.specs.Entries.{idOf, listedPaper, peerBy, pastPeer, listedAt, countPaper, countOf, nthAt};
+ghost use Rattle.tracker.specs.Entries.{idOf, listed, listedPaper, peerBy, pastPeer, listedAt, countPaper, countOf, nthAt};
+ghost use Rattle.tracker.specs.Usual.{Reads, Ends};
 use bencode_fields::Bytes;
 use bencode_fields::Inside;
 use bencode_fields::Natural;
+use bencode_scalar::Int;
+use bencode_scalar::Text;
 use bencode_walk::Past;
 use bencode_walk::Sought;
 use refusal::Part;
@@ -35,6 +44,111 @@ pub enum Counted {
 
 // The entry whose dictionary stands at a place.
 pub fn listed_at(text: &[u8], at: usize) -> Listing
+    ensures { λ r. ⌜ listedPaper r ≡ listedAt (now (text .entry)) at ⌝ }
+{
+    match usual(text, at) {
+        Form::Usual(peer, next) => Listing::Is(peer, next),
+        Form::Other => any_form(text, at),
+    }
+}
+
+// An entry of just three keys and the place past it: keys ascend, so it has one form, d2:ip..7:peer id20:..4:porti..ee.
+enum Form {
+    Usual(Listed, usize),
+    Other,
+}
+
+// What stands after the ip of such an entry: the port, and the place past the entry.
+enum Rest {
+    Is(u64, usize),
+    Other,
+}
+
+// The entry at a place, where it has the usual form.
+fn usual(text: &[u8], at: usize) -> Form
+    ensures { λ r. ⌜ ((x : Listed) (q : ℕ) → r ≡ Form.Usual x q → listedAt (now (text .entry)) at ≡ taken (record { entry = listed x; next = q })) ⌝ }
+{
+    // What a text over the limit comes to, `any_form` says.
+    if limit::TEXT < text.len() {
+        return Form::Other;
+    }
+    if differs(text, at, b"d2:ip") {
+        return Form::Other;
+    }
+    let Text::Whole(from, len) = bencode_scalar::string(text, at + 5) else {
+        return Form::Other;
+    };
+    let past = from + len;
+    let Rest::Is(port, next) = ending(text, past) else {
+        return Form::Other;
+    };
+    let id = Part {
+        from: past + 12,
+        len: 20,
+    };
+    let ip = Part { from, len };
+    Form::Usual(Listed { id, ip, port }, next)
+}
+
+// What stands at a place, where it is the ending of the usual form.
+fn ending(text: &[u8], at: usize) -> Rest
+    ensures { λ r. ⌜ ((n q : ℕ) → r ≡ Rest.Is n q → Ends (now (text .entry)) at n q) ⌝ }
+{
+    if differs(text, at, b"7:peer id20:") {
+        return Rest::Other;
+    }
+    let past = at + 12;
+    if text.len() - past < 20 {
+        return Rest::Other;
+    }
+    if differs(text, past + 20, b"4:port") {
+        return Rest::Other;
+    }
+    let Int::Is(z, next) = bencode_scalar::integer(text, past + 26) else {
+        return Rest::Other;
+    };
+    let port = port_of(z);
+    if (limit::PORT as u64) < port {
+        return Rest::Other;
+    }
+    if differs(text, next, b"e") {
+        return Rest::Other;
+    }
+    Rest::Is(port, next + 1)
+}
+
+// Whether other bytes than these stand at a place.
+fn differs(text: &[u8], at: usize, run: &[u8]) -> bool
+    ensures { λ r. ⌜ (r ≡ false → Reads (now (text .entry)) at (now (run .entry)) (at + length (now (run .entry)))) ⌝ }
+{
+    if text.len() < run.len() {
+        return true;
+    }
+    if text.len() - run.len() < at {
+        return true;
+    }
+    let mut i = 0;
+    while i < run.len() {
+        if text[at + i] != run[i] {
+            return true;
+        }
+        i += 1;
+    }
+    false
+}
+
+// An integer from 0 on, and for one below 0 a number that is no port.
+fn port_of(z: i64) -> u64
+    ensures { λ r. ⌜ (r ≤ largestPort → z ≡ pos r) ⌝ }
+{
+    if z < 0 {
+        return limit::PORT as u64 + 1;
+    }
+    z as u64
+}
+
+// The entry at a place in any form: each key is sought, and the end.
+fn any_form(text: &[u8], at: usize) -> Listing
     ensures { λ r. ⌜ listedPaper r ≡ listedAt (now (text .entry)) at ⌝ }
 {
     match bencode_fields::dictionary_at(text, at) {
