@@ -75,6 +75,53 @@ def in_list():
     ]
 
 
+def usual():
+    """Peers of just three keys, which have one form, and those that differ from it in one thing."""
+    other = peer(ip=b"1:a", port=b"i1e")
+    found = []
+    for port in (0, 7, 10, 9999, 10000, 65535):
+        found += both(peer(port=integer(port)), other, b"10.0.0.7", port)
+    for length in (0, 1, 9, 10, 99, 100, 101):
+        found += both(peer(ip=string(b"a" * length)), other, b"a" * length, 6881)
+    # a fourth key before, between and after the three
+    start, named, end = b"2:ip1:a", b"7:peer id" + string(ID), b"4:porti6881e"
+    for entries in (
+        b"1:ai0e" + start + named + end,
+        start + b"3:keyle" + named + end,
+        start + named + b"3:pip0:" + end,
+        start + named + end + b"1:zi0e",
+        start + named + end + b"4:porule",
+        start + named + end + b"5:portsde",
+    ):
+        found += both(b"d" + entries + b"e", other, b"a", 6881)
+    return found + [
+        bad(11, listed(other, peer(port=b"^i65536e"))),
+        bad(11, listed(other, peer(port=b"^i99999e"))),
+        bad(11, listed(other, peer(port=b"^i100000e"))),
+        bad(11, listed(other, peer(port=b"^i9223372036854775807e"))),
+        bad(11, listed(other, peer(port=b"^i-6881e"))),
+        bad(2, listed(other, peer(port=b"i0^6881e"))),
+        bad(2, listed(other, peer(port=b"i0^0e"))),
+        bad(2, listed(other, peer(port=b"i-^0e"))),
+        bad(2, listed(other, peer(port=b"i^e"))),
+        bad(2, listed(other, peer(ip=b"0^8:10.0.0.7"))),
+        bad(3, listed(b"d2:ip1:a7:peer id" + string(ID) + b"4:porti1e^4:porti2ee")),
+        bad(3, listed(b"d2:ip1:a4:porti1e^7:peer id" + string(ID) + b"e")),
+        bad(10, listed(peer(peer_id=b"^i20e"), other)),
+        bad(15, listed(other, peer(peer_id=b"^2:" + ID[:2]))),
+        bad(15, listed(other, peer(peer_id=b"^200:" + b"a" * 200))),
+    ]
+
+
+def both(one, other, ip, port):
+    """A peer first and last of two, and what is said of it."""
+    return [
+        taken(listed(one, other), 1800, 2),
+        text_case("peer", listed(one, other), f"{to_hex(ID)} {to_hex(ip)} {port}", 0),
+        text_case("peer", listed(other, one), f"{to_hex(ID)} {to_hex(ip)} {port}", 1),
+    ]
+
+
 def tops():
     return [
         text_case("reply", b"", refused(1, 0)),
@@ -131,5 +178,5 @@ def long_replies():
     ]
 
 
-SMALL = {"replies": lambda: compact() + in_list() + tops() + failures()}
+SMALL = {"replies": lambda: compact() + in_list() + usual() + tops() + failures()}
 BIG = {"replies-long": long_replies}
