@@ -46,7 +46,7 @@ def readers(said):
 
     return [
         row("a reply of 2,000 peers checked", reply, "wardrail_check", "bdecode", 2),
-        row("the same, all peers looked at", walked, "wardrail_reply, _listed_at", "bdecode", ""),
+        row("the same, all peers looked at", walked, "wardrail_reply, _listed_at", "bdecode", 1.5),
         row("a torrent of 1,024 files read", torrent, "wardrail_torrent", "torrent_info, with its hash", 5),
         row("its info hash", torrent, "wardrail_info_hash", "torrent_info, with its hash", 1.5),
     ]
