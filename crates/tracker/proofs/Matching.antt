@@ -85,6 +85,7 @@ three-stands s p q n a i short small r = record {
   rest = drop q s;
   text = r .text;
   inside = omega (arith, r .place, r .inside);
+  short = short;
   keeps = (0, refl, (refl, tt, (refl, tt, (refl, lt-ltb n (2 ^ 63) (omega arith), tt))));
   few = omega arith;
 }
