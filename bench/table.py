@@ -6,14 +6,16 @@ FOLDER has bench.txt, yard.txt, sha1.txt and sizes.txt. All numbers go to the fi
 """
 
 import csv
+import platform
 import re
 import sys
 from pathlib import Path
 
 COLUMNS = ["what", "size", "of", "ours_us", "peer", "peer_us", "goal"]
 SHA1_BYTES = 16_777_216
-# a call of the yard may take 1.3 times as long as plain C
-YARD_GOAL = 1 / 1.3
+CHECK_GOAL = 3 if platform.machine() == "x86_64" else 2.5
+# a call of the yard may take so many times as long as plain C
+YARD_MOST = {"have": 1.1, "full bitfield": 1.3, "leave of a full truck": 1.3, "page of 2,000 seats": 1.3}
 
 
 def main():
@@ -45,10 +47,10 @@ def readers(said):
         return [what, size, "bytes", timed(part, name), peer, timed(part, peer), goal]
 
     return [
-        row("a reply of 2,000 peers checked", reply, "wardrail_check", "bdecode", 2),
+        row("a reply of 2,000 peers checked", reply, "wardrail_check", "bdecode", CHECK_GOAL),
         row("the same, all peers looked at", walked, "wardrail_reply, _listed_at", "bdecode", 1.5),
-        row("a torrent of 1,024 files read", torrent, "wardrail_torrent", "torrent_info, with its hash", 5),
-        row("its info hash", torrent, "wardrail_info_hash", "torrent_info, with its hash", 1.5),
+        row("a torrent of 1,024 files read", torrent, "wardrail_torrent", "torrent_info, with its hash", 10),
+        row("its info hash", torrent, "wardrail_info_hash", "torrent_info, with its hash", 1.7),
     ]
 
 
@@ -72,10 +74,10 @@ def sha1(said):
 def yard(said):
     """The least of several runs, each of which prints medians."""
     rows = []
-    for what in ("have", "full bitfield", "leave of a full truck", "page of 2,000 seats"):
+    for what, most in YARD_MOST.items():
         found(rf"^{what} +([\d.]+)", said)
         ours, theirs = (min(map(float, column)) / 1e3 for column in zip(*re.findall(rf"^{what} +([\d.]+) +([\d.]+)", said, re.M)))
-        rows.append([what, 2000, "seats", ours, "plain C", theirs, YARD_GOAL])
+        rows.append([what, 2000, "seats", ours, "plain C", theirs, 1 / most])
     return rows
 
 

@@ -1,8 +1,8 @@
 // Entries of six bytes: four of address and two of port, the most significant first.
 ghost use mathlib.Core.Path.{_≡_};
 ghost use Prim.Native.Nat.{_+_, _*_, _≤_};
-ghost use lib.ListN.{length, getD};
-ghost use Rattle.tracker.specs.Entries.{packedOf, packedPaper, packedAt};
+ghost use lib.ListN.{length};
+ghost use Rattle.tracker.specs.Entries.{sixAt, packedPaper, packedAt};
 use refusal::Refusal;
 use refusal::limit;
 use refusal::number;
@@ -57,7 +57,7 @@ pub(crate) fn nth(text: &[u8], first: usize, n: usize) -> Packing
 
 fn six(text: &[u8], at: usize) -> Packed
     requires { ⌜ at + 6 ≤ length (now text) ⌝ }
-    ensures { λ r. ⌜ r ≡ packedOf (getD (now (text .entry)) at 0) (getD (now (text .entry)) (at + 1) 0) (getD (now (text .entry)) (at + 2) 0) (getD (now (text .entry)) (at + 3) 0) (getD (now (text .entry)) (at + 4) 0) (getD (now (text .entry)) (at + 5) 0) ⌝ }
+    ensures { λ r. ⌜ r ≡ sixAt (now (text .entry)) at ⌝ }
 {
     Packed {
         address: Address(text[at], text[at + 1], text[at + 2], text[at + 3]),
