@@ -1,5 +1,5 @@
 /* Yard calls on damaged tables, on tables of wrong sizes and on tables of any bytes, each answered as document 01 says; a refusal leaves
- * every byte as it was. Prints how many were tried, or each that went wrong. */
+ * every byte as it was. And the looks at a place, at every place of a text. Prints how many were tried, or each that went wrong. */
 #include "wardrail_yard.h"
 
 #include <stdio.h>
@@ -332,12 +332,45 @@ static void any_bytes(void) {
     }
 }
 
+/* ---- looks at a place: the numbers that the header lists, 2 at an e, where no value stands, and 8 before all */
+
+enum { LOOKS = 5 };
+
+static void look_at(const uint8_t *text, size_t count, size_t at, uint64_t said[LOOKS]) {
+    struct wardrail_look look;
+    struct wardrail_element_at element;
+    struct wardrail_file_at file;
+    struct wardrail_listed_at listed;
+    struct wardrail_packed_at packed;
+    said[0] = wardrail_look(text, count, at, &look);
+    said[1] = wardrail_element_at(text, count, at, &element);
+    said[2] = wardrail_file_at(text, count, at, &file);
+    said[3] = wardrail_listed_at(text, count, at, &listed);
+    said[4] = wardrail_packed_at(text, count, at, &packed);
+}
+
+static void looks(void) {
+    static const uint8_t text[] = "ld2:ip1:a7:peer id20:AAAAAAAAAAAAAAAAAAAA4:porti1eed6:lengthi1e4:pathl1:a2:..eee";
+    static const unsigned listed[LOOKS] = {1 << 1 | 1 << 2, 1 << 1 | 1 << 2 | 1 << 10 | 1 << 13, 0x7e | 1 << 10 | 1 << 11 | 1 << 13, 0x7e | 1 << 10 | 1 << 11 | 1 << 15, 1 << 1};
+    static uint8_t more[1048577];
+    uint64_t said[LOOKS];
+    for (size_t at = 0; at <= sizeof text; at++) {
+        look_at(text, sizeof text - 1, at, said);
+        for (int k = 0; k < LOOKS; k++) says("a number that the header lists", said[k] == 0 || listed[k] >> wardrail_number(said[k]) & 1);
+        if (at < sizeof text && text[at] == 'e')
+            for (int k = 2; k < 4; k++) says("2 at an e", wardrail_number(said[k]) == 2 && wardrail_place(said[k]) == at);
+        look_at(more, sizeof more, at, said);
+        for (int k = 0; k < LOOKS; k++) says("8 before all", said[k] == 8);
+    }
+}
+
 int main(void) {
+    looks();
     any_bytes();
     tops();
     zeros();
     spares();
     sizes();
-    printf("%d calls on damaged tables, %d wrong\n", tried, wrong);
+    printf("%d calls on damaged tables and at any place, %d wrong\n", tried, wrong);
     return wrong != 0;
 }
