@@ -1,6 +1,6 @@
 // The bits of a row's byte: the piece with the smallest number stands highest.
 ghost use mathlib.Core.Path.{_≡_};
-ghost use Prim.Native.Nat.{_+_, _-_, _*_, _/_, _%_, _^_, min};
+ghost use Prim.Native.Nat.{_+_, _-_, _%_, _^_, min};
 ghost use Rattle.yard_tables.specs.Rows.{digit};
 
 // Whether piece p is in its byte.
@@ -18,12 +18,15 @@ pub fn mask(p: usize) -> u8
     high >> (p % 8)
 }
 
-// Where the byte of piece p ends, or all the pieces do.
+// Where the byte whose first piece is p ends, or all the pieces do. Its first test is every loop's own, which LLVM drops.
 pub fn end_of(p: usize, pieces: usize) -> usize
-    ensures { λ r. ⌜ r ≡ min (8 * (p / 8) + 8) pieces ⌝ }
+    ensures { λ r. ⌜ r ≡ min (p + 8) pieces ⌝ }
 {
-    if pieces / 8 <= p / 8 {
+    if pieces <= p {
         return pieces;
     }
-    8 * (p / 8) + 8
+    if pieces - p < 8 {
+        return pieces;
+    }
+    p + 8
 }

@@ -1,7 +1,7 @@
 -- Demand 1 of `yard_tables`: what the yard's calls share. Assumes nothing.
 use mathlib.Core.Bool.{Bool}
 use mathlib.Core.Path.{_≡_, sym, _∙_}
-use Prim.Native.Nat.{ℕ, _+_, _-_, _*_, _/_, _%_, _^_, min}
+use Prim.Native.Nat.{ℕ, _+_, _-_, _%_, _^_, min}
 use Rattle.refusal.specs.Paper.{taken}
 use Rattle.torrent_blocks.specs.declared.PieceNumber.{PieceNumber}
 use Rattle.torrent_blocks.specs.declared.PieceOffset.{PieceOffset}
@@ -48,7 +48,7 @@ mask-determined p r r′ e f = e ∙ sym f
 
 -- yard_tables::bits::end_of
 abbrev pub end-of-ensures : (p pieces : ℕ) → ℕ → Type 0
-end-of-ensures p pieces r = r ≡ min (8 * (p / 8) + 8) pieces
+end-of-ensures p pieces r = r ≡ min (p + 8) pieces
 
 pub end-of-determined : (p pieces : ℕ) → Determined (end-of-ensures p pieces)
 end-of-determined p pieces r r′ e f = e ∙ sym f

@@ -21,7 +21,7 @@ check-byte-requires : tie.Need-check-byte-requires Inv-loop μ-loop
 check-byte-requires c κs = (omega arith, omega arith, omega (arith, c .before .before .before .before .before .before .pre .2), search needs, search needs, c .before .before .loop .inv .1 (c .before .loop-test .taken), omega arith, c .before .before .loop .inv .2)
 
 loop-again : tie.Need-loop-again Inv-loop μ-loop
-loop-again c = (search needs, (λ l. omega arith), c .check-byte .ensures)
+loop-again c = (search needs, (λ l. omega (arith, c .before .before .before .loop .inv .1 (c .before .before .loop-test .taken))), c .check-byte .ensures)
 
 returns : tie.Need-returns Inv-loop μ-loop
 returns c = let e : c .before .loop .p ≡ c .before .before .before .before .before .args .pieces = omega arith in c .before .loop .inv .2 ∙ ap (checked (c .before .before .before .before .before .args .rows .now) (c .before .before .before .before .before .args .at) (c .before .before .before .before .before .args .said .now) (c .before .before .before .before .before .args .holders .now) (c .before .before .before .before .before .args .top)) e

@@ -20,7 +20,7 @@ byte-zero-requires : tie.Need-byte-zero-requires Inv-loop μ-loop
 byte-zero-requires c κs = (omega arith, omega (arith, c .before .before .before .before .before .pre .1), search needs, search needs, c .before .before .loop .inv .1 (c .before .loop-test .taken), omega arith, c .before .before .loop .inv .2)
 
 loop-again : tie.Need-loop-again Inv-loop μ-loop
-loop-again c = (search needs, (λ l. omega arith), c .byte-zero .ensures)
+loop-again c = (search needs, (λ l. omega (arith, c .before .before .before .loop .inv .1 (c .before .before .loop-test .taken))), c .byte-zero .ensures)
 
 returns : tie.Need-returns Inv-loop μ-loop
 returns c = let e : c .before .loop .p ≡ c .before .before .before .before .args .pieces = omega arith in c .before .loop .inv .2 ∙ ap (someZero (c .before .before .before .before .args .rows .now) (c .before .before .before .before .args .at) (c .before .before .before .before .args .holders .now)) e
