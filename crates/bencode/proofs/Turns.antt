@@ -2,7 +2,7 @@
 use mathlib.Core.Path.{_≡_, refl, sym, ap, _∙_, subst}
 use mathlib.Core.Bool.{Bool, true, false, cond}
 use mathlib.Core.List.{List, [], _∷_}
-use Prim.Native.Nat.{ℕ, zero, suc, _+_, _-_, _<_, _≤_}
+use Prim.Native.Nat.{ℕ, zero, suc, _+_, _-_, _%_, _^_, _<_, _≤_}
 use native.Mathlib.Omega.{arith}
 use lib.Dec.{ltb, eqb}
 use lib.IntN.{ℤ}
@@ -23,7 +23,7 @@ use Rattle.bencode_scalar.proofs.Forms.{at-head, at-byte}
 use Rattle.bencode_scalar.proofs.Sound.{Holds, At as Stood, at-left, IntP, integer-at-sound}
 use Rattle.bencode.specs.Value.{Value, Items, Entries, str, int, list, dict, item, entry, count, Prev, start, last, follows}
 use Rattle.bencode.specs.Decode.{Kind, digit, letterI, letterL, letterD, other, kindOf, begun, ranged, valueBy, closes, itemsOf, ordered, keyOf, entriesOf, valueFrom}
-use Rattle.bencode.specs.Answers.{stepOf, prevOf, keyIs}
+use Rattle.bencode.specs.Answers.{stepOf, prevOf, keyIs, told, inside}
 use Rattle.bencode.specs.declared.Cursor.{Cursor}
 use Rattle.bencode.specs.declared.Key.{Key}
 use Rattle.bencode.specs.declared.Found.{Found}
@@ -36,6 +36,26 @@ use Rattle.bencode.proofs.Complete.{encode-pos, kind-digit}
 pub step-map : {A B : Type 0} (f : A → B) (g : Got A) → stepOf (mapGot f g) ≡ stepOf g
 step-map f (got v l q m) = refl
 step-map f (bad r q) = refl
+
+-- a step told by a number and what is left in a cell
+pub told-past : (r n : ℕ) → r < 2 ^ 63 → told r n ≡ Past (record { at = r; count = n })
+unfolding told
+told-past r n h = rw (lt-ltb r (2 ^ 63) h)
+
+pub told-bad : (r n : ℕ) → 2 ^ 63 ≤ r → told r n ≡ Bad (record { number = r % 256; place = n })
+unfolding told
+told-bad r n h = rw (le-ltb r (2 ^ 63) h)
+
+pub told-number : (r p : ℕ) → r < 256 → told (9223372036854775808 + r) p ≡ Bad (record { number = r; place = p })
+told-number r p h =
+    let e : (9223372036854775808 + r) % 256 ≡ r = omega arith in
+    told-bad (9223372036854775808 + r) p (omega arith) ∙ rw e
+
+pub told-on : {r n : ℕ} {t : Step} → r < 2 ^ 63 → told r n ≡ t → Past (record { at = r; count = n }) ≡ t
+told-on {r} {n} h e = sym (told-past r n h) ∙ e
+
+pub told-off : (r n : ℕ) {t u : Step} → 2 ^ 63 ≤ r → told r n ≡ t → ((b : Refusal) → Bad b ≡ t → Bad b ≡ u) → told r n ≡ u
+told-off r n h e f = told-bad r n h ∙ f (record { number = r % 256; place = n }) (sym (told-bad r n h) ∙ e)
 
 -- what was read at p, as the code's answer tells it
 pub record Read (s : List ℕ) (d p n : ℕ) (c : Cursor) (g : Got Value) : Type 0 where
@@ -56,6 +76,16 @@ past-by s d p n c (bad r q) e h = no-way (cc)
 
 pub past-got : (s : List ℕ) (d p n : ℕ) → p ≤ length s → (c : Cursor) → Past c ≡ stepOf (valueFrom d (length s) (drop p s) p n) → Read s d p n c (valueFrom d (length s) (drop p s) p n)
 past-got s d p n h c e = past-by s d p n c (valueFrom d (length s) (drop p s) p n) e (value-sound d (length s) (drop p s) p n (omega (arith, length-drop p s)))
+
+inside-by : (s : List ℕ) (d p n : ℕ) → p ≤ length s → length s < 2 ^ 63 → (g : Got Value) → Holds (Took (drop p s) d p n) g → inside (stepOf g)
+inside-by s d p n h k (got v r q m) w =
+    let z : q + length r ≡ length s = at-left (w .at) (omega (arith, length-drop p s)) in
+    omega arith
+inside-by s d p n h k (bad r q) w = tt
+
+-- a value ends within the text, so that the number of its place is below 2 ^ 63
+pub value-inside : (s : List ℕ) (d p n : ℕ) → p ≤ length s → length s < 2 ^ 63 → (t : Step) → t ≡ stepOf (valueFrom d (length s) (drop p s) p n) → inside t
+value-inside s d p n h k t e = subst inside (sym e) (inside-by s d p n h k (valueFrom d (length s) (drop p s) p n) (value-sound d (length s) (drop p s) p n (omega (arith, length-drop p s))))
 
 pub bad-got : {A : Type 0} (g : Got A) (r : Refusal) → Bad r ≡ stepOf g → g ≡ bad (r .number) (r .place)
 bad-got (got v l p m) r e = no-way (cc)

@@ -1,9 +1,10 @@
 -- What the code's answers say in the paper's words. Assumes nothing: these are definitions.
 -- From `prevIs` on they serve inner contracts alone and need not be believed: the contracts of `check` and `value` speak of those before and of Decode.antt.
 use mathlib.Core.Path.{_≡_}
-use mathlib.Core.Bool.{Bool, true, false}
+use mathlib.Core.Bool.{Bool, true, false, cond}
 use mathlib.Core.List.{List}
-use Prim.Native.Nat.{ℕ, _+_, _<_, _≤_}
+use Prim.Native.Nat.{ℕ, _+_, _%_, _^_, _<_, _≤_}
+use lib.Dec.{ltb}
 use lib.ListN.{length, getD, take, drop}
 use Rattle.refusal.specs.Paper.{Outcome, taken, refusal, map}
 use Rattle.bencode_scalar.specs.Reading.{Got, got, bad}
@@ -43,6 +44,15 @@ prevOf s k = prevIs s (k .some) (k .from) (k .size)
 abbrev pub keyIs : List ℕ → ℕ → Found → Got (List ℕ)
 keyIs s n (At a m) = got (take m (drop a s)) (drop (a + m) s) (a + m) (n + 1)
 keyIs s n (Not r) = bad (r .number) (r .place)
+
+-- a step told by a number r and what is left in a cell n: the place past and the count, or a refusal's number over 2 ^ 63 and its place
+unfoldable pub told : ℕ → ℕ → Step
+told r n = cond (ltb r (2 ^ 63)) (Past (record { at = r; count = n })) (Bad (record { number = r % 256; place = n }))
+
+-- a place past that is told so
+abbrev pub inside : Step → Type 0
+inside (Past c) = c .at < 2 ^ 63
+inside (Bad r) = Unit
 
 -- a string's colon at c, with v bytes after it; r is past them
 pub record Held (s : List ℕ) (c v r : ℕ) : Type 0 where

@@ -2,12 +2,12 @@
 mod short;
 
 ghost use mathlib.Core.Path.{_≡_};
-ghost use Prim.Native.Nat.{suc, _+_, _<_, _≤_};
+ghost use Prim.Native.Nat.{suc, _+_, _^_, _<_, _≤_};
 ghost use lib.ListN.{length, take, drop};
 ghost use Rattle.bencode.specs.Value.{start, follows};
 ghost use Rattle.bencode.specs.Decode.{kindOf, begun, ranged, keyOf, itemsOf, entriesOf, valueFrom};
 ghost use Rattle.bencode_scalar.specs.Reading.{stringAt, integerAt};
-ghost use Rattle.bencode.specs.Answers.{paper, checkOf, stepOf, prevOf, keyIs};
+ghost use Rattle.bencode.specs.Answers.{paper, checkOf, stepOf, prevOf, keyIs, told, inside};
 ghost use Rattle.bencode.specs.Exact.{Exactly};
 use bencode_scalar::Int;
 use bencode_scalar::Text;
@@ -57,46 +57,49 @@ pub fn check(text: &[u8]) -> Checked
 pub fn value(text: &[u8], c: Cursor, levels: usize) -> Step
     ensures { λ r. ⌜ r ≡ stepOf (valueFrom levels (length (now (text .entry))) (drop (c .at) (now (text .entry))) (c .at) (c .count)) ⌝ }
 {
-    let at = c.at;
-    let count = c.count;
+    let mut cell = 0;
+    let end = inner(text, c.at, c.count, levels, &mut cell);
+    step_told(end, cell)
+}
+
+// The value that begins at `at`, after `count` others: the place past it, with the count left in `cell`; or 2^63 and a refusal's number, with its place there. A number stays in a register, where an enum goes through memory; no text has 2^63 bytes.
+fn inner(text: &[u8], at: usize, count: usize, levels: usize, cell: &mut usize) -> usize
+    ensures { λ r. ⌜ told r (now (cell .exit)) ≡ stepOf (valueFrom levels (length (now (text .entry))) (drop at (now (text .entry))) at count) ⌝ }
+{
     if text.len() <= at {
-        return bad(number::CUT, text.len());
+        return fail(cell, number::CUT, text.len());
     }
     let b = text[at];
     if begins(b) {
         if limit::VALUES <= count {
-            return bad(number::MANY, at);
+            return fail(cell, number::MANY, at);
         }
         if b == b'i' {
-            return integer(text, at, count + 1);
+            return tell(cell, integer(text, at, count + 1));
         }
         if bencode_scalar::digit(b) {
-            return string(text, at, count + 1);
+            return tell(cell, string(text, at, count + 1));
         }
         if levels == 0 {
-            return bad(number::DEEP, at);
+            return fail(cell, number::DEEP, at);
         }
-        let inside = Cursor {
-            at: at + 1,
-            count: count + 1,
-        };
         if b == b'l' {
-            return same(list(text, inside, levels - 1));
+            return list(text, at + 1, count + 1, levels - 1, cell);
         }
-        return same(dictionary(text, inside, levels - 1));
+        return dictionary(text, at + 1, count + 1, levels - 1, cell);
     }
-    bad(number::BYTE, at)
+    fail(cell, number::BYTE, at)
 }
 
-// The items of a list, and its e.
-fn list(text: &[u8], c: Cursor, levels: usize) -> Step
-    ensures { λ r. ⌜ r ≡ stepOf (itemsOf (suc (length (now (text .entry)))) (valueFrom levels (length (now (text .entry)))) (length (now (text .entry))) (drop (c .at) (now (text .entry))) (c .at) (c .count)) ⌝ }
+// The items of a list from `from` on, after `others` values, and its e.
+fn list(text: &[u8], from: usize, others: usize, levels: usize, cell: &mut usize) -> usize
+    ensures { λ r. ⌜ told r (now (cell .exit)) ≡ stepOf (itemsOf (suc (length (now (text .entry)))) (valueFrom levels (length (now (text .entry)))) (length (now (text .entry))) (drop from (now (text .entry))) from others) ⌝ }
 {
-    let mut at = c.at;
-    let mut count = c.count;
+    let mut at = from;
+    let mut count = others;
     while at < text.len() {
         if text[at] == b'e' {
-            return passed(at + 1, count);
+            return past(cell, at + 1, count);
         }
         if short::plain(text, at) {
             let end = short::leaf(text, at, count);
@@ -106,23 +109,22 @@ fn list(text: &[u8], c: Cursor, levels: usize) -> Step
                 continue;
             }
         }
-        match value(text, Cursor { at, count }, levels) {
-            Step::Past(next) => {
-                at = next.at;
-                count = next.count;
-            }
-            Step::Refused(r) => return Step::Refused(r),
+        let end = inner(text, at, count, levels, cell);
+        if 9223372036854775808 <= end {
+            return end;
         }
+        at = end;
+        count = *cell;
     }
-    bad(number::CUT, text.len())
+    fail(cell, number::CUT, text.len())
 }
 
-// The entries of a dictionary, and its e.
-fn dictionary(text: &[u8], c: Cursor, levels: usize) -> Step
-    ensures { λ r. ⌜ r ≡ stepOf (entriesOf (suc (length (now (text .entry)))) (valueFrom levels (length (now (text .entry)))) (length (now (text .entry))) start (drop (c .at) (now (text .entry))) (c .at) (c .count)) ⌝ }
+// The entries of a dictionary from `from` on, after `others` values, and its e.
+fn dictionary(text: &[u8], from: usize, others: usize, levels: usize, cell: &mut usize) -> usize
+    ensures { λ r. ⌜ told r (now (cell .exit)) ≡ stepOf (entriesOf (suc (length (now (text .entry)))) (valueFrom levels (length (now (text .entry)))) (length (now (text .entry))) start (drop from (now (text .entry))) from others) ⌝ }
 {
-    let mut at = c.at;
-    let mut count = c.count;
+    let mut at = from;
+    let mut count = others;
     let mut before = Key {
         some: false,
         from: 0,
@@ -130,7 +132,7 @@ fn dictionary(text: &[u8], c: Cursor, levels: usize) -> Step
     };
     while at < text.len() {
         if text[at] == b'e' {
-            return passed(at + 1, count);
+            return past(cell, at + 1, count);
         }
         match next_key(text, at, count, before) {
             Found::At(from, size) => {
@@ -149,18 +151,17 @@ fn dictionary(text: &[u8], c: Cursor, levels: usize) -> Step
                         continue;
                     }
                 }
-                match value(text, Cursor { at, count }, levels) {
-                    Step::Past(next) => {
-                        at = next.at;
-                        count = next.count;
-                    }
-                    Step::Refused(r) => return Step::Refused(r),
+                let end = inner(text, at, count, levels, cell);
+                if 9223372036854775808 <= end {
+                    return end;
                 }
+                at = end;
+                count = *cell;
             }
-            Found::Refused(r) => return Step::Refused(r),
+            Found::Refused(r) => return fail(cell, r.number, r.place),
         }
     }
-    bad(number::CUT, text.len())
+    fail(cell, number::CUT, text.len())
 }
 
 // The key before in a dictionary, by its bytes in the text; `some` is false where there is none.
@@ -253,14 +254,38 @@ fn string(text: &[u8], at: usize, count: usize) -> Step
     }
 }
 
-// A step taken apart and put together: `value` then keeps its own answer in registers, where a copy of the whole would wait for its parts.
-fn same(s: Step) -> Step
-    ensures { λ r. ⌜ r ≡ s ⌝ }
+// A step as such a number, with the count or the refusal's place left in `cell`.
+fn tell(cell: &mut usize, s: Step) -> usize
+    ensures { λ r. ⌜ (inside s → told r (now (cell .exit)) ≡ s) ⌝ }
 {
     match s {
-        Step::Past(c) => passed(c.at, c.count),
-        Step::Refused(r) => bad(r.number, r.place),
+        Step::Past(c) => past(cell, c.at, c.count),
+        Step::Refused(r) => fail(cell, r.number, r.place),
     }
+}
+
+// The step that such a number tells, with what is left in the cell.
+fn step_told(end: usize, left: usize) -> Step
+    ensures { λ r. ⌜ r ≡ told end left ⌝ }
+{
+    if end < 9223372036854775808 {
+        return passed(end, left);
+    }
+    bad((end % 256) as u8, left)
+}
+
+fn past(cell: &mut usize, at: usize, count: usize) -> usize
+    ensures { λ r. ⌜ (at < 2 ^ 63 → told r (now (cell .exit)) ≡ Step.Past (record { at = at; count = count })) ⌝ }
+{
+    *cell = count;
+    at
+}
+
+fn fail(cell: &mut usize, number: u8, place: usize) -> usize
+    ensures { λ r. ⌜ told r (now (cell .exit)) ≡ Step.Refused (record { number = number; place = place }) ⌝ }
+{
+    *cell = place;
+    9223372036854775808 + number as usize
 }
 
 // Whether a value can begin with this byte.
