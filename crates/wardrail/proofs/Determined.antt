@@ -5,12 +5,17 @@ use mathlib.Core.List.{List}
 use Prim.Native.Nat.{ℕ}
 use Rattle.refusal.specs.Paper.{Outcome, Left}
 use Rattle.hash_sha1.specs.declared.stream.Stream.{Stream}
+use Rattle.sheets.specs.Reading.{Answered}
 use Rattle.wardrail.specs.Said.{Tells}
+use Rattle.wardrail.specs.Addresses.{TellsOf}
 use Rattle.wardrail.specs.Hashing.{wordsOf, stateOf, Digested}
 use Rattle.wardrail.specs.Writers.{Wrote}
 
 pub tells-determined : {D : Type 0} {x : Outcome D} {was d d′ : D} {r t : ℕ} → Tells x was r d → Tells x was t d′ → (r ≡ t) × (d ≡ d′)
 tells-determined e f = (e .word ∙ sym (f .word), e .left ∙ sym (f .left))
+
+pub tells-of-determined : {x : Answered} {was d d′ : List ℕ} {r t : ℕ} → TellsOf x was r d → TellsOf x was t d′ → (r ≡ t) × (d ≡ d′)
+tells-of-determined e f = (e .word ∙ sym (f .word), e .left ∙ sym (f .left))
 
 -- of a call with lent output: the word, the output and the detail
 pub wrote-determined : {l : Left ℕ} {was r t d d′ : ℕ} {o o′ : List ℕ} → Wrote l was r d o → Wrote l was t d′ o′ → (r ≡ t) × (o ≡ o′) × (d ≡ d′)

@@ -2,7 +2,8 @@
 use mathlib.Core.Path.{_≡_, refl, sym, ap, _∙_}
 use mathlib.Core.List.{List}
 use Prim.Native.Nat.{ℕ}
-use Rattle.refusal.specs.Paper.{Outcome, taken, refused, Left, left}
+use Rattle.refusal.specs.Paper.{Outcome, taken, refused, map, Left, left}
+use Rattle.refusal.specs.declared.Part.{Part}
 use Rattle.torrent_blocks.specs.Spans.{joinedFiles}
 use Rattle.torrent_blocks.specs.Answers.{spot, blockOf, partsWritten}
 use Rattle.torrent_blocks.specs.declared.Parts.the-variants.{Refused as Unlaid}
@@ -16,7 +17,11 @@ use Rattle.tracker.specs.Writing.{writeOf as replyTextOf}
 use Rattle.tracker.proofs.Rewriting.{refusal-keeps as reply-keeps}
 use Rattle.torrent_authoring.specs.Writing.{Fields, writeOf as torrentTextOf}
 use Rattle.torrent_authoring.proofs.Written.{refusal-keeps as torrent-keeps}
+use Rattle.sheets.specs.declared.Source.{Source}
+use Rattle.sheets.specs.declared.Source.the-variants.{Torrent, Sheet}
+use Rattle.sheets.specs.Reading.{Answered}
 use Rattle.wardrail.specs.Said.{wordOf, leftOf, Tells}
+use Rattle.wardrail.specs.Addresses.{wordFrom, addressDetail, TellsOf}
 use Rattle.wardrail.specs.Writers.{Wrote}
 
 -- a word other than 0 is a refusal's
@@ -30,6 +35,14 @@ tells-keeps {D} {x} {was} {d} {r} e k = go x (e .word) (e .left)
     go : (y : Outcome D) → r ≡ wordOf y → d ≡ leftOf y was → d ≡ was
     go (taken v) f g = absurd (k f)
     go (refused n p) f g = g
+
+pub tells-of-keeps : {x : Answered} {was d : List ℕ} {r : ℕ} → TellsOf x was r d → (r ≡ 0 → ⊥) → d ≡ was
+tells-of-keeps {x} {was} {d} {r} e k = go (x .source) (x .what) (e .word) (e .left)
+  where
+    go : (c : Source) (y : Outcome Part) → r ≡ wordFrom c y → d ≡ leftOf (map (addressDetail c) y) was → d ≡ was
+    go Torrent (taken v) f g = absurd (k f)
+    go Sheet (taken v) f g = absurd (k f)
+    go c (refused n p) f g = g
 
 -- ---- output: l leaves o where its answer is a refusal
 

@@ -3,6 +3,7 @@ pub mod Said
 pub mod Looks
 pub mod Replies
 pub mod Torrents
+pub mod Addresses
 pub mod Mapping
 pub mod Frames
 pub mod Files

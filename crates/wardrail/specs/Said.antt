@@ -13,7 +13,11 @@ abbrev pub numberIn : ℕ → ℕ
 numberIn w = w % 256
 
 abbrev pub placeIn : ℕ → ℕ
-placeIn w = w / 256
+placeIn w = w / 256 % 2 ^ 55
+
+-- wardrail_refused_text there, by the top bit: 1 for the first of two texts, 2 for the second
+abbrev pub textIn : ℕ → ℕ
+textIn w = 1 + w / 2 ^ 63
 
 -- what was lent for the rest of the answer, `was` before: what is taken, and after a refusal still what it was
 abbrev pub leftOf : {D : Type 0} → Outcome D → D → D

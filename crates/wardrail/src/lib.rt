@@ -9,6 +9,7 @@ use crate::row::one;
 use crate::row::word;
 use bencode::Checked;
 
+mod addresses;
 mod files;
 mod frames;
 mod hashing;

@@ -12,6 +12,13 @@ pub fn word(r: Refusal) -> u64
     r.number as u64 + 256 * (r.place as u64 % 72057594037927936)
 }
 
+// The word of a refusal of a sheet, which is passed beside a torrent: its place in 55 bits, and the top bit set.
+pub fn sheet_word(r: Refusal) -> u64
+    ensures { λ w. ⌜ w ≡ r .number + 256 * (r .place % 2 ^ 55) + 2 ^ 63 ⌝ }
+{
+    r.number as u64 + 256 * (r.place as u64 % 36028797018963968) + 9223372036854775808
+}
+
 // One number.
 pub fn one(detail: &mut u64, a: u64) -> u64
     ensures { λ r. ⌜ r ≡ 0 ⌝ }
