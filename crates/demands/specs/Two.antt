@@ -89,6 +89,10 @@ use Rattle.tracker.specs.declared.Reply.{Reply}
 use Rattle.tracker.specs.declared.Found as peer
 use Rattle.tracker.proofs.Numbering.{entries-said}
 use Rattle.tracker.proofs.Walking.{walked}
+use Rattle.sheets.specs.Sheet.{IsSheet, addressOf}
+use Rattle.sheets.specs.Reading.{Answered, of, told, sourceIn, chosen, partIn, findOf, paper as addressPaper}
+use Rattle.sheets.specs.declared.Found as address
+use Rattle.sheets.specs.declared.Source.the-variants.{Torrent as OfTorrent, Sheet as OfSheet}
 use Rattle.demands_laws.specs.Texts.{Encodes, noFile, IsPiece, Agrees}
 use Rattle.demands_laws.specs.Places.{PartUnder, FilesPlaced, ReplyPlaced}
 use Rattle.demands_laws.proofs.Refusals.{same-answer, some-answer}
@@ -101,6 +105,7 @@ use Rattle.demands_laws.proofs.Rewriting as rewriting
 use Rattle.demands_laws.proofs.Pieces as pieces
 use Rattle.demands_laws.proofs.Blocks as blocks-laws
 use Rattle.demands_laws.proofs.Paths as paths
+use Rattle.demands_laws.proofs.Sheets as sheets-laws
 use Rattle.demands.specs.One.{Lent, Ref, now, before, after}
 use Rattle.demands.specs.One.Alike.{Frames, as-framed, asked}
 use Rattle.demands.specs.One.Doors.Bencode as bencode
@@ -110,6 +115,7 @@ use Rattle.demands.specs.One.Doors.Contents as contents
 use Rattle.demands.specs.One.Doors.Authoring as authoring
 use Rattle.demands.specs.One.Doors.Tracker as tracker
 use Rattle.demands.specs.One.Doors.TrackerWriting as replies
+use Rattle.demands.specs.One.Doors.Sheets as sheets
 use Rattle.demands.specs.One.Doors.Blocks as blocks
 use Rattle.demands.specs.One.Doors.Wire as wire
 use Rattle.demands.specs.One.Doors.WireWriting as writing
@@ -277,6 +283,38 @@ module _ (text : Lent (List ℕ)) (r : Reply) (c : tracker.read-ensures text r) 
   pub reply-places : (x : Answer ℕ) → replyPaper r ≡ taken x → (es : Entries) → Encodes (before text) (dict es)
       → (y : Answer (List PeerEntry)) × (x ≡ counted y) × ReplyPlaced es y × ((n : ℕ) (f : peer.Found) → tracker.peer-ensures text n f → peerPaper f ≡ nthOf n y)
   reply-places x p es e = let (y, d, z) = texts.replied (before text) c x p in (y, z, places.reply-placed (before text) es e y d, λ n f g. g ∙ texts.entry-of (before text) y d n)
+
+-- ---- Change request 1: "For a torrent and a sheet, give back the address as the part of the sheet if the hash stands there, else as the torrent's announce part. The sheet is checked in full
+-- either way, after the torrent."
+
+-- of sheets::find
+module _ (torrent sheet : Lent (List ℕ)) (r : address.Found) (c : sheets.find-ensures torrent sheet r) where
+  -- taken exactly when the one text is the encoding of a torrent and the other that of a sheet, and both keep the limits
+  pub sheet-exact : ((p : Part) × (addressPaper r ≡ taken p)) ↔ (((v : Value) × (t : TorrentSays) × Encodes (before torrent) v × IsTorrent v t) × ((w : Value) × Encodes (before sheet) w × IsSheet w))
+  sheet-exact = Iff·trans (some-answer (ap (λ (x : Answered). x .what) c)) (sheets-laws.exact (before torrent) (before sheet))
+
+  module _ (v : Value) (t : TorrentSays) (e : Encodes (before torrent) v) (i : IsTorrent v t) where
+    -- and the bytes of the part are the address by the two values
+    pub address-right : (w : Value) → Encodes (before sheet) w → IsSheet w
+        → (p : Part) × (bs : List ℕ) × (addressOf v w ≡ str bs) × (addressPaper r ≡ taken p) × (bytesAt (chosen (sourceIn r) (before torrent) (before sheet)) p ≡ bs)
+    address-right w n j =
+        let (p, bs, a, h, b) = sheets-laws.right (before torrent) (before sheet) v t e i w n j in
+        (p, bs, a, ap (λ (x : Answered). x .what) c ∙ h, ap (λ (x : Answered). bytesAt (chosen (x .source) (before torrent) (before sheet)) p) c ∙ b)
+
+    -- where they stand: in the sheet under the info hash, or else in the torrent under announce
+    module _ (es : Entries) (n : Encodes (before sheet) (dict es)) (j : IsSheet (dict es)) where
+      pub address-listed : (bs : List ℕ) → Has es (sha1 (encode (dict (t .info)))) (str bs) → (p : Part) × (told r ≡ of OfSheet (taken p)) × PartUnder 1 es (sha1 (encode (dict (t .info)))) p
+      address-listed bs h = let (p, a, b) = sheets-laws.placed-listed (before torrent) (before sheet) v t e i es n j bs h in (p, c ∙ a, b)
+
+      pub address-unlisted : (ts : Entries) → v ≡ dict ts → ((w : Value) → Has es (sha1 (encode (dict (t .info)))) w → ⊥) → (p : Part) × (told r ≡ of OfTorrent (taken p)) × PartUnder 1 ts announceKey p
+      address-unlisted ts f h = let (p, a, b) = sheets-laws.placed-unlisted (before torrent) (before sheet) v t e i es n j ts f h in (p, c ∙ a, b)
+
+-- of sheets::address: those very bytes, of which its contract says where they lie
+pub address-said : (torrent sheet : Lent (List ℕ)) (r : Ref (List ℕ)) → sheets.address-ensures torrent sheet r → (v : Value) (t : TorrentSays) → Encodes (before torrent) v → IsTorrent v t
+    → (w : Value) → Encodes (before sheet) w → IsSheet w → (bs : List ℕ) × (addressOf v w ≡ str bs) × (now r ≡ bs)
+address-said torrent sheet r c v t e i w n j =
+    let (p, bs, a, h, b) = sheets-laws.right (before torrent) (before sheet) v t e i w n j in
+    (bs, a, c .0 ∙ ap (λ o. bytesAt (chosen (findOf (before torrent) (before sheet) .source) (before torrent) (before sheet)) (partIn o)) h ∙ b)
 
 -- ---- 7. "What is written reads back": "Reading gives the fields back; rewriting a read text that has only those keys [..] gives its bytes."
 

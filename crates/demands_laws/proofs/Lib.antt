@@ -14,6 +14,7 @@ pub mod Pieces
 pub mod Files
 pub mod Places
 pub mod Paths
+pub mod Sheets
 pub mod Rewriting
 pub mod Keeping
 pub mod Reasons

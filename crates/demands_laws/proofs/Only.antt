@@ -1,6 +1,6 @@
 -- The number of a refusal is one of a list, call by call. Assumes nothing.
 use mathlib.Core.Path.{_≡_, refl}
-use mathlib.Core.Logic.{inl, inr, ⊎-elim}
+use mathlib.Core.Logic.{_⊎_, inl, inr, ⊎-elim}
 use mathlib.Core.List.{List, [], _∷_, _++_, List·Memᴰ·head, List·Memᴰ·tail, Memᴰ·append-left, Memᴰ·append-right, List·Memᴰ as In}
 use Prim.Native.Nat.{ℕ, zero, suc, _+_, _≤_, _<_}
 use native.Mathlib.Omega.{arith}
@@ -22,11 +22,14 @@ use Rattle.torrent_authoring.specs.Rules as rules
 use Rattle.torrent_laws.proofs.Laws as torrents
 use Rattle.torrent_contents.specs.Pieces.{hashIn, hashOf, checkOf as pieceOf}
 use Rattle.torrent_contents.specs.Files as file
+use Rattle.sheets.specs.Reading.{of, findOf}
+use Rattle.sheets.specs.declared.Source.the-variants.{Torrent as OfTorrent, Sheet as OfSheet}
 use Rattle.refusal.proofs.Cases.{same-or}
 use Rattle.demands_laws.proofs.Refusals.{map-refused, then-refused}
 use Rattle.demands_laws.specs.Causes.{NoReplyText, Unchecked, no-such-piece, long-piece, wrong-length, Unsized, broken, over}
 use Rattle.demands_laws.proofs.Contents.{in-hash, check-exactly, file-alike}
 use Rattle.demands_laws.proofs.Replies.{peer-alike, reply-law, reply-ours}
+use Rattle.demands_laws.proofs.Sheets.{of-torrent, sheet-only}
 
 abbrev ofBencode : List ℕ
 ofBencode = 1 ∷ 2 ∷ 3 ∷ 4 ∷ 5 ∷ 6 ∷ 7 ∷ 8 ∷ []
@@ -68,6 +71,16 @@ reply s k p e = ⊎-elim
     (λ (h : decode s ≡ refused k p). Memᴰ·append-left (10 ∷ 11 ∷ 15 ∷ []) (decoded s k p h))
     (λ (h : NoReplyText s k p). Memᴰ·append-right ofBencode (reply-ours (h .0) k p (h .2)))
     (reply-law s k p .0 e)
+
+-- of a torrent beside a sheet, and of the sheet
+pub torrent-beside : (t s : List ℕ) (k p : ℕ) → findOf t s ≡ of OfTorrent (refused k p) → In k ofTorrent
+torrent-beside t s k p e = torrent t k p (of-torrent t s k p .0 e)
+
+pub sheet : (t s : List ℕ) (k p : ℕ) → findOf t s ≡ of OfSheet (refused k p) → In k (ofBencode ++ (10 ∷ 15 ∷ []))
+sheet t s k p e = ⊎-elim
+    (λ (h : (1 ≤ k) × (k ≤ 8)). Memᴰ·append-left (10 ∷ 15 ∷ []) (among-bencode k (h .0) (h .1)))
+    (λ (h : (k ≡ 10) ⊎ (k ≡ 15)). Memᴰ·append-right ofBencode (⊎-elim (λ (f : k ≡ 10). List·Memᴰ·head f) (λ (f : k ≡ 15). List·Memᴰ·tail (List·Memᴰ·head f)) h))
+    (sheet-only t s k p e)
 
 -- as another call, or 31
 beyond-or : (ns : List ℕ) (k : ℕ) → ((k ≡ 31 → ⊥) → In k ns) → In k (31 ∷ ns)

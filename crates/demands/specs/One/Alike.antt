@@ -1,11 +1,11 @@
 -- Calls that a statement speaks of at once, each by its own contract, and what their contracts have in common. Assumes nothing.
-use mathlib.Core.Path.{_≡_}
+use mathlib.Core.Path.{_≡_, sym, ap, _∙_}
 use mathlib.Core.Logic.{_↔_, Iff·trans}
 use mathlib.Core.Bool.{Bool}
 use mathlib.Core.List.{List, [], _∷_}
 use Prim.Native.Nat.{ℕ, _≤_}
 use lib.IntN.{ℤ}
-use Rattle.refusal.specs.Paper.{Outcome, refused, left}
+use Rattle.refusal.specs.Paper.{Outcome, taken, refused, left}
 use Rattle.refusal.specs.declared.Part.{Part}
 use Rattle.bencode_scalar.specs.Written.{decimal, writtenString, writtenInt}
 use Rattle.bencode.specs.Decode.{decode}
@@ -33,16 +33,21 @@ use Rattle.tracker.specs.Reply.{Answer}
 use Rattle.tracker.specs.Reading.{peerPaper, paper as replyPaper}
 use Rattle.tracker.specs.declared.Reply.{Reply}
 use Rattle.tracker.specs.declared.Found as peer
+use Rattle.sheets.specs.declared.Found as address
+use Rattle.sheets.specs.declared.Source.the-variants.{Torrent as OfTorrent, Sheet as OfSheet}
+use Rattle.sheets.specs.Reading.{told, about}
 use Rattle.peer_wire.specs.Frames.{writeOf}
 use Rattle.peer_wire.specs.Handshake.{handshake, zeros}
 use Rattle.peer_wire.specs.Message.{body, encode, keepalive, have, bitfield, request, piece, cancel}
 use Rattle.demands_laws.proofs.Refusals.{same-answer, left-answer}
 use Rattle.demands_laws.proofs.Readers as readers
+use Rattle.demands_laws.proofs.Sheets as sheets-laws
 use Rattle.demands.specs.One.{Lent, before, after}
 use Rattle.demands.specs.One.Doors.Bencode as bencode
 use Rattle.demands.specs.One.Doors.Metainfo as metainfo
 use Rattle.demands.specs.One.Doors.Contents as contents
 use Rattle.demands.specs.One.Doors.Tracker as tracker
+use Rattle.demands.specs.One.Doors.Sheets as sheets
 use Rattle.demands.specs.One.Doors.Lines as lines
 use Rattle.demands.specs.One.Doors.WireWriting as writing
 use Rattle.demands.specs.One.Inner.Writer as writer
@@ -63,6 +68,9 @@ pub data Reader (text : Lent (List ℕ)) : Type 0 where
   piece-check : (n : PieceNumber) (bytes : Lent (List ℕ)) (r : piece.Checked) → contents.check-piece-ensures text n bytes r → Reader text
   reply : (r : Reply) → tracker.read-ensures text r → Reader text
   a-peer : (n : ℕ) (r : peer.Found) → tracker.peer-ensures text n r → Reader text
+  -- the torrent of a sheet's call, and the sheet, which is read once the torrent is taken
+  beside-a-sheet : (sheet : Lent (List ℕ)) (r : address.Found) → sheets.find-ensures text sheet r → Reader text
+  a-sheet : (torrent : Lent (List ℕ)) (q : Reading) (t : Torrent) → metainfo.read-ensures torrent q → torrentPaper q ≡ taken t → (r : address.Found) → sheets.find-ensures torrent text r → Reader text
 
 -- what each hands back
 abbrev pub Handed : {text : Lent (List ℕ)} → Reader text → Type 0
@@ -74,8 +82,10 @@ Handed (piece-hash n r c) = Part
 Handed (piece-check n bytes r c) = Bool
 Handed (reply r c) = Answer ℕ
 Handed (a-peer n r c) = PeerEntry
+Handed (beside-a-sheet other r c) = Unit {0}
+Handed (a-sheet other q t d e r c) = Unit {0}
 
--- its answer
+-- its answer; of two texts what it says of this one
 abbrev pub answerOf : {text : Lent (List ℕ)} → (r : Reader text) → Outcome (Handed r)
 answerOf (check r c) = countPaper r
 answerOf (torrent r c) = torrentPaper r
@@ -85,6 +95,8 @@ answerOf (piece-hash n r c) = pieceHashPaper r
 answerOf (piece-check n bytes r c) = checkPaper r
 answerOf (reply r c) = replyPaper r
 answerOf (a-peer n r c) = peerPaper r
+answerOf (beside-a-sheet other r c) = about OfTorrent (told r)
+answerOf (a-sheet other q t d e r c) = about OfSheet (told r)
 
 -- they refuse by 1 to 7 as bencode does
 pub as-decoded : (text : Lent (List ℕ)) (r : Reader text) (k p : ℕ) → k ≤ 7 → answerOf r ≡ refused k p ↔ decode (before text) ≡ refused k p
@@ -96,6 +108,8 @@ as-decoded text (piece-hash n r c) k p l = Iff·trans (same-answer c) (readers.p
 as-decoded text (piece-check n bytes r c) k p l = Iff·trans (same-answer c) (readers.piece-check (n .0) (before bytes) (before text) k p l)
 as-decoded text (reply r c) k p l = Iff·trans (same-answer c) (readers.reply (before text) k p l)
 as-decoded text (a-peer n r c) k p l = Iff·trans (same-answer c) (readers.peer n (before text) k p l)
+as-decoded text (beside-a-sheet other r c) k p l = Iff·trans (same-answer (ap (about OfTorrent) c)) (sheets-laws.torrent-read (before text) (before other) k p l)
+as-decoded text (a-sheet other q t d e r c) k p l = Iff·trans (same-answer (ap (about OfSheet) c)) (sheets-laws.sheet-read (before other) (before text) t (sym d ∙ e) k p l)
 
 -- ---- calls that write a frame
 

@@ -7,6 +7,7 @@ pub mod Authoring
 pub mod Lines
 pub mod Tracker
 pub mod TrackerWriting
+pub mod Sheets
 pub mod Blocks
 pub mod Wire
 pub mod WireWriting

@@ -1,10 +1,10 @@
 -- Statement 4 of demand 1: "Given exactly when". Each number of document 01's table in its order: under the table's line, call by call, that the number
 -- is given at a place exactly when its cause holds there, by every answer r that the contract of the call permits. A cause says that the checks before it are
 -- passed. The causes: bencode_laws/specs/Causes (1 to 7), torrent_laws/specs/Causes and tracker/specs/Causes (10 to 15), torrent_blocks/specs/Covers,
--- peer_wire/specs/Causes (20 to 23, wait), torrent_authoring/specs/Rules and tracker/specs/Faults (the writers), yard_laws/specs/Causes and Damage (the yard's
+-- sheets/specs/Causes (10 and 15 of a sheet), peer_wire/specs/Causes (20 to 23, wait), torrent_authoring/specs/Rules and tracker/specs/Faults (the writers), yard_laws/specs/Causes and Damage (the yard's
 -- words), and demands_laws/specs/Causes. Of the yard r is the number that C gets: `Permits t c r z` is the contract of the call c on the tables t, and `Made lent h
 -- (found t)` says that the tables `lent`, started and then called any way, have become these, and h is what happened (Program.antt). Assumes nothing.
-use mathlib.Core.Path.{_≡_, sym}
+use mathlib.Core.Path.{_≡_, sym, _∙_}
 use mathlib.Core.Logic.{_⊎_, _↔_, Iff·trans}
 use mathlib.Core.Bool.{true, false}
 use mathlib.Core.List.{List}
@@ -48,6 +48,10 @@ use Rattle.tracker.specs.Reading.{entriesIn, peerPaper, paper as replyPaper}
 use Rattle.tracker.specs.Faults.{NotWritten}
 use Rattle.tracker.specs.declared.Reply.{Reply}
 use Rattle.tracker.specs.declared.Found as peer
+use Rattle.sheets.specs.Causes.{NoSheetText}
+use Rattle.sheets.specs.Reading.{of, told}
+use Rattle.sheets.specs.declared.Source.the-variants.{Torrent as OfTorrent, Sheet as OfSheet}
+use Rattle.sheets.specs.declared.Found as address
 use Rattle.torrent_metainfo.specs.Reading.{paper as torrentPaper}
 use Rattle.torrent_metainfo.specs.declared.Reading.{Reading}
 use Rattle.torrent_metainfo.specs.declared.Torrent.{Torrent}
@@ -76,6 +80,7 @@ use Rattle.demands_laws.proofs.Readers.{decode-8}
 use Rattle.demands_laws.proofs.Numbered.{number-given, number-never, number-waits}
 use Rattle.demands_laws.proofs.Reasons.{At}
 use Rattle.demands_laws.proofs.Replies as replies-laws
+use Rattle.demands_laws.proofs.Sheets as sheets-laws
 use Rattle.demands_laws.proofs.Contents as contents-laws
 use Rattle.demands_laws.proofs.Digests as digests
 use Rattle.demands_laws.proofs.Frames as framing
@@ -92,6 +97,7 @@ use Rattle.demands.specs.One.Doors.Contents as contents
 use Rattle.demands.specs.One.Doors.Authoring as authoring
 use Rattle.demands.specs.One.Doors.Tracker as tracker
 use Rattle.demands.specs.One.Doors.TrackerWriting as replies
+use Rattle.demands.specs.One.Doors.Sheets as sheets
 use Rattle.demands.specs.One.Doors.Blocks as blocks
 use Rattle.demands.specs.One.Doors.Wire as wire
 use Rattle.demands.specs.One.Doors.Sha1 as sha1
@@ -103,7 +109,8 @@ yard-given lent h t m c r z e number a b = number-given (permits-step t c r z e 
 
 -- ---- calls that refuse as another does: each number below is then given as by that one
 -- 1 to 7 are said of all of them at once: `answerOf r` is the answer of any call r that reads the text as bencode first (Alike.antt): bencode::check,
--- torrent_metainfo::read and info_hash, torrent_contents::file, piece_hash and check_piece, tracker::read and peer
+-- torrent_metainfo::read and info_hash, torrent_contents::file, piece_hash and check_piece, tracker::read and peer, and sheets::find of each of its texts, of the
+-- sheet once the torrent is taken
 
 -- `torrent_metainfo::info_hash` as `torrent_metainfo::read`
 pub info-hash-alike : (text : Lent (List ℕ)) (r : Hashed) (out : Lent (List ℕ)) → metainfo.info-hash-ensures text r out → (q : Reading) → metainfo.read-ensures text q → (k p : ℕ) → hashPaper r ≡ refused k p ↔ torrentPaper q ≡ refused k p
@@ -124,6 +131,14 @@ piece-check-alike text n bytes r e q f k p = rw f (Iff·trans (same-answer e) (c
 -- `tracker::peer` as `tracker::read`, but for 31
 pub peer-alike : (text : Lent (List ℕ)) (n : ℕ) (r : peer.Found) → tracker.peer-ensures text n r → (q : Reply) → tracker.read-ensures text q → (k p : ℕ) → (k ≡ 31 → ⊥) → peerPaper r ≡ refused k p ↔ replyPaper q ≡ refused k p
 peer-alike text n r e q f k p l = Iff·trans (same-answer e) (Iff·trans (replies-laws.peer-alike (before text) n k p l) (same-answer (sym f)))
+
+-- `sheets::find`, of the torrent, as `torrent_metainfo::read`
+pub find-alike : (torrent sheet : Lent (List ℕ)) (r : address.Found) → sheets.find-ensures torrent sheet r → (q : Reading) → metainfo.read-ensures torrent q → (k p : ℕ) → told r ≡ of OfTorrent (refused k p) ↔ torrentPaper q ≡ refused k p
+find-alike torrent sheet r e q f k p = Iff·trans (same-answer e) (Iff·trans (sheets-laws.of-torrent (before torrent) (before sheet) k p) (same-answer (sym f)))
+
+-- and of the sheet only where that takes the torrent
+pub sheet-after : (torrent sheet : Lent (List ℕ)) (r : address.Found) → sheets.find-ensures torrent sheet r → (q : Reading) → metainfo.read-ensures torrent q → (k p : ℕ) → told r ≡ of OfSheet (refused k p) → (t : Torrent) × (torrentPaper q ≡ taken t)
+sheet-after torrent sheet r e q f k p x = let (t, h) = sheets-laws.sheet-after (before torrent) (before sheet) k p (sym e ∙ x) in (t, f ∙ h)
 
 -- ---- 1: "the text ends where a byte is needed, or a string's length exceeds the bytes left after its colon; place: the text's length"
 
@@ -181,6 +196,10 @@ torrent-8 text r e p = Iff·trans (same-answer e) (torrents.long-law (before tex
 pub reply-8 : (text : Lent (List ℕ)) (r : Reply) → tracker.read-ensures text r → (p : ℕ) → replyPaper r ≡ refused 8 p ↔ ((mostText < length (before text)) × (p ≡ 0))
 reply-8 text r e p = Iff·trans (same-answer e) (Iff·trans (replies-laws.reply-bencode (before text) 8 p (omega arith)) (decode-8 (before text) p))
 
+-- given by sheets::find, of the sheet, once the torrent is taken
+pub sheet-8 : (torrent sheet : Lent (List ℕ)) (r : address.Found) → sheets.find-ensures torrent sheet r → (q : Reading) → metainfo.read-ensures torrent q → (t : Torrent) → torrentPaper q ≡ taken t → (p : ℕ) → told r ≡ of OfSheet (refused 8 p) ↔ ((mostText < length (before sheet)) × (p ≡ 0))
+sheet-8 torrent sheet r e q f t h p = Iff·trans (same-answer e) (sheets-laws.sheet-8 (before torrent) (before sheet) t (sym f ∙ h) p)
+
 -- given by hash_sha1::digest
 pub digest-8 : (message : Lent (List ℕ)) (r : Hashed) (out : Lent (List ℕ)) → sha1.digest-ensures message r out → (p : ℕ) → hashPaper r ≡ refused 8 p ↔ ((longestPiece < length (before message)) × (p ≡ 0))
 digest-8 message r out e p = Iff·trans (left-answer e) (given (digests.digest-exactly (before message) (before out) 8 p))
@@ -218,6 +237,10 @@ torrent-10 text r e p = Iff·trans (same-answer e) (torrents.kind-law (before te
 -- given by tracker::read
 pub reply-10 : (text : Lent (List ℕ)) (r : Reply) → tracker.read-ensures text r → (p : ℕ) → replyPaper r ≡ refused 10 p ↔ NoReplyText (before text) 10 p
 reply-10 text r e p = Iff·trans (same-answer e) (replies-laws.reply-own (before text) 10 p (omega arith))
+
+-- given by sheets::find, of the sheet, once the torrent is taken
+pub sheet-10 : (torrent sheet : Lent (List ℕ)) (r : address.Found) → sheets.find-ensures torrent sheet r → (q : Reading) → metainfo.read-ensures torrent q → (t : Torrent) → torrentPaper q ≡ taken t → (p : ℕ) → told r ≡ of OfSheet (refused 10 p) ↔ NoSheetText (before sheet) 10 p
+sheet-10 torrent sheet r e q f t h p = Iff·trans (same-answer e) (sheets-laws.sheet-10 (before torrent) (before sheet) t (sym f ∙ h) p)
 
 -- ---- 11: "number out of range; offset of the value"
 
@@ -290,6 +313,10 @@ reply-15 text r e p = Iff·trans (same-answer e) (replies-laws.reply-own (before
 -- given by tracker::writing::write
 pub reply-writer-15 : (interval : ℕ) (peers : Lent (List ℕ)) (r : Put) (out : Lent (List ℕ)) → replies.write-ensures interval peers r out → (p : ℕ) → putPaper r ≡ refused 15 p ↔ (NotWritten interval (before peers) (before out) 15 × (p ≡ 0))
 reply-writer-15 interval peers r out e p = Iff·trans (left-answer e) (writers.reply-written interval (before peers) (before out) 15 p)
+
+-- given by sheets::find, of the sheet, once the torrent is taken
+pub sheet-15 : (torrent sheet : Lent (List ℕ)) (r : address.Found) → sheets.find-ensures torrent sheet r → (q : Reading) → metainfo.read-ensures torrent q → (t : Torrent) → torrentPaper q ≡ taken t → (p : ℕ) → told r ≡ of OfSheet (refused 15 p) ↔ NoSheetText (before sheet) 15 p
+sheet-15 torrent sheet r e q f t h p = Iff·trans (same-answer e) (sheets-laws.sheet-15 (before torrent) (before sheet) t (sym f ∙ h) p)
 
 -- ---- 20: "frame length over 16,393"
 

@@ -31,6 +31,9 @@ use Rattle.peer_wire.proofs.Written.{write-exactly}
 use Rattle.tracker.specs.Reading.{peerPaper, paper as replyPaper}
 use Rattle.tracker.specs.declared.Reply.{Reply}
 use Rattle.tracker.specs.declared.Found as peer
+use Rattle.sheets.specs.Reading.{of, told}
+use Rattle.sheets.specs.declared.Source.the-variants.{Torrent as OfTorrent, Sheet as OfSheet}
+use Rattle.sheets.specs.declared.Found as address
 use Rattle.torrent_metainfo.specs.Reading.{paper as torrentPaper}
 use Rattle.torrent_metainfo.specs.declared.Reading.{Reading}
 use Rattle.torrent_authoring.specs.Writing.{paper as sizedPaper}
@@ -59,6 +62,7 @@ use Rattle.demands.specs.One.Doors.Contents as contents
 use Rattle.demands.specs.One.Doors.Authoring as authoring
 use Rattle.demands.specs.One.Doors.Tracker as tracker
 use Rattle.demands.specs.One.Doors.TrackerWriting as replies
+use Rattle.demands.specs.One.Doors.Sheets as sheets
 use Rattle.demands.specs.One.Doors.Blocks as blocks
 use Rattle.demands.specs.One.Doors.Wire as wire
 use Rattle.demands.specs.One.Doors.Sha1 as sha1
@@ -114,6 +118,14 @@ peer-no-other text n r e k p x = let d = sym e ∙ x in only.peer (before text) 
 -- of tracker::writing::write
 pub reply-writer-no-other : (interval : ℕ) (peers : Lent (List ℕ)) (r : Put) (out : Lent (List ℕ)) → replies.write-ensures interval peers r out → (k p : ℕ) → putPaper r ≡ refused k p → In k (8 ∷ 11 ∷ 15 ∷ 37 ∷ [])
 reply-writer-no-other interval peers r out e k p x = let d = left-answer e .0 x in only.reply-writer interval (before peers) (before out) k (writers.reply-written interval (before peers) (before out) k p .0 d .0)
+
+-- ---- sheets: "the sheet's 8, 1 to 7, then 10 for a top that is no dictionary, then entry by entry 15 for a key not of 20 bytes and 10 for an address that is no string"
+
+-- of sheets::find: the torrent's for the torrent, and these for the sheet
+pub find-no-other : (torrent sheet : Lent (List ℕ)) (r : address.Found) → sheets.find-ensures torrent sheet r → (k p : ℕ)
+    → (told r ≡ of OfTorrent (refused k p) → In k (1 ∷ 2 ∷ 3 ∷ 4 ∷ 5 ∷ 6 ∷ 7 ∷ 8 ∷ 10 ∷ 11 ∷ 12 ∷ 13 ∷ []))
+    × (told r ≡ of OfSheet (refused k p) → In k (1 ∷ 2 ∷ 3 ∷ 4 ∷ 5 ∷ 6 ∷ 7 ∷ 8 ∷ 10 ∷ 15 ∷ []))
+find-no-other torrent sheet r e k p = (λ x. only.torrent-beside (before torrent) (before sheet) k p (sym e ∙ x), λ x. only.sheet (before torrent) (before sheet) k p (sym e ∙ x))
 
 -- ---- digests: "piece to hash over 16,777,216"
 

@@ -3,6 +3,7 @@ use mathlib.Core.List.{List}
 use mathlib.Core.Path.{_≡_, sym, _∙_, refl}
 use Prim.Native.Nat.{ℕ, _<_, _^_}
 use Rattle.refusal.specs.Paper.{Outcome, refused, then, map}
+use Rattle.refusal.specs.declared.Part.{Part}
 use Rattle.bencode.specs.Answers.{checkOf}
 use Rattle.bencode_walk.specs.Walk.{lookOf}
 use Rattle.hash_sha1.specs.Digest.{digestOf}
@@ -11,11 +12,14 @@ use Rattle.tracker.specs.Entries.{listedAt, packedAt}
 use Rattle.tracker.specs.Reply.{replyOf, nthOf, counted}
 use Rattle.torrent_metainfo.specs.Hashes.{infoHashOf}
 use Rattle.torrent_metainfo.specs.Reading.{readOf}
+use Rattle.sheets.specs.declared.Source.{Source}
+use Rattle.sheets.specs.Reading.{findOf}
 use Rattle.wardrail.specs.Hashing.{stateOf, Holds, Digested}
 use Rattle.wardrail.specs.Looks.{lookDetail}
 use Rattle.wardrail.specs.Peers.{peerDetail}
 use Rattle.wardrail.specs.Replies.{replyDetail, entryDetail}
-use Rattle.wardrail.specs.Said.{wordOf, numberIn, placeIn, Tells}
+use Rattle.wardrail.specs.Said.{wordOf, numberIn, placeIn, textIn, Tells}
+use Rattle.wardrail.specs.Addresses.{wordFrom, textNumber, TellsOf}
 use Rattle.wardrail.specs.Torrents.{torrentDetail}
 use Rattle.wardrail.proofs.Determined as said
 use Rattle.wardrail.proofs.Keeping as kept
@@ -23,13 +27,24 @@ use Rattle.wardrail.proofs.Said as told
 use Rattle.demands_laws.proofs.Digests as digests
 use Rattle.demands.specs.One.{Lent, now, Determined1, Keeps1, Determined2}
 
--- ---- the word of a refusal gives its number back, and its place below 2^56
+-- ---- the word of a refusal gives its number back, and its place below 2^55
 
 pub word-number : {A : Type 0} (x : Outcome A) (n p : ℕ) → x ≡ refused n p → n < 256 → numberIn (wordOf x) ≡ n
 word-number x n p e h = told.number-told x n p e h
 
-pub word-place : {A : Type 0} (x : Outcome A) (n p : ℕ) → x ≡ refused n p → n < 256 → p < 2 ^ 56 → placeIn (wordOf x) ≡ p
+pub word-place : {A : Type 0} (x : Outcome A) (n p : ℕ) → x ≡ refused n p → n < 256 → p < 2 ^ 55 → placeIn (wordOf x) ≡ p
 word-place x n p e h k = told.place-told x n p e h k
+
+-- and so does that of a refusal of one of two texts, which tells the text too: 1 for the torrent, 2 for the sheet
+
+pub word-of-number : (c : Source) (x : Outcome Part) (n p : ℕ) → x ≡ refused n p → n < 256 → numberIn (wordFrom c x) ≡ n
+word-of-number c x n p e h = told.number-from c x n p e h
+
+pub word-of-place : (c : Source) (x : Outcome Part) (n p : ℕ) → x ≡ refused n p → n < 256 → p < 2 ^ 55 → placeIn (wordFrom c x) ≡ p
+word-of-place c x n p e h k = told.place-from c x n p e h k
+
+pub word-of-text : (c : Source) (x : Outcome Part) (n p : ℕ) → x ≡ refused n p → n < 256 → p < 2 ^ 55 → textIn (wordFrom c x) ≡ textNumber c
+word-of-text c x n p e h k = told.text-from c x n p e h k
 
 -- ---- the calls
 
@@ -54,6 +69,17 @@ look-determined text at detail r r′ detail₁ detail₂ e f = said.tells-deter
 
 pub look-keeps : (text : Lent (List ℕ)) (at : ℕ) → Keeps1 (look-ensures text at) (λ (r : ℕ). r ≡ 0 → ⊥)
 look-keeps text at r detail e k = kept.tells-keeps e k
+
+-- wardrail::addresses::wardrail_address
+abbrev pub address-ensures : (torrent sheet : Lent (List ℕ)) → ℕ → Lent (List ℕ) → Type 0
+address-ensures torrent sheet r detail =
+    TellsOf (findOf (now (torrent .entry)) (now (sheet .entry))) (now (detail .entry)) r (now (detail .exit))
+
+pub address-determined : (torrent sheet : Lent (List ℕ)) → Determined1 (address-ensures torrent sheet)
+address-determined torrent sheet detail r r′ detail₁ detail₂ e f = said.tells-of-determined e f
+
+pub address-keeps : (torrent sheet : Lent (List ℕ)) → Keeps1 (address-ensures torrent sheet) (λ (r : ℕ). r ≡ 0 → ⊥)
+address-keeps torrent sheet r detail e k = kept.tells-of-keeps e k
 
 -- wardrail::wardrail_sha1
 abbrev pub sha1-ensures : (message : Lent (List ℕ)) → ℕ → Lent (List ℕ) → Type 0
