@@ -1,5 +1,6 @@
 /* Yard calls on damaged tables, on tables of wrong sizes and on tables of any bytes, each answered as document 01 says; a refusal leaves
- * every byte as it was. And the looks at a place, at every place of a text. Prints how many were tried, or each that went wrong. */
+ * every byte as it was. And the looks at a place, at every place of a text; and the address for a torrent by a sheet, each of the two cut,
+ * changed at every place and too long. Prints how many were tried, or each that went wrong. */
 #include "wardrail_yard.h"
 
 #include <stdio.h>
@@ -336,6 +337,9 @@ static void any_bytes(void) {
 
 enum { LOOKS = 5 };
 
+/* a byte more than a text may have */
+static uint8_t more[1048577];
+
 static void look_at(const uint8_t *text, size_t count, size_t at, uint64_t said[LOOKS]) {
     struct wardrail_look look;
     struct wardrail_element_at element;
@@ -352,7 +356,6 @@ static void look_at(const uint8_t *text, size_t count, size_t at, uint64_t said[
 static void looks(void) {
     static const uint8_t text[] = "ld2:ip1:a7:peer id20:AAAAAAAAAAAAAAAAAAAA4:porti1eed6:lengthi1e4:pathl1:a2:..eee";
     static const unsigned listed[LOOKS] = {1 << 1 | 1 << 2, 1 << 1 | 1 << 2 | 1 << 10 | 1 << 13, 0x7e | 1 << 10 | 1 << 11 | 1 << 13, 0x7e | 1 << 10 | 1 << 11 | 1 << 15, 1 << 1};
-    static uint8_t more[1048577];
     uint64_t said[LOOKS];
     for (size_t at = 0; at <= sizeof text; at++) {
         look_at(text, sizeof text - 1, at, said);
@@ -364,13 +367,90 @@ static void looks(void) {
     }
 }
 
+/* ---- addresses: which of the two texts a refusal is of, and that it writes nothing */
+
+static const uint8_t torrent[] = "d8:announce1:u4:infod6:lengthi1e4:name1:n12:piece lengthi16384e6:pieces20:AAAAAAAAAAAAAAAAAAAAee";
+static const uint8_t sheet[] = "d20:AAAAAAAAAAAAAAAAAAAA1:a20:BBBBBBBBBBBBBBBBBBBB0:20:CCCCCCCCCCCCCCCCCCCC10:0123456789e";
+enum { TORRENT = sizeof torrent - 1, SHEET = sizeof sheet - 1, ANNOUNCE_AT = 13 };
+
+static uint64_t address_by(const uint8_t *t, size_t t_count, const uint8_t *s, size_t s_count, struct wardrail_address *address) {
+    struct wardrail_address lent = {7, {7, 7}};
+    *address = lent;
+    uint64_t r = wardrail_address(t, t_count, s, s_count, address);
+    says("a refused address writes nothing", !r || !memcmp(address, &lent, sizeof lent));
+    return r;
+}
+
+/* Of these two texts the address is refused: which is, by which number, and where. */
+static void refuses(const char *what, const uint8_t *t, size_t t_count, const uint8_t *s, size_t s_count, uint64_t text, uint64_t number, uint64_t place) {
+    struct wardrail_address address;
+    uint64_t r = address_by(t, t_count, s, s_count, &address);
+    says(what, r && wardrail_refused_text(r) == text && wardrail_number(r) == number && wardrail_place(r) == place);
+}
+
+/* The torrent with another byte, beside a bad sheet: refused as wardrail_torrent refuses it, and if it is taken then for the sheet. */
+static void torrent_changed(size_t at, uint8_t byte) {
+    uint8_t changed[sizeof torrent];
+    struct wardrail_torrent t;
+    struct wardrail_address address;
+    memcpy(changed, torrent, sizeof torrent);
+    changed[at] = byte;
+    uint64_t of_torrent = wardrail_torrent(changed, TORRENT, &t), r = address_by(changed, TORRENT, sheet, SHEET - 1, &address);
+    if (of_torrent) says("a torrent's refusal", r == of_torrent && wardrail_refused_text(r) == WARDRAIL_OF_TORRENT);
+    else says("then the sheet's", wardrail_number(r) == 1 && wardrail_place(r) == SHEET - 1 && wardrail_refused_text(r) == WARDRAIL_OF_SHEET);
+}
+
+/* The sheet with another byte: refused by the check of any text, or by 10 or 15, or the address is the announce. */
+static void sheet_changed(size_t at, uint8_t byte) {
+    uint8_t changed[sizeof sheet];
+    struct wardrail_address address;
+    uint64_t values;
+    memcpy(changed, sheet, sizeof sheet);
+    changed[at] = byte;
+    uint64_t r = address_by(torrent, TORRENT, changed, SHEET, &address), of_text = wardrail_check(changed, SHEET, &values);
+    if (r) {
+        bool own = of_text ? wardrail_number(r) == wardrail_number(of_text) && wardrail_place(r) == wardrail_place(of_text) : wardrail_number(r) == 10 || wardrail_number(r) == 15;
+        says("a sheet's refusal", own && wardrail_refused_text(r) == WARDRAIL_OF_SHEET);
+    } else says("the announce", !of_text && address.text == WARDRAIL_OF_TORRENT && address.part.from == ANNOUNCE_AT && address.part.len == 1);
+}
+
+static void addresses(void) {
+    static const struct {
+        const char *text;
+        uint64_t number, place;
+    } bad[] = {
+        {"le", 10, 0},
+        {"d20:AAAAAAAAAAAAAAAAAAAAlee", 10, 24},
+        {"d19:AAAAAAAAAAAAAAAAAAA0:e", 15, 1},
+        {"d20:AAAAAAAAAAAAAAAAAAAA0:21:AAAAAAAAAAAAAAAAAAAAA0:e", 15, 26},
+    };
+    static const char bytes[] = "0129:abeild-x";
+    struct wardrail_address address;
+    says("a sheet without the hash", address_by(torrent, TORRENT, sheet, SHEET, &address) == 0 && address.text == WARDRAIL_OF_TORRENT && address.part.from == ANNOUNCE_AT);
+    for (size_t cut = 0; cut < TORRENT; cut++) refuses("a torrent that is cut, beside a bad sheet", torrent, cut, sheet, 0, WARDRAIL_OF_TORRENT, 1, cut);
+    for (size_t cut = 0; cut < SHEET; cut++) refuses("a sheet that is cut", torrent, TORRENT, sheet, cut, WARDRAIL_OF_SHEET, 1, cut);
+    for (size_t k = 0; k < sizeof bad / sizeof *bad; k++) {
+        const uint8_t *text = (const uint8_t *)bad[k].text;
+        refuses("a value that is no sheet", torrent, TORRENT, text, strlen(bad[k].text), WARDRAIL_OF_SHEET, bad[k].number, bad[k].place);
+    }
+    refuses("a sheet too long", torrent, TORRENT, more, sizeof more, WARDRAIL_OF_SHEET, 8, 0);
+    refuses("a torrent too long", more, sizeof more, sheet, SHEET, WARDRAIL_OF_TORRENT, 8, 0);
+    refuses("both too long", more, sizeof more, more, sizeof more, WARDRAIL_OF_TORRENT, 8, 0);
+    refuses("a cut torrent beside a sheet too long", torrent, TORRENT - 1, more, sizeof more, WARDRAIL_OF_TORRENT, 1, TORRENT - 1);
+    for (size_t k = 0; k < sizeof bytes - 1; k++) {
+        for (size_t at = 0; at < TORRENT; at++) torrent_changed(at, (uint8_t)bytes[k]);
+        for (size_t at = 0; at < SHEET; at++) sheet_changed(at, (uint8_t)bytes[k]);
+    }
+}
+
 int main(void) {
     looks();
+    addresses();
     any_bytes();
     tops();
     zeros();
     spares();
     sizes();
-    printf("%d calls on damaged tables and at any place, %d wrong\n", tried, wrong);
+    printf("%d calls on damaged tables, at any place and by two texts, %d wrong\n", tried, wrong);
     return wrong != 0;
 }

@@ -413,6 +413,48 @@ static void entries_call(struct line *l) {
     }
 }
 
+/* Where a hash's address stands in a sheet that is taken, by walking over its rows: from 0, where none stands, if there is no such row. */
+static struct wardrail_part row_of(struct bytes sheet, const uint8_t hash[20]) {
+    struct wardrail_look key, address;
+    struct wardrail_part found = {0, 0};
+    for (uint64_t at = 1; at + 1 < sheet.count; at = address.next_at) {
+        agree(wardrail_look(LENT(sheet), at, &key) == 0 && wardrail_look(LENT(sheet), key.next_at, &address) == 0, "a sheet's row");
+        agree(key.seen == WARDRAIL_SEEN_STRING && key.bytes.len == 20 && address.seen == WARDRAIL_SEEN_STRING, "a sheet's row");
+        if (!memcmp(sheet.data + key.bytes.from, hash, 20)) found = address.bytes;
+    }
+    return found;
+}
+
+/* A refusal of the torrent is wardrail_torrent's own. One of the sheet is said to be the sheet's, and is wardrail_check's if that refuses it. */
+static void agree_refused(struct bytes torrent, struct bytes sheet, uint64_t r) {
+    struct wardrail_torrent t;
+    uint64_t count, of_torrent = wardrail_torrent(LENT(torrent), &t), of_sheet = wardrail_check(LENT(sheet), &count);
+    if (of_torrent) agree(r == of_torrent && wardrail_refused_text(r) == WARDRAIL_OF_TORRENT, "a torrent's refusal");
+    else if (of_sheet) agree(r == (of_sheet | 1ull << 63) && wardrail_refused_text(r) == WARDRAIL_OF_SHEET, "a sheet's refusal");
+    else if (r) agree((wardrail_number(r) == WARDRAIL_KIND || wardrail_number(r) == WARDRAIL_PEER) && wardrail_refused_text(r) == WARDRAIL_OF_SHEET, "a sheet's refusal");
+}
+
+static void address_call(struct line *l) {
+    struct bytes torrent = l->bytes[1], sheet = l->bytes[2];
+    struct wardrail_address a;
+    struct wardrail_torrent t;
+    uint8_t hash[20];
+    LEND(a);
+    uint64_t r = wardrail_address(LENT(torrent), LENT(sheet), &a);
+    agree_refused(torrent, sheet, r);
+    if (r) {
+        REFUSED(r, a);
+        return;
+    }
+    agree(wardrail_torrent(LENT(torrent), &t) == 0 && wardrail_info_hash(LENT(torrent), hash) == 0, "an address");
+    bool listed = a.text == WARDRAIL_OF_SHEET;
+    struct wardrail_part row = row_of(sheet, hash);
+    agree(listed ? row.from != 0 : a.text == WARDRAIL_OF_TORRENT && row.from == 0, "an address");
+    agree(same_part(a.part, listed ? row : t.announce), "an address");
+    printf(listed ? "sheet " : "torrent ");
+    part(listed ? sheet : torrent, a.part);
+}
+
 /* ---- digests */
 
 static void digest_said(uint64_t r, const uint8_t digest[20]) {
@@ -790,6 +832,7 @@ static const struct call {
     {"reply", 2, BYTES(1), false, reply_call},
     {"peer", 3, BYTES(1), false, peer_call},
     {"entries", 2, BYTES(1), false, entries_call},
+    {"address", 3, BYTES(1) | BYTES(2), false, address_call},
     {"sha1", 2, BYTES(1), false, sha1_call},
     {"sha1-parts", 3, BYTES(1), false, sha1_parts_call},
     {"block", 7, 0, false, block_call},

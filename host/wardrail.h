@@ -37,9 +37,10 @@ WARDRAIL_ASSERT(sizeof(size_t) == 8, "the library counts in 64 bits");
 #define WARDRAIL_ROW(name, count, last) \
     WARDRAIL_ASSERT(sizeof(struct name) == 8 * (count) && offsetof(struct name, last) == sizeof(struct name) - sizeof(((struct name *)0)->last), #name)
 
-/* The number of a refusal, and its place: of an offset that is passed, and that no text has, the lowest 56 bits. */
+/* The number of a refusal, and its place: of an offset that is passed, and that no text has, the lowest 55 bits, since the
+ * highest of the 64 tells which text wardrail_address refuses. */
 static inline uint64_t wardrail_number(uint64_t answer) { return answer & 255; }
-static inline uint64_t wardrail_place(uint64_t answer) { return answer >> 8; }
+static inline uint64_t wardrail_place(uint64_t answer) { return answer << 1 >> 9; }
 
 /* Bytes of a text that was passed: the offset of the first, and how many there are. */
 struct wardrail_part {
@@ -62,7 +63,7 @@ enum wardrail_refusal {
     WARDRAIL_RANGE = 11,    /* a number out of range */
     WARDRAIL_PIECES = 12,   /* wrong length of pieces */
     WARDRAIL_NAME = 13,     /* a bad name or path */
-    WARDRAIL_PEER = 15,     /* bad length of a peer entry */
+    WARDRAIL_PEER = 15,     /* bad length of a peer entry, or of a key of a sheet */
     WARDRAIL_FRAME = 20,    /* a frame length over 16,393 */
     WARDRAIL_PAYLOAD = 21,  /* a payload length wrong for its id */
     WARDRAIL_PROTOCOL = 22, /* a handshake's first 20 bytes are wrong */
@@ -232,6 +233,24 @@ WARDRAIL_ROW(wardrail_packed_at, 6, next_at);
 
 /* The same for an entry of six bytes: 1, 8. */
 uint64_t wardrail_packed_at(const uint8_t *text, size_t text_count, size_t at, struct wardrail_packed_at *peer);
+
+/* ---- Sheets: a dictionary from info hashes of 20 bytes to addresses of trackers */
+
+enum wardrail_text { WARDRAIL_OF_TORRENT = 1, WARDRAIL_OF_SHEET = 2 };
+
+struct wardrail_address {
+    uint64_t text; /* enum wardrail_text: the text that the address stands in */
+    struct wardrail_part part;
+};
+WARDRAIL_ROW(wardrail_address, 3, part);
+
+/* The address for a torrent: what the sheet has under the info hash, or else the torrent's announce. First the torrent's refusals,
+ * 1 to 8, 10 to 13, then the sheet's, 1 to 8, 10, 15: all of the sheet is checked, wherever the address stands. */
+uint64_t wardrail_address(const uint8_t *torrent, size_t torrent_count, const uint8_t *sheet, size_t sheet_count,
+                          struct wardrail_address *address);
+
+/* Which text a refusal of wardrail_address is of, an enum wardrail_text: wardrail_place counts from the first byte of that one. */
+static inline uint64_t wardrail_refused_text(uint64_t answer) { return answer >> 63 ? WARDRAIL_OF_SHEET : WARDRAIL_OF_TORRENT; }
 
 /* ---- Where a block falls */
 

@@ -2,7 +2,7 @@
 
     python3 second/replay.py < SCRIPT
 
-It is written from document 01 and from nothing of the proved code.
+It is written from documents 01 and 02 and from nothing of the proved code.
 """
 
 import sys
@@ -11,6 +11,7 @@ from hashlib import sha1
 import bencode
 import blocks
 import places
+import sheets
 import torrent
 import tracker
 import wire
@@ -90,6 +91,11 @@ def answer_peer(text, number):
 
 def answer_entries(text):
     return joined(places.of_reply(unhex(text)))
+
+
+def answer_address(text, sheet):
+    source, address = sheets.address(unhex(text), unhex(sheet))
+    return f"{source} {to_hex(address)}"
 
 
 def answer_block(piece_length, lengths, piece, offset, length, room):
@@ -266,6 +272,7 @@ TEXT_CALLS = {
     "reply": answer_reply,
     "peer": answer_peer,
     "entries": answer_entries,
+    "address": answer_address,
     "block": answer_block,
     "byte": answer_byte,
     "size": answer_size,

@@ -1,6 +1,6 @@
 """Prints a random script of docs/REPLAY.md, the same one for the same seed.
 
-    python3 tests/random_scripts.py --seed N --calls M [--kind texts|torrents|replies|blocks|wire|yard|all]
+    python3 tests/random_scripts.py --seed N --calls M [--kind texts|torrents|replies|sheets|blocks|wire|yard|all]
 
 Texts, frames and calls are made so that they would be taken, and then some are altered, damaged, cut or joined, so
 that most faults are near misses. Each kind is an endless generator of calls.
@@ -277,6 +277,60 @@ def replies(rng):
         yield rng.choice([
             f"reply {text}", f"peer {text} {rng.randint(0, 4)}", f"entries {text}", write_reply_call(rng),
         ])
+
+
+# Sheets.
+
+
+def random_key(rng, info_hash):
+    """A hash, often one that begins as this one does."""
+    shared = rng.choice([0, 0, 1, 10, 18, 19])
+    return info_hash[:shared] + rng.randbytes(20 - shared)
+
+
+def random_address(rng):
+    return rng.choice([b"", b"http://depot/ann", random_bytes(rng, 12)])
+
+
+def with_fault(rng, rows):
+    """The rows with one of them changed in its key or its address, twice there or in another place."""
+    at = rng.randrange(len(rows))
+    key, address = rows[at]
+    way = rng.randrange(10)
+    if way < 4:
+        key = rng.choice([key[:-1], key[1:], key + b"\0", b"\0" + key, b"", random_bytes(rng, 40)])
+        changed = rows[:at] + [(key, address)] + rows[at + 1 :]
+        return sorted(changed, key=lambda row: row[0]) if rng.random() < 0.8 else changed
+    if way < 8:
+        other = rng.choice([[], {}, 7, [address], random_integer(rng), random_value(rng, 2), Raw(nested(rng))])
+        return rows[:at] + [(key, other)] + rows[at + 1 :]
+    if way < 9:
+        return rows[:at] + [rows[at]] + rows[at:]
+    return rng.sample(rows, len(rows))
+
+
+def random_sheet(rng, info_hash):
+    """The text of a sheet, more often than not with that hash, and mostly with one fault or none."""
+    if rng.random() < 0.03:
+        return random_text(rng)
+    keys = {random_key(rng, info_hash) for _ in range(rng.choice([0, 1, 1, 2, 3, 9]))}
+    if rng.random() < 0.003:
+        # About as many rows as there may be.
+        keys = {rng.randbytes(20) for _ in range(8_191 + rng.randint(-2, 1))}
+    if rng.random() < 0.6:
+        keys.add(info_hash)
+    rows = [(key, random_address(rng)) for key in sorted(keys)]
+    for _ in range(rng.choice([0, 0, 0, 1, 1, 2]) if rows else 0):
+        rows = with_fault(rng, rows)
+    text = b"d" + b"".join(encode(key) + encode(address) for key, address in rows) + b"e"
+    return damage(rng, text) if rng.random() < 0.15 else text
+
+
+def sheets(rng):
+    while True:
+        top = random_torrent(rng)
+        text = encode(top) if rng.random() < 0.85 else text_of(rng, top)
+        yield f"address {to_hex(text)} {to_hex(random_sheet(rng, sha1(encode(top[b'info'])).digest()))}"
 
 
 # Blocks.
@@ -563,14 +617,14 @@ def yard(rng):
     return YardCalls(rng).calls()
 
 
-KINDS = {"texts": texts, "torrents": torrents, "replies": replies, "blocks": blocks, "wire": wire, "yard": yard}
+KINDS = {"texts": texts, "torrents": torrents, "replies": replies, "sheets": sheets, "blocks": blocks, "wire": wire, "yard": yard}
 
 
 def everything(rng):
     """All kinds in one script, the yard's calls half of it."""
     streams = [make(rng) for make in KINDS.values()]
     while True:
-        yield next(rng.choices(streams, [1, 1, 1, 1, 1, 5])[0])
+        yield next(rng.choices(streams, [1, 1, 1, 1, 1, 1, 6])[0])
 
 
 def script(seed, calls, kind="all"):

@@ -11,7 +11,7 @@ from dataclasses import dataclass
 
 import libtorrent
 
-from world_replay import same, unhexed
+from world_replay import hexed, same, unhexed
 
 ANNOUNCE = b"http://127.0.0.1:9/announce"
 # for one client, or one run of a stock program; a slow machine may need some of them
@@ -219,20 +219,21 @@ MAKERS = [(make_by_mktorrent, [15, 16, 20]), (make_by_transmission, [14, 15, 18]
 
 
 def theirs(replay, folder):
-    """Torrents of three makers, read alike; and every piece of their contents checked by us, whole and damaged."""
-    contents, torrents, pieces = folder / "contents", 0, 0
+    """Torrents of three makers, read alike; every piece of their contents checked by us, whole and damaged; and their addresses by libtorrent's sheets."""
+    contents, texts, pieces = folder / "contents", [], 0
     for name in make_contents(contents):
         for make, shifts in MAKERS:
             if make is make_by_libtorrent and not is_utf8(os.fsencode(name)):
                 continue  # its Python interface takes no such path
             for shift in shifts:
-                path = folder / f"{make.__name__}-{torrents}.torrent"
+                path = folder / f"{make.__name__}-{len(texts)}.torrent"
                 make(contents / name, shift, path)
                 text, listing = check_alike(replay, path)
                 same("piece length", listing.piece_length, 1 << shift)
                 pieces += check_pieces(replay, text, listing, contents)
-                torrents += 1
-    return f"{torrents} torrents of mktorrent, Transmission and libtorrent read alike, {pieces} pieces checked"
+                texts.append(text)
+    addresses = check_addresses(replay, texts)
+    return f"{len(texts)} torrents of mktorrent, Transmission and libtorrent read alike, {pieces} pieces checked, {addresses} addresses found"
 
 
 def check_pieces(replay, text, listing, contents):
@@ -247,6 +248,23 @@ def check_pieces(replay, text, listing, contents):
         same("a piece", replay.ask("piece", text, i, piece), "yes")
         same("a damaged piece", replay.ask("piece", text, i, piece[:-1] + bytes([piece[-1] ^ 1])), "no")
     return listing.pieces
+
+
+def check_addresses(replay, texts):
+    """Sheets that libtorrent encodes, with all of the torrents' hashes, with this one's alone, with all but this, and empty: the address of each torrent
+    is what libtorrent decodes under the hash that it tells, or the announce that it decodes."""
+    hashes = [libtorrent.torrent_info(text).info_hash().to_bytes() for text in texts]
+    addresses = {info_hash: b"http://depot/%d" % at if at else b"" for at, info_hash in enumerate(hashes)}
+    asked = 0
+    for text, info_hash in zip(texts, hashes):
+        others = {other: address for other, address in addresses.items() if other != info_hash}
+        for listed in (addresses, {info_hash: addresses[info_hash]}, others, {}):
+            sheet = libtorrent.bencode(listed)
+            found = libtorrent.bdecode(sheet).get(info_hash)
+            source, address = ("sheet", found) if found is not None else ("torrent", libtorrent.bdecode(text)[b"announce"])
+            same("an address", replay.ask("address", text, sheet), f"{source} {hexed(address)}")
+            asked += 1
+    return asked
 
 
 # ---- ours

@@ -267,6 +267,45 @@ def pieces():
     return [call("piece", text, number, bytes_of(piece)) for number, piece in CHECKS]
 
 
+# ---- sheets: @H@ is the key of the torrent's hash, @B@ and @A@ are those just below and above it
+
+FILE = U + "6:lengthi1e" + NAMED
+LOW, HIGH = "20:(20*%00)", "20:(20*%FF)"
+SHEETS = [
+    # the hash alone, first, last, between, and missing by its last byte
+    (FILE, "de d@H@1:xe d@H@0:e d@H@1:x" + HIGH + "1:ye d" + LOW + "1:x@H@1:ye d" + LOW + "1:x@H@1:y" + HIGH + "1:ze d" + LOW + "1:x" + HIGH + "1:ze"),
+    (FILE, "d@B@1:xe d@A@1:xe d@B@1:x@A@1:ye d@B@1:x@H@1:y@A@1:ze d" + LOW + "@H@e d@H@100:(100*a)" + HIGH + "10:(10*b)e"),
+    # an empty announce, many files, and keys that nobody knows
+    ("d8:announce0:" + FILE[14:], "de d" + LOW + "1:xe d@H@1:xe d@H@1:x19:(19*%FF)0:e d" + LOW + "lee"),
+    (U + "5:filesld6:lengthi1e4:pathl1:aeee" + NAMED, "d@H@1:xe d@B@1:xe"),
+    ("d1:a0:8:announce1:u4:infod1:ale6:lengthi1e4:name1:n12:piece%20lengthi16384e6:pieces20:(20*A)7:privatei1ee4:userdee", "d@H@1:xe d@A@1:xe"),
+    # keys of other lengths, and addresses that are no strings
+    (FILE, "d0:1:xe d19:(19*%00)1:xe d21:(21*%00)1:xe d19:(19*%00)1:x@H@1:ye d21:(21*%00)1:x@H@1:ye d@H@1:x19:(19*%FF)1:ye d@H@1:x21:(21*%FF)1:ye"),
+    (FILE, "d@H@lee d@H@i1ee d@H@dee d" + LOW + "le@H@1:xe d@H@1:x" + HIGH + "lee d@H@1:x" + HIGH + "i1ee"),
+    # what is no dictionary, and 1 to 8
+    (FILE, "le 0: i0e (0*x) d d@H@ d@H@1:x x dxe d@H@01:xe d@H@1:x" + LOW + "1:ye d@H@1:x@H@1:ye d@H@i9223372036854775808ee dee (1048577*x)"),
+    (FILE, "d@H@(31*l)(31*e)e d@H@(32*l)(32*e)e d@H@l(16381*0:)ee d@H@l(16382*0:)ee"),
+    # which check comes first
+    (FILE, "d19:(19*%00)1:xex d19:(19*%00)1:x d19:(19*%00)1:x@H@i-0ee d19:(19*%00)i1ee d19:(19*%00)1:x" + LOW + "i1ee d" + LOW + "i1e21:(21*%00)1:xe d" + LOW + "le@H@i1ee"),
+]
+# Torrents that are refused, each beside a sheet that is refused too.
+NO_TORRENTS = [
+    "(0*x) x d4:infode8:announce0:e li9223372036854775808ee (33*l)(33*e) l(16384*0:)e lee (1048577*x) le",
+    U + "6:lengthi0e" + NAMED + " " + U + "6:lengthi1e4:name1:n12:piece%20lengthi16384e6:pieces0:ee " + U + "6:lengthi1e4:name0:" + REST,
+]
+
+
+def sheets():
+    found = []
+    for text, line in SHEETS:
+        data = bytes.fromhex(answer(f"torrent {bytes_of(text)}").split()[-1])
+        keys = {mark: "20:" + word_of(data[:-1] + bytes([data[-1] + step])) for mark, step in (("@B@", -1), ("@H@", 0), ("@A@", 1))}
+        for mark, key in keys.items():
+            line = line.replace(mark, key)
+        found += [(word, f"address {bytes_of(text)} {bytes_of(word)}") for word in line.split()]
+    return found + [(word, f"{asked} 78") for word, asked in calls_of("address", NO_TORRENTS)]
+
+
 # ---- blocks
 
 class Asked(list):
@@ -494,7 +533,7 @@ def digests():
 
 def calls():
     """Each call, with what the script says of it before it."""
-    return bencode() + replies() + torrents() + blocks() + frames() + writers() + handshakes() + written() + digests()
+    return bencode() + replies() + torrents() + sheets() + blocks() + frames() + writers() + handshakes() + written() + digests()
 
 
 def script():

@@ -3,7 +3,7 @@
     python3 tests/scripts/make.py           the small ones, which are stored, into this folder, and crates/cases/stdin and stdout
     python3 tests/scripts/make.py FOLDER    all, the big ones too, into that folder
 
-The cases stand in the modules beside this one, calls and answers, from document 01.
+The cases stand in the modules beside this one, calls and answers, from documents 01 and 02.
 """
 
 import sys
@@ -14,13 +14,14 @@ import block_calls
 import case_table
 import reply_texts
 import sample_texts
+import sheet_texts
 import torrent_texts
 import wire_calls
 import written_texts
 import yard_calls
 
 MODULES = [
-    bencode_texts, torrent_texts, reply_texts, block_calls, wire_calls, written_texts, yard_calls, sample_texts,
+    bencode_texts, torrent_texts, reply_texts, sheet_texts, block_calls, wire_calls, written_texts, yard_calls, sample_texts,
 ]
 
 

@@ -1,4 +1,4 @@
-"""How cases are written down: a call of docs/REPLAY.md beside the answer that document 01 gives it.
+"""How cases are written down: a call of docs/REPLAY.md beside the answer that documents 01 and 02 give it.
 
 A text that is refused carries the mark ^ where the place of the refusal is; the mark is no part of the text.
 """
