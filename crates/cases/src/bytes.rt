@@ -2,6 +2,7 @@
 ghost use Prim.Native.Nat.{_≤_, _<_};
 ghost use lib.ListN.{length};
 use crate::words::find;
+use crate::words::times;
 use crate::words::value;
 use crate::words::word;
 
@@ -35,11 +36,7 @@ fn part(space: &mut [u8], first: usize, at: usize, word: &[u8]) -> usize
         return places(space, first, at, value(word));
     }
     let star = find(word, 0, b'*');
-    if star < word.len() {
-        let times = star + 1;
-        return repeat(space, at, &word[0..star], value(&word[times..]));
-    }
-    hex(space, at, word)
+    repeat(space, at, &word[0..star], times(word, star))
 }
 
 // So many bytes, each its place from `first` on modulo 251.

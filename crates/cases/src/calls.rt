@@ -1,6 +1,7 @@
 // The lines of the script, one after the other, and what each of them calls.
 ghost use Prim.Native.Nat.{_≤_};
 ghost use lib.ListN.{length};
+use crate::addresses;
 use crate::blocks;
 use crate::bytes::write_word;
 use crate::hashes;
@@ -27,7 +28,9 @@ pub const WRITE_HANDSHAKE: usize = 20;
 
 pub const WRITE_FRAME: usize = 21;
 
-const NO_CALL: usize = 22;
+const ADDRESS: usize = 22;
+
+const NO_CALL: usize = 23;
 
 pub fn each(script: &[u8], space: &mut [u8]) {
     let mut from = 0;
@@ -91,7 +94,7 @@ fn share(call: usize, line: &[u8], brief: bool, space: &[u8], ends: Ends)
 // The number of a call.
 fn number_of(name: &[u8]) -> usize {
     words::which(
-        b"bencode|walk|torrent|file|places|piece|reply|peer|entries|frame|frame-cuts|handshake|handshake-cuts|sha1|sha1-parts|block|byte|size|write-torrent|write-reply|write-handshake|write-frame|",
+        b"bencode|walk|torrent|file|places|piece|reply|peer|entries|frame|frame-cuts|handshake|handshake-cuts|sha1|sha1-parts|block|byte|size|write-torrent|write-reply|write-handshake|write-frame|address|",
         name,
     )
 }
@@ -101,7 +104,7 @@ fn third(call: usize) -> usize {
     if call == WRITE_TORRENT { 5 } else { 3 }
 }
 
-fn answer(call: usize, line: &[u8], brief: bool, x: &[u8], y: &[u8], z: &[u8]) {
+fn answer<'a>(call: usize, line: &[u8], brief: bool, x: &'a [u8], y: &'a [u8], z: &[u8]) {
     match call {
         0 => texts::check(x),
         1 => texts::walk(x),
@@ -112,6 +115,7 @@ fn answer(call: usize, line: &[u8], brief: bool, x: &[u8], y: &[u8], z: &[u8]) {
         6 => replies::reply(x),
         7 => replies::peer(x, words::number(line, 2) as usize),
         8 => replies::entries(x),
+        ADDRESS => addresses::address(x, y),
         _ => other(call, line, brief, x, y, z),
     }
 }

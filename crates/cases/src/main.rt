@@ -2,6 +2,7 @@
 // tests/scripts/case_table.py makes the script; the second program and the C host answer it too.
 use libc::STDIN_FILENO;
 
+mod addresses;
 mod blocks;
 mod bytes;
 mod calls;

@@ -55,10 +55,14 @@ pub const END: usize = 23;
 
 pub const NO_CALL: usize = 24;
 
+pub const IN_TORRENT: usize = 25;
+
+pub const IN_SHEET: usize = 26;
+
 // Word k. One text has them all, since each literal costs the check.
 pub fn name(k: usize) {
     nth(
-        b"refused | at |taken | |-|:|\n|/|yes|no|failure |none |wait| keepalive| single | files |compact |list | output changed|s|n|l|d|e|no call|",
+        b"refused | at |taken | |-|:|\n|/|yes|no|failure |none |wait| keepalive| single | files |compact |list | output changed|s|n|l|d|e|no call|torrent |sheet |",
         k,
     );
 }

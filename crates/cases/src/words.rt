@@ -109,15 +109,20 @@ pub fn list(space: &mut [u64], word: &[u8]) -> usize {
 
 // A number, or `0*1023` for a number so many times; `-` is none.
 fn item(space: &mut [u64], at: usize, word: &[u8]) -> usize {
-    let star = find(word, 0, b'*');
-    if star < word.len() {
-        let times = star + 1;
-        return repeat(space, at, value(&word[0..star]), value(&word[times..]));
-    }
     if find(word, 0, b'-') < word.len() {
         return at;
     }
-    repeat(space, at, value(word), 1)
+    let star = find(word, 0, b'*');
+    repeat(space, at, value(&word[0..star]), times(word, star))
+}
+
+// How many times what stands before a star is meant; once where there is none.
+pub fn times(word: &[u8], star: usize) -> u64 {
+    if star < word.len() {
+        let from = star + 1;
+        return value(&word[from..]);
+    }
+    1
 }
 
 // Writes a number so many times from `at` on, and answers the place past them.
