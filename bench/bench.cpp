@@ -1,4 +1,5 @@
-// Times the readers beside libtorrent's on one reply and one torrent, and wardrail_check by the byte on the texts that cost it most. bench/run builds and runs it.
+// Times the readers beside libtorrent's on one reply, one torrent and one sheet, and wardrail_check by the byte on the texts that cost it most. bench/run builds and
+// runs it.
 #include "../host/wardrail.h"
 
 #include <libtorrent/bdecode.hpp>
@@ -13,6 +14,7 @@
 #include <cstdlib>
 #include <cstring>
 #include <functional>
+#include <set>
 #include <string>
 #include <vector>
 
@@ -209,6 +211,62 @@ void torrents() {
           {"torrent_info, with its hash", [&] { return hash_by_libtorrent(text); }}}, 1000);
 }
 
+// A sheet of 8,191 rows of 60 bytes, which have 16,383 values: as many as there may be. The greatest key is the hash given.
+string sheet_of(const string &hash) {
+    Dice dice;
+    std::set<string> keys{hash};
+    while (keys.size() < 8191) {
+        string key(1, char(dice.below(uint8_t(hash[0]))));
+        while (key.size() < 20) key += char(dice.below(256));
+        keys.insert(key);
+    }
+    string s = "d";
+    int k = 0;
+    for (const string &key : keys) s += written(key) + written("http://depot-" + to_string(10000 + k++).substr(1) + ".yard:80/announce");
+    return s + "e";
+}
+
+// Where an address stands in a sheet, as one number.
+uint64_t spot(uint64_t from, uint64_t length) { return from << 8 | length; }
+
+uint64_t address_by_wardrail(const string &torrent, const string &sheet) {
+    struct wardrail_address a;
+    if (wardrail_address(start_of(torrent), torrent.size(), start_of(sheet), sheet.size(), &a) != 0 || a.text != WARDRAIL_OF_SHEET) return 0;
+    return spot(a.part.from, a.part.len);
+}
+
+uint64_t address_by_bdecode(const string &hash, const string &sheet) {
+    lt::error_code fault;
+    const lt::bdecode_node whole = lt::bdecode(sheet, fault);
+    if (fault || whole.type() != lt::bdecode_node::dict_t) return 0;
+    const lt::string_view address = whole.dict_find_string_value(hash);
+    return address.empty() ? 0 : spot(uint64_t(address.data() - sheet.data()), address.size());
+}
+
+// The same, where the torrent is read for its hash as well.
+uint64_t address_by_libtorrent(const string &torrent, const string &sheet) {
+    lt::error_code fault;
+    const lt::torrent_info t(torrent, fault, lt::from_span);
+    return fault ? 0 : address_by_bdecode(t.info_hashes().v1.to_string(), sheet);
+}
+
+void sheets() {
+    const string torrent = "d8:announce15:http://yard/ann4:infod6:lengthi16384e4:name9:route.bin12:piece lengthi16384e6:pieces" + written(bytes(20, 'A')) + "ee";
+    uint8_t digest[20];
+    expect(wardrail_info_hash(start_of(torrent), torrent.size(), digest) == 0 && digest[0] != 0, "the torrent has no hash");
+    const string hash(reinterpret_cast<const char *>(digest), 20), sheet = sheet_of(hash);
+    const Answer a = check(sheet);
+    expect(a.number == 0 && a.values == 16383 && sheet.size() == 8191 * 60 + 2, "the sheet is not taken with 16,383 values");
+    const uint64_t found = address_by_wardrail(torrent, sheet);
+    expect(found == spot(sheet.size() - 35, 34), "the address is not the last row's");
+    expect(found == address_by_bdecode(hash, sheet) && found == address_by_libtorrent(torrent, sheet), "the addresses are not the same");
+    std::printf("A sheet of 8,191 rows, %zu bytes, %u values, and a torrent whose hash is its last key.\n\n", sheet.size(), unsigned(a.values));
+    race({{"wardrail_address", [&] { return address_by_wardrail(torrent, sheet); }},
+          {"wardrail_check", [&] { return check(sheet).number; }},
+          {"torrent_info, then bdecode", [&] { return address_by_libtorrent(torrent, sheet); }},
+          {"bdecode, with the look-up", [&] { return address_by_bdecode(hash, sheet); }}}, 4000);
+}
+
 const size_t most_bytes = 1048576, most_values = 16384;
 
 // A list of as many of one item as fit into `size` bytes, or into the values that a text may have, of which each item has `values`.
@@ -323,5 +381,6 @@ int main() {
     mallopt(M_TRIM_THRESHOLD, 1 << 30);
     replies();
     torrents();
+    sheets();
     by_the_byte();
 }
