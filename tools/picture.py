@@ -16,6 +16,7 @@ WINGS = {
     "hash": "#8a6d1f",
     "torrent": "#2b8a3e",
     "tracker": "#0b8a8a",
+    "sheets": "#6f8f1a",
     "peer": "#a03a8a",
     "yard": "#c0541c",
     "wardrail": "#5b4bb4",
