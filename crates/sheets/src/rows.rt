@@ -97,23 +97,23 @@ fn opens(sheet: &[u8]) -> bool
 fn pass(sheet: &[u8], hash: &[u8]) -> Row
     ensures { λ r. ⌜ (length (now (sheet .entry)) ≤ mostText → 0 < length (now (sheet .entry)) → getD (now (sheet .entry)) 0 0 ≡ 100 → listedAs r ≡ sheetOf (now (hash .entry)) (now (sheet .entry))) ⌝ }
 {
-    let mut p = Stage {
+    let mut stage = Stage {
         at: 1,
         count: 1,
         before: Before::Nothing,
         row: Row::Unlisted,
     };
     loop {
-        let at = p.at;
+        let at = stage.at;
         if sheet.len() <= at {
             return refused(number::CUT, sheet.len());
         }
         if sheet[at] == b'e' {
-            let so_far = p.row;
+            let so_far = stage.row;
             return ended(sheet.len(), at + 1, so_far);
         }
-        match advance(sheet, hash, p) {
-            Turn::On(next) => p = next,
+        match advance(sheet, hash, stage) {
+            Turn::On(next) => stage = next,
             Turn::Refused(r) => return Row::Refused(r),
         }
     }
@@ -130,33 +130,33 @@ fn ended(end: usize, past: usize, row: Row) -> Row
 }
 
 // One row.
-fn advance(sheet: &[u8], hash: &[u8], p: Stage) -> Turn
-    requires { ⌜ p .at < length (now sheet) ⌝ }
-    ensures { λ r. ⌜ Turned (now (sheet .entry)) (now (hash .entry)) p r ⌝ }
+fn advance(sheet: &[u8], hash: &[u8], stage: Stage) -> Turn
+    requires { ⌜ stage .at < length (now sheet) ⌝ }
+    ensures { λ r. ⌜ Turned (now (sheet .entry)) (now (hash .entry)) stage r ⌝ }
 {
-    let before = p.before;
-    match key(sheet, p.at, p.count, before) {
-        Keyed::At(k) => entered(sheet, hash, p, k),
+    let before = stage.before;
+    match key(sheet, stage.at, stage.count, before) {
+        Keyed::At(k) => entered(sheet, hash, stage, k),
         Keyed::Refused(r) => Turn::Refused(r),
     }
 }
 
 // The row whose key is read: its value, and what the rows come to with it.
-fn entered(sheet: &[u8], hash: &[u8], p: Stage, k: Part) -> Turn
-    requires { ⌜ (p .at < length (now sheet)) × (keyIn (now sheet) (p .count) (Keyed.At k) ≡ keyOf (length (now sheet)) (prevIn (now sheet) (p .before)) (drop (p .at) (now sheet)) (p .at) (p .count)) ⌝ }
-    ensures { λ r. ⌜ Turned (now (sheet .entry)) (now (hash .entry)) p r ⌝ }
+fn entered(sheet: &[u8], hash: &[u8], stage: Stage, k: Part) -> Turn
+    requires { ⌜ (stage .at < length (now sheet)) × (keyIn (now sheet) (stage .count) (Keyed.At k) ≡ keyOf (length (now sheet)) (prevIn (now sheet) (stage .before)) (drop (stage .at) (now sheet)) (stage .at) (stage .count)) ⌝ }
+    ensures { λ r. ⌜ Turned (now (sheet .entry)) (now (hash .entry)) stage r ⌝ }
 {
     let place = k.from + k.len;
-    let count = p.count + 1;
-    let so_far = p.row;
+    let count = stage.count + 1;
+    let so_far = stage.row;
     match value_at(sheet, place, count) {
         Held::String(v) => on(
             v.from + v.len,
             count + 1,
             k,
-            with_address(sheet, hash, so_far, p.at, k, v),
+            with_address(sheet, hash, so_far, stage.at, k, v),
         ),
-        Held::Other(next, more) => on(next, more, k, without(so_far, p.at, k.len, place)),
+        Held::Other(next, more) => on(next, more, k, without(so_far, stage.at, k.len, place)),
         Held::Refused(r) => Turn::Refused(r),
     }
 }
