@@ -20,18 +20,15 @@ use Rattle.bencode_fields.specs.Causes.{Other, other, NoString, no-string}
 use Rattle.bencode_fields.specs.Values.{stringAt}
 use Rattle.bencode_fields.proofs.Checks.{Checks, checks-refused, checks-taken, checks-as, checks-is, checks-then, checks-last}
 use Rattle.bencode_fields.proofs.Typed.{string-checks, dictionary-checks, kind-checks}
-use Rattle.sheets.specs.Sheet.{IsSheet, is-sheet}
+use Rattle.sheets.specs.Sheet.{IsRow, IsSheet, is-sheet}
 use Rattle.sheets.specs.Rules.{rowsOf, listedUnder, sheetAt}
 use Rattle.sheets.specs.Causes.{NoRows, bad-key, bad-address, later-row, NoSheet, no-dictionary, bad-row}
 
 -- ---- rows
 
--- a row: a key of 20 bytes and a string under it; and entries that are all rows
-abbrev pub Row : List ℕ → Value → Type 0
-Row k v = (length k ≡ 20) × ((bs : List ℕ) × (v ≡ str bs))
-
+-- entries that are all rows
 abbrev pub Rows : Entries → Type 0
-Rows es = (k : List ℕ) (v : Value) → Has es k v → Row k v
+Rows es = (k : List ℕ) (v : Value) → Has es k v → IsRow k v
 
 abbrev Any : {A B : Type 0} → A → B → Type 0
 Any x y = Unit {0}
@@ -39,7 +36,7 @@ Any x y = Unit {0}
 no-rows : Rows empty
 no-rows k v h = elim h [ ]
 
-more-rows : (j : List ℕ) (w : Value) (es : Entries) → Row j w → Rows es → Rows (entry j w es)
+more-rows : (j : List ℕ) (w : Value) (es : Entries) → IsRow j w → Rows es → Rows (entry j w es)
 more-rows j w es r h k v (here i u ds) = r
 more-rows j w es r h k v (there i u ds l x m) = h l x m
 

@@ -10,9 +10,13 @@ use Rattle.bencode_walk.specs.Has.{Has}
 use Rattle.hash_sha1.specs.Sha1.{sha1}
 use Rattle.torrent_metainfo.specs.Keys.{announceKey, infoKey}
 
--- a sheet: a dictionary whose keys have 20 bytes and whose values are strings
+-- a row: a key of 20 bytes, and a string under it
+abbrev pub IsRow : List ℕ → Value → Type 0
+IsRow k v = (length k ≡ 20) × ((bs : List ℕ) × (v ≡ str bs))
+
+-- a sheet: a dictionary of rows
 pub data IsSheet : Value → Type 0 where
-  is-sheet : (es : Entries) → ((k : List ℕ) (v : Value) → Has es k v → (length k ≡ 20) × ((bs : List ℕ) × (v ≡ str bs))) → IsSheet (dict es)
+  is-sheet : (es : Entries) → ((k : List ℕ) (v : Value) → Has es k v → IsRow k v) → IsSheet (dict es)
 
 -- the value under a key, or w where there is none
 unfoldable pub heldOr : Value → Entries → List ℕ → Value
