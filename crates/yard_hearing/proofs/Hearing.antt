@@ -179,7 +179,7 @@ module _ (h : Head) (s : Seat) (rows holders : List ℕ) (n i : ℕ) (text : Lis
       pub feed-refused : (r : Stepped) (why : Refusal) → q ≡ Refused why → r ≡ refusing h s (why .number) → turn r rows holders ≡ feedOf i text n (around h s rows holders)
       feed-refused r why e er = fed (turn r rows holders) (Refused why) e (as-turn er)
 
-      pub feed-keepalive : (r : Stepped) (u : ℕ) → q ≡ Keepalive u → r ≡ stepped h (spoken s) (A.Taken u) → turn r rows holders ≡ feedOf i text n (around h s rows holders)
+      pub feed-keepalive : (r : Stepped) (u : ℕ) → q ≡ Keepalive u → r ≡ stepped h s (A.Taken u) → turn r rows holders ≡ feedOf i text n (around h s rows holders)
       unfolding messageOf
       feed-keepalive r u e er = fed (turn r rows holders) (Keepalive u) e (as-turn er)
 

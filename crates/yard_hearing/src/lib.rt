@@ -55,7 +55,7 @@ pub fn feed_step(
     match peer_wire::read_frame(bytes) {
         Read::Wait => reply::waiting(h, s),
         Read::Refused(r) => reply::refused(h, s, r.number),
-        Read::Keepalive(used) => reply::passed(h, s, used),
+        Read::Keepalive(used) => reply::taken(h, s, used),
         Read::Whole(f, used) => {
             // Copies are lent to the call, so that LLVM may keep h and s out of memory.
             let g = h;

@@ -82,7 +82,7 @@ module _ (h : History) (e : Entry) (same : (z : Sizes) → sizesWith e z ≡ z) 
         ap (λ (m : ℕ). seated (e ∷ h) i && allOf m (announced (e ∷ h) i)) pieces-same
         ∙ ap (λ (x : Event). seatedBy x (seated h i) && allOf (pieces h) (λ p. announcedBy x p (announced h i p))) is
 
-    record-then : recordOf (e ∷ h) i ≡ recordThen v h i
+    pub record-then : recordOf (e ∷ h) i ≡ recordThen v h i
     record-then = ap (λ (k : ℕ). holding k (recordOf (e ∷ h) i)) held-then ∙ rw is
 
 -- ---- a call that changes one seat: the counts go with what the seat has

@@ -15,3 +15,4 @@ pub mod Demand
 pub mod Damage
 pub mod OnTables
 pub mod Given
+pub mod Keepalive

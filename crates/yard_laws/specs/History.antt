@@ -1,10 +1,11 @@
 -- What the calls and their answers so far say, with no look at the tables. Assumes nothing: these are definitions.
-use mathlib.Core.Bool.{Bool, true, false, cond, _||_}
-use mathlib.Core.List.{List, [], _∷_}
+use mathlib.Core.Path.{_≡_}
+use mathlib.Core.Bool.{Bool, true, false, not, cond, _&&_, _||_}
+use mathlib.Core.List.{List, [], _∷_, _++_, List·Memᴰ as In}
 use Prim.Native.Nat.{ℕ}
 use lib.Dec.{eqb}
 use Rattle.refusal.specs.Paper.{Outcome, taken, refused}
-use Rattle.peer_wire.specs.Message.{Message, keepalive, choke, unchoke, interested, notInterested, have, bitfield, request, piece, cancel, other}
+use Rattle.peer_wire.specs.Message.{Message, keepalive, choke, unchoke, interested, notInterested, have, bitfield, request, piece, cancel, other, body}
 use Rattle.peer_wire.specs.Frames.{Found, wait, found, readOf, meant}
 use Rattle.yard_tables.specs.Rows.{bitAt}
 use Rattle.yard_tables.specs.Tables.{Said, done, used, serve, dropped, wrote, listed, holds, heldBy, scarce}
@@ -151,19 +152,35 @@ abbrev pub announced : History → ℕ → ℕ → Bool
 announced [] i p = false
 announced (e ∷ h) i p = announcedBy (event i e) p (announced h i p)
 
--- ---- no message of it was taken since it sat down
+-- ---- no message of it with an id was taken since it sat down
+
+-- a message has an id where anything follows its length: a keepalive has none
+abbrev pub hasId : List ℕ → Bool
+hasId [] = false
+hasId (id ∷ payload) = true
 
 abbrev pub freshBy : Event → Bool → Bool
 freshBy nothing b = b
 freshBy came b = true
 freshBy gone b = false
-freshBy (heard m) b = false
+freshBy (heard m) b = not (hasId (body m)) && b
 freshBy (weChoke c) b = b
 freshBy (weWant c) b = b
 
 abbrev pub fresh : History → ℕ → Bool
 fresh [] i = false
 fresh (e ∷ h) i = freshBy (event i e) (fresh h i)
+
+-- a message of the truck of seat i with an id was taken, and no truck has sat down there since
+pub record Spoke (h : History) (i : ℕ) : Type 0 where
+  pub later : History
+  pub frame : Entry
+  pub earlier : History
+  pub message : Message (List ℕ)
+  pub parts : h ≡ later ++ (frame ∷ earlier)
+  pub heard-there : event i frame ≡ heard message
+  pub with-id : hasId (body message) ≡ true
+  pub nobody-came : (e : Entry) → In e later → event i e ≡ came → ⊥
 
 -- ---- the four marks: who sits down finds both sides choking and uninterested
 

@@ -15,7 +15,7 @@ use Rattle.yard_laws.specs.History.{pieces as piecesIn}
 
 pub record View : Type 1 where
   pub seats : ℕ
-  -- of each seat: a truck sits there, it has said nothing yet, we choke it, it is interested
+  -- of each seat: a truck sits there, no frame of it with an id was taken yet, we choke it, it is interested
   pub sitsAt : ℕ → Bool
   pub silent : ℕ → Bool
   pub choked : ℕ → Bool

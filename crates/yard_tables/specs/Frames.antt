@@ -60,7 +60,7 @@ haveOf n i bytes p x =
 abbrev pub spareSet : ℕ → List ℕ → Bool
 spareSet pieces bits = some (8 * length bits) (λ p. leb pieces p && bitAt bits p)
 
--- bitfield: first of all frames, of the right length, no spare bit
+-- bitfield: first of all frames with an id, of the right length, no spare bit
 unfoldable pub bitfieldOf : ℕ → ℕ → ℕ → List ℕ → Around → Turn
 bitfieldOf n i bytes bits x =
     cond (on (x .seat .fresh))
@@ -72,7 +72,7 @@ bitfieldOf n i bytes bits x =
 
 -- ---- the other frames
 
--- the seat after a frame that announces nothing
+-- the seat after a frame with an id that announces nothing
 abbrev pub hears : (Seat → Seat) → Around → Around
 hears f x = around (x .head) (spoken (f (x .seat))) (x .rows) (x .holders)
 
@@ -98,10 +98,10 @@ blockOf p begin len a x =
 abbrev pub requested : ℕ → Seat → Said
 requested bytes s = cond (not (on (s .«am_choking»)) && on (s .«peer_interested»)) (serve bytes) (dropped bytes)
 
--- ---- by what the frame says
+-- ---- by what the frame says: a keepalive says nothing
 
 unfoldable pub messageOf : ℕ → ℕ → ℕ → Message (List ℕ) → Around → Turn
-messageOf n i bytes keepalive x = says (used bytes) (passed x)
+messageOf n i bytes keepalive x = says (used bytes) x
 messageOf n i bytes choke x = says (used bytes) (hears (theyChoke true) x)
 messageOf n i bytes unchoke x = says (used bytes) (hears (theyChoke false) x)
 messageOf n i bytes interested x = says (used bytes) (hears (theyWant true) x)

@@ -18,7 +18,7 @@ cleared = record { taken = 0; fresh = 0; «am_choking» = 0; «am_interested» =
 abbrev pub arrived : Seat
 arrived = record { taken = 1; fresh = 1; «am_choking» = 1; «am_interested» = 0; «peer_choking» = 1; «peer_interested» = 0; held = 0 }
 
--- a frame was taken: the seat is no longer fresh
+-- a frame with an id was taken: the seat is no longer fresh
 abbrev pub spoken : Seat → Seat
 spoken s = record { taken = s .taken; fresh = 0; «am_choking» = s .«am_choking»; «am_interested» = s .«am_interested»; «peer_choking» = s .«peer_choking»; «peer_interested» = s .«peer_interested»; held = s .held }
 

@@ -19,7 +19,7 @@ pub struct Head {
     pub complete: u32,
 }
 
-// One seat. Fresh: its truck has not said anything yet. The marks are BEP 3's, `am` ours and `peer` the truck's. The flags
+// One seat. Fresh: no frame of its truck with an id was taken yet. The marks are BEP 3's, `am` ours and `peer` the truck's. The flags
 // and `held` are one word of 64 bits; further fields follow as whole words, so that no byte is padding.
 #[repr(C)]
 pub struct Seat {

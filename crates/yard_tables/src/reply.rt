@@ -40,14 +40,14 @@ pub fn taken(h: Head, s: Seat, used: usize) -> Stepped
     }
 }
 
-// A frame that changes nothing but that the seat is no longer fresh.
+// A frame with an id that changes nothing but that the seat is no longer fresh.
 pub fn passed(h: Head, s: Seat, used: usize) -> Stepped
     ensures { λ r. ⌜ r ≡ stepped h (spoken s) (Answer.Taken used) ⌝ }
 {
     taken(h, spoken(s), used)
 }
 
-// Each frame that is taken ends fresh.
+// Each frame with an id that is taken ends fresh.
 pub fn spoken(s: Seat) -> Seat
     ensures { λ r. ⌜ r ≡ spoken s ⌝ }
 {
