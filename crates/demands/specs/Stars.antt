@@ -1,5 +1,5 @@
--- THE WORKED CASES: every ★ block, yard step and text of document 01 as one table, in its order and numbers, each beside the answer that it is to have; and that
--- the definitions give these answers, by computation. Assumes nothing.
+-- THE WORKED CASES: every ★ block, yard step and text of document 01 as one table, in its order and numbers, and what ticket 2 of document 02 adds to the yard, each
+-- beside the answer that it is to have; and that the definitions give these answers, by computation. Assumes nothing.
 use mathlib.Core.Path.{_≡_, refl}
 use mathlib.Core.List.{List, [], _∷_}
 use Prim.Native.Nat.{ℕ}
@@ -17,7 +17,7 @@ use Rattle.bencode_walk.specs.Lookup.{lookup, sameKey}
 use Rattle.torrent_blocks.specs.Rules.{powerFrom, sum, fileLengths, lawful}
 use Rattle.torrent_blocks.specs.Spans.{Span, FilePart, part, joinedFiles, joinedFrom, lengths, endFrom, partsFrom, sizes as sizesIn}
 use Rattle.torrent_blocks.specs.Answers.{Spot, spot, blockOf, byteOf}
-use Rattle.peer_wire.specs.Message.{Message, have, bitfield, encode as frameOf}
+use Rattle.peer_wire.specs.Message.{Message, keepalive, have, bitfield, other, encode as frameOf}
 use Rattle.peer_wire.specs.Frames.{least, most, sizedOf, readOf, messageOf as messageBy}
 use Rattle.torrent_metainfo.specs.Rules.{clean, goodName, elementsOf, fileOf, lengthsOf, infoOf, topOf, torrentOf, sizedOf as torrentSized}
 use Rattle.bencode_writer.specs.Escaped.{escapedBy}
@@ -88,6 +88,16 @@ stars =
     -- Seat 0 leaves: complete 0, piece 9 has 1; the next truck gets seat 0
     ∷ call (leave 0) (taken done) 0 1
     ∷ call sit (taken (seated 0)) 0 1
+    -- Document 02, ticket 2. Its keepalive says nothing, so its bitfield is taken; seat 1 a keepalive after its have: still 30
+    ∷ call (says 0 keepalive) (taken (used 4)) 0 1
+    ∷ call (says 0 (bitfield (0xff ∷ 0xc0 ∷ []))) (taken (used 7)) 1 2
+    ∷ call (says 1 keepalive) (taken (used 4)) 1 2
+    ∷ call (says 1 (bitfield (0xff ∷ 0xc0 ∷ []))) (30 at 0) 1 2
+    -- An id that is not known is one: the next truck's bitfield after it is 30
+    ∷ call (leave 0) (taken done) 0 1
+    ∷ call sit (taken (seated 0)) 0 1
+    ∷ call (says 0 (other 20 [])) (taken (used 5)) 0 1
+    ∷ call (says 0 (bitfield (0xff ∷ 0xc0 ∷ []))) (30 at 0) 0 1
     -- Texts to try
     ∷ text "i-3e" (taken 1)
     ∷ text "i-0e" (2 at 2)

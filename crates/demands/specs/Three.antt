@@ -5,31 +5,34 @@
 use mathlib.Core.Path.{_≡_, refl, sym, ap, _∙_}
 use mathlib.Core.Logic.{_↔_, Iff·trans}
 use mathlib.Core.Bool.{true, false, not, _&&_}
-use mathlib.Core.List.{List, _++_, List·Memᴰ as In}
+use mathlib.Core.List.{List, _∷_, _++_, List·Memᴰ as In}
 use Prim.Native.Nat.{ℕ, _*_, _≤_, _<_, min}
 use lib.ListN.{length, getD, take, drop}
 use lib.Seq.{sets}
 use Rattle.refusal.specs.Paper.{Outcome, taken, refused}
+use Rattle.peer_wire.specs.Causes.{Zero}
 use Rattle.yard_tables.specs.Counting.{bit, count, some}
 use Rattle.yard_tables.specs.Rows.{width, hasIn}
 use Rattle.yard_tables.specs.Seats.{cleared}
 use Rattle.yard_tables.specs.Looks.{firstOr}
-use Rattle.yard_tables.specs.Tables.{Yard, Said, wait, serve, dropped, listed, scarce, seated as givesSeat}
-use Rattle.yard_tables.specs.Step.{Call, sit, missing, scarcest, look, step, written}
+use Rattle.yard_tables.specs.Tables.{Yard, Said, Out, wait, used, serve, dropped, listed, scarce, seated as givesSeat}
+use Rattle.yard_tables.specs.Step.{Call, sit, feed, missing, scarcest, look, step, written}
 use Rattle.yard_tables.specs.declared.Head.{Head}
 use Rattle.yard_tables.specs.declared.Seat.{Seat}
 use Rattle.yard_tables.specs.declared.Page.{Page}
-use Rattle.yard_laws.specs.History.{History, Fixed, sizesOf, seated, announced, fresh, weAreChoking, weAreInterested, theyAreChoking, theyAreInterested, pieces, sizesSet}
-use Rattle.yard_laws.specs.Says.{allOf, Ascending, holders}
+use Rattle.yard_laws.specs.History.{History, Fixed, entry, sizesOf, seated, announced, fresh, Spoke, weAreChoking, weAreInterested, theyAreChoking, theyAreInterested, pieces, sizesSet}
+use Rattle.yard_laws.specs.Says.{allOf, recordOf, Ascending, holders}
 use Rattle.yard_laws.specs.Expected.{answer, output}
-use Rattle.yard_laws.specs.Causes.{Cause, WaitCause, Serves, Drops}
+use Rattle.yard_laws.specs.Causes.{Sits, Cause, WaitCause, Serves, Drops}
 use Rattle.yard_laws.specs.Given.{Gives, Writes}
+use Rattle.yard_laws.specs.Damage.{Fit, Taken}
 use Rattle.yard_laws.specs.Run.{SizesFit, fixedBy}
 use Rattle.yard_laws.proofs.Agreeing.{Agrees}
 use Rattle.yard_laws.proofs.Calls.{sizes-here}
 use Rattle.yard_laws.proofs.Theorem as theorem
 use Rattle.yard_laws.proofs.Demand as demand
 use Rattle.yard_laws.proofs.Pages as pages
+use Rattle.yard_laws.proofs.Keepalive as keepalive
 use Rattle.yard_telling.specs.Telling.{codeOf, toldOf, shownOf}
 use Rattle.yard_telling.specs.declared.Told.{Told}
 use Rattle.demands_laws.proofs.Refusals.{same-answer}
@@ -57,6 +60,33 @@ ascending-unique first l m = pages.ascending-unique l m
 -- tables, whatever stood in them first
 pub tables-fixed : (lent other : Yard) (h : History) (y z : Yard) → Made lent h y → Made other h z → fixedBy lent ≡ fixedBy other → y ≡ z
 tables-fixed lent other h y z m k e = runs.run-same lent other e h h y z (made-run lent h y m) (made-run other h z k) refl
+
+-- a keepalive says nothing: where the sizes fit and a truck sits it is taken with its 4 bytes, and the tables stay byte for byte, whatever stands in them
+pub keepalive-keeps : (t : Tables) (i : ℕ) (bytes : Lent (List ℕ)) (r : ℕ) (told : Lent Told) → yard.feed-ensures i bytes r (t .head) (t .seats) (t .rows) (t .holders) told
+    → Fit (found t) → Taken (found t) i → Zero (before bytes)
+    → (r ≡ 0) × (after told ≡ record { value = 4; request = 0; total = 0; next = 0 })
+    × (after (t .head) ≡ before (t .head)) × (after (t .seats) ≡ before (t .seats)) × (after (t .rows) ≡ before (t .rows)) × (after (t .holders) ≡ before (t .holders))
+keepalive-keeps t i bytes r told e fit here none =
+    let k = keepalive.keepalive-kept (found t) i (before bytes) none fit here in
+    let z = e .2 ∙ ap (λ (o : Out). o .yard) k in (
+      e .0 ∙ ap (λ (o : Out). codeOf (o .answer)) k,
+      e .1 ∙ ap (λ (o : Out). toldOf (o .answer) (before told)) k,
+      ap (λ (x : Yard). x .head) z,
+      ap (λ (x : Yard). x .seats) z,
+      ap (λ (x : Yard). x .rows) z,
+      ap (λ (x : Yard). x .holders) z,
+    )
+
+-- nor does it change anything that a history says: of each seat its record and what is announced there, and the sizes
+pub keepalive-unsaid : (h : History) (i : ℕ) (s : List ℕ) (a : Outcome Said) (w : List ℕ) → Zero s
+    → ((j : ℕ) → recordOf (entry (feed i s) a w ∷ h) j ≡ recordOf h j)
+    × ((j p : ℕ) → announced (entry (feed i s) a w ∷ h) j p ≡ announced h j p)
+    × (sizesSet (entry (feed i s) a w ∷ h) ≡ sizesSet h)
+keepalive-unsaid h i s a w none = keepalive.keepalive-unsaid h i s a w none
+
+-- a truck that sits is fresh until a message of it with an id is taken: it is not exactly if one was taken since it sat down
+pub fresh-until : (h : History) (i : ℕ) → seated h i ≡ true → fresh h i ≡ false ↔ Spoke h i
+fresh-until h i s = keepalive.spoke-exactly i h s
 
 -- `lent` are the tables as they were lent first; after any calls h is the history, and y are the tables
 module _ (lent : Yard) (h : History) (y : Yard) (made : Made lent h y) where
@@ -125,6 +155,10 @@ module _ (lent : Yard) (h : History) (y : Yard) (made : Made lent h y) where
 
   pub written-right : (c : Call) → written c y ≡ output fixed h c
   written-right = theorem.wrote fixed h y agrees
+
+  -- a keepalive of a truck that sits is taken with its 4 bytes, and leaves the tables
+  pub keepalive-right : (i : ℕ) (s : List ℕ) → Sits fixed h i → Zero s → step (feed i s) y ≡ record { answer = taken (used 4); yard = y }
+  keepalive-right = demand.keepalive-right fixed h y agrees
 
   -- ---- 11. "Tops: S for head and holder counts, P for held."
 

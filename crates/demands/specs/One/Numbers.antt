@@ -69,11 +69,12 @@ use Rattle.peer_wire.specs.Message.{Message, have, bitfield as bits}
 use Rattle.yard_tables.specs.Rows.{width, bitAt}
 use Rattle.yard_tables.specs.Tables.{Yard}
 use Rattle.yard_tables.specs.Step.{Call, start, sit, feed, missing, look, has, count}
-use Rattle.yard_laws.specs.History.{History, sizesOf, seated, fresh, pieces}
+use Rattle.yard_laws.specs.History.{History, sizesOf, seated, fresh, Spoke, pieces}
 use Rattle.yard_laws.specs.Causes.{Sits, Nobody, On, Marks, Says, SpeaksOf, Fits, StartFits}
 use Rattle.yard_laws.specs.Run.{fixedBy}
 use Rattle.yard_laws.specs.Damage.{Unfit, Damaged}
 use Rattle.yard_laws.proofs.Damage as damage
+use Rattle.yard_laws.proofs.Keepalive as keepalive
 use Rattle.demands_laws.specs.Causes.{Unchecked, Unsized, NoReplyText}
 use Rattle.demands_laws.proofs.Refusals.{given, map-refused, same-answer, left-answer}
 use Rattle.demands_laws.proofs.Readers.{decode-8}
@@ -366,6 +367,12 @@ handshake-23 bytes info r e h p = Iff·trans (same-answer e) (framing.handshake-
 pub yard-30 : (lent : Yard) (h : History) (t : Tables) → Made lent h (found t) → (c : Call) (r : ℕ) (z : Yard) → Permits t c r z
     → r ≡ 30 ↔ ((i : ℕ) × (s : List ℕ) × (b : List ℕ) × (bytes : ℕ) × (c ≡ feed i s) × Sits (fixedBy lent) h i × Says s (bits b) bytes × (fresh h i ≡ false))
 yard-30 lent h t m c r z e = yard-given lent h t m c r z e 30 (omega arith) (omega arith)
+
+-- and so exactly when a message of its truck with an id was taken since the truck sat down
+pub late-since : (lent : Yard) (h : History) (t : Tables) → Made lent h (found t) → (c : Call) (r : ℕ) (z : Yard) → Permits t c r z
+    → r ≡ 30 ↔ ((i : ℕ) × (s : List ℕ) × (b : List ℕ) × (bytes : ℕ) × (c ≡ feed i s) × Sits (fixedBy lent) h i × Says s (bits b) bytes × Spoke h i)
+late-since lent h t m c r z e = Iff·trans (yard-30 lent h t m c r z e)
+    (λ (i, s, b, bytes, q, sits, says, f). (i, s, b, bytes, q, sits, says, keepalive.spoke-exactly i h (sits .1) .0 f), λ (i, s, b, bytes, q, sits, says, k). (i, s, b, bytes, q, sits, says, keepalive.spoke-exactly i h (sits .1) .1 k))
 
 -- ---- 31: "piece, file or entry number too large"
 
