@@ -125,7 +125,7 @@ OUT_OF_LINE static uint64_t plain_feed(WARDRAIL_TABLES, size_t seat, const uint8
         break;
     }
     if (bad) return (uint64_t)bad;
-    s->fresh = 0;
+    if (len) s->fresh = 0;
     *told = (struct wardrail_told){.value = 4 + len, .request = request};
     return 0;
 }
@@ -221,7 +221,7 @@ static void answers(void) {
     frame(16394, 20, 0, 0, 7, 20);
     frame(9, 20, 0, 0, 7, 0);
     frame(5, 4, 5, 0, 7, 0), frame(5, 4, 5, 0, 7, 0), frame(5, 4, PIECES, 0, 7, 31), frame(6, 4, 5, 0, 7, 21), frame(4, 4, 5, 0, 7, 21);
-    frame(1 + WIDTH, 5, 77, 1, 7, 30), frame(1 + WIDTH, 5, 77, 1, 8, 0), frame(WIDTH, 5, 77, 1, 9, 32), frame(1, 5, 0, 0, 9, 21);
+    frame(1 + WIDTH, 5, 77, 1, 7, 30), frame(0, 0, 0, 0, 8, 0), frame(1 + WIDTH, 5, 77, 1, 8, 0), frame(WIDTH, 5, 77, 1, 9, 32), frame(1, 5, 0, 0, 9, 21);
     for (uint8_t id = 6; id < 9; id++) {
         frame(13, id, 2, 64, 7, 0), frame(13, id, PIECES, 64, 7, 31), frame(12, id, 2, 64, 7, id == 7 ? 0 : 21);
         if (id != 7) frame(13, id, 2, 0, 7, 34);

@@ -216,13 +216,14 @@ static uint64_t announces(struct yard *y, size_t seat, const uint8_t *said) {
     return 0;
 }
 
-/* A mark, a have, a bitfield of the right length, or a request for a byte of piece 0. */
+/* A keepalive, a mark, a have, a bitfield of the right length, a request for a byte of piece 0, or a frame of an id that says nothing. */
 static uint64_t hears(struct yard *y, size_t seat, const uint8_t *frame, uint64_t *request) {
     struct wardrail_seat *s = &y->seats[seat];
     uint8_t id = frame[4], one[WIDTH] = {0};
     uint64_t bad = 0;
     *request = WARDRAIL_REQUEST_NONE;
     if (!s->taken) return 36;
+    if (!frame[3]) return 0; /* a keepalive has no id and changes nothing */
     if (id < 2) s->peer_choking = id == 0;
     else if (id < 4) s->peer_interested = id == 2;
     else if (id == 4) {
@@ -233,7 +234,7 @@ static uint64_t hears(struct yard *y, size_t seat, const uint8_t *frame, uint64_
         if (!s->fresh) return 30;
         if (frame[6] & 0x3f) return 33;
         bad = announces(y, seat, frame + 5);
-    } else *request = !s->am_choking && s->peer_interested ? WARDRAIL_REQUEST_SERVE : WARDRAIL_REQUEST_DROP;
+    } else if (id == 6) *request = !s->am_choking && s->peer_interested ? WARDRAIL_REQUEST_SERVE : WARDRAIL_REQUEST_DROP;
     if (!bad) s->fresh = 0;
     return bad;
 }
@@ -297,12 +298,14 @@ static void any_mark(struct yard *y) {
 
 static void any_frame(struct yard *y) {
     struct yard want = *y;
-    uint8_t frame[17] = {0, 0, 0, 1, (uint8_t)(any() % 7)};
+    uint8_t frame[17] = {0, 0, 0, 1, (uint8_t)(any() % 9)};
     size_t seat = any() % SEATS, count = 5;
     uint64_t request, wanted;
     if (frame[4] == 4) frame[3] = 5, count = 9, frame[8] = (uint8_t)(any() % (PIECES + 1));
     if (frame[4] == 5) frame[3] = 3, count = 7, frame[5] = (uint8_t)any(), frame[6] = (uint8_t)(any() & (any() % 4 ? 0xc0 : 0xff));
     if (frame[4] == 6) frame[3] = 13, count = 17, frame[16] = 1;
+    if (frame[4] == 7) frame[4] = 20;
+    if (frame[4] == 8) frame[4] = frame[3] = 0, count = 4;
     wanted = hears(&want, seat, frame, &request);
     same("any bytes: feed", y, &want, feed(y, seat, frame, count) == wanted && (wanted || (told.used == count && told.request == request)));
 }

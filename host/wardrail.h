@@ -68,7 +68,7 @@ enum wardrail_refusal {
     WARDRAIL_PAYLOAD = 21,  /* a payload length wrong for its id */
     WARDRAIL_PROTOCOL = 22, /* a handshake's first 20 bytes are wrong */
     WARDRAIL_HASH = 23,     /* a handshake for another info hash */
-    WARDRAIL_LATE = 30,     /* a bitfield that is not first */
+    WARDRAIL_LATE = 30,     /* a bitfield that is not the first frame with an id */
     WARDRAIL_BEYOND = 31,   /* a piece, file or entry number too large */
     WARDRAIL_BITFIELD = 32, /* bitfield length wrong */
     WARDRAIL_SPARE = 33,    /* a spare bit set */

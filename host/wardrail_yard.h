@@ -24,7 +24,7 @@ WARDRAIL_ASSERT(sizeof(struct wardrail_head) == 20, "five words");
 WARDRAIL_ASSERT(offsetof(struct wardrail_head, complete) == 16, "five words");
 
 struct wardrail_seat {
-    uint8_t taken, fresh;                  /* fresh: its truck has not said anything yet */
+    uint8_t taken, fresh;                  /* fresh: no frame of its truck with an id was taken yet */
     uint8_t am_choking, am_interested;     /* our marks */
     uint8_t peer_choking, peer_interested; /* the truck's */
     uint16_t held;                         /* how many pieces */
@@ -65,7 +65,7 @@ uint64_t wardrail_yard_sit(WARDRAIL_TABLES, struct wardrail_told *told);
 uint64_t wardrail_yard_leave(WARDRAIL_TABLES, size_t seat);
 
 /* The first frame of what came in from the truck of a seat: `used` becomes how many bytes it has. 38, 36, the frame's 20 and 21,
- * then by its id 30 to 34 and 39. */
+ * then by its id 30 to 34 and 39. A keepalive has no id: it uses its 4 bytes and changes nothing. */
 uint64_t wardrail_yard_feed(WARDRAIL_TABLES, size_t seat, const uint8_t *bytes, size_t bytes_count, struct wardrail_told *told);
 
 /* Our own choke and interest: sets the mark, and writes the 5 bytes of the frame to the start of `frame`. 38, 36, 37. */

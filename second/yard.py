@@ -65,7 +65,8 @@ class Yard:
         if frame == wire.WAIT:
             return wire.WAIT
         answer = self.take(truck, frame)
-        truck.fresh = False
+        # A keepalive says nothing.
+        truck.fresh = truck.fresh and frame.id == wire.KEEPALIVE
         return f"{answer} {frame.used}"
 
     def set_choke(self, seat, on, room):

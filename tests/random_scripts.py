@@ -565,12 +565,13 @@ class YardCalls:
         data = self.first_frame() if seat in self.fresh else self.frame()
         if self.rng.random() < 0.15:
             data = cut_or_joined(self.rng, data, self.frame())
-        if self.rng.random() < 0.7:
+        # After a keepalive, of four bytes, the bitfield is still to come.
+        if data[4:] and self.rng.random() < 0.7:
             self.fresh.discard(seat)
         return f"feed {seat} {to_hex(data)}"
 
     def first_frame(self):
-        return self.rng.choices([self.bitfield, self.keepalive, self.frame], [6, 1, 3])[0]()
+        return self.rng.choices([self.bitfield, self.keepalive, self.frame], [6, 3, 3])[0]()
 
     def frame(self):
         return self.rng.choices(

@@ -115,9 +115,9 @@ def free_port():
 
 
 class Truck:
-    """A connection to a client, and the seat it has in a yard of its own."""
+    """A connection to a client, and the seat it has in a yard of its own. Some keepalives are put before the client's frames."""
 
-    def __init__(self, replay, package, port, cuts, until):
+    def __init__(self, replay, package, port, cuts, until, keepalives=0):
         self.replay, self.cuts, self.until = replay, cuts, until
         self.unused, self.fed, self.waits = b"", 0, 0
         self.heard, self.last, self.to_serve = [], {}, []
@@ -126,7 +126,7 @@ class Truck:
         after = self.shake(package.info_hash)
         same("start", replay.ask("start", package.pieces, PIECE_LENGTH, package.last, SEATS), "started")
         same("sit", replay.ask("sit"), "seat 0")
-        self.take(after)
+        self.take(bytes(4 * keepalives) + after)
 
     def send(self, *words):
         try:
@@ -193,7 +193,7 @@ class Truck:
 
     def says(self):
         """Who it is, and how many frames of each id came."""
-        return f"{self.peer_id[:8].decode()} {dict(sorted(Counter(self.heard).items()))}"
+        return f"{self.peer_id[:8].decode()} {dict(sorted(Counter(self.heard).items(), key=str))}"
 
     def __enter__(self):
         return self
@@ -202,11 +202,11 @@ class Truck:
         self.socket.close()
 
 
-def boarded(replay, package, port, cuts, until):
+def boarded(replay, package, port, cuts, until, keepalives=0):
     """A truck, once the client knows the torrent: while it looks through its files it hangs up on those who ask for it."""
     while True:
         try:
-            return Truck(replay, package, port, cuts, until)
+            return Truck(replay, package, port, cuts, until, keepalives)
         except HungUp:
             if time.monotonic() > until:
                 raise
@@ -263,18 +263,22 @@ def played(scene, replay, folder, client, pieces):
 
 
 def seeders(replay, folder):
-    """Each client as a seeder, heard byte by byte and cut at random: its bitfield shows it as loaded, and it gives us a piece."""
+    """Each client as a seeder, heard byte by byte and cut at random, with keepalives before its bitfield and without.
+
+    The bitfield shows it as loaded, and it gives us a piece.
+    """
     return "loaded: " + with_each(seeder, replay, folder, 37)
 
 
 def seeder(replay, where, client, pieces, until):
     package, port = Package(replay, where, ANNOUNCE, pieces), free_port()
     with client(package, package.full, port):
-        for cuts in (None, random.Random(pieces)):
-            with boarded(replay, package, port, cuts, until) as truck:
+        for cuts, keepalives in (None, 0), (None, 3), (random.Random(pieces), 1000):
+            with boarded(replay, package, port, cuts, until, keepalives) as truck:
                 while not truck.is_loaded():
                     truck.listen()
                 check_loaded(replay, package)
+                same("frames up to the bitfield", truck.heard[: keepalives + 1], ["keepalive"] * keepalives + [BITFIELD])
                 if cuts:
                     fetch(truck, package, pieces - 1)
                 else:

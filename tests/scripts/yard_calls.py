@@ -195,22 +195,25 @@ def serving():
 
 
 def freshness():
-    """What ends fresh: every frame that is taken, and nothing else."""
+    """What ends fresh: every frame with an id that is taken, and nothing else."""
     full = bitfield("e0")
     pairs = [("start 3 16384 16384 1", "started")]
     for frame, answer in [
-        (KEEPALIVE, "taken 4"),
         (CHOKE, "taken 5"),
         (have(0), "taken 9"),
         (bitfield("00"), "taken 6"),
         (request(0, 0, 1), "drop 17"),
         (cancel(0, 0, 1), "taken 17"),
         (block(0, 0, 1), "taken 14"),
+        ("0000000109", "taken 5"),
         ("0000000114", "taken 5"),
+        ("000000021400", "taken 6"),
+        ("00000001ff", "taken 5"),
     ]:
         pairs += [("sit", "seat 0"), (f"feed 0 {frame}", answer), (f"feed 0 {full}", refused(30)), ("leave 0", "left")]
     pairs += [("sit", "seat 0")]
     for frame, answer in [
+        (KEEPALIVE, "taken 4"),
         ("-", "wait"),
         ("000000", "wait"),
         (full[:-2], "wait"),
@@ -227,10 +230,53 @@ def freshness():
     ]:
         pairs += [(f"feed 0 {frame}", answer), ("seat 0", "fresh 0 1 0 1 0")]
     pairs += [(f"feed 0 {full}", "taken 6"), ("seat 0", "used 3 1 0 1 0"), ("head", "1 1")]
-    # 30 comes before 32 and 33, and 21 before all three.
+    # 30 comes before 32 and 33, and 21 before all three; a keepalive makes nobody fresh.
     for frame, number in [(full, 30), (bitfield("e000"), 30), (bitfield("f0"), 30), (bitfield(""), 21)]:
         pairs += [(f"feed 0 {frame}", refused(number)), ("seat 0", "used 3 1 0 1 0")]
+        pairs += [(f"feed 0 {KEEPALIVE}", "taken 4"), ("seat 0", "used 3 1 0 1 0")]
     return steps(*pairs)
+
+
+SILENT, LOADED = ("seat 0", "fresh 0 1 0 1 0"), ("seat 0", "used 10 1 0 1 0")
+KEPT = (f"feed 0 {KEEPALIVE}", "taken 4")
+AGAIN = [("leave 0", "left"), ("sit", "seat 0")]
+
+
+def loaded_after(count):
+    """So many keepalives and then a bitfield, which is taken."""
+    return [
+        *[KEPT] * count, SILENT, ("head", "1 0"), ("missing 0 2", "0 of 1 next 2"),
+        (f"feed 0 {bitfield('ffc0')}", "taken 7"), LOADED, ("head", "1 1"), ("missing 0 2", "- of 0 next 2"),
+    ]
+
+
+def keepalives():
+    """A keepalive is taken and says nothing, wherever it comes and however it is cut."""
+    full = bitfield("ffc0")
+    pairs = [("start 10 16384 16384 2", "started"), ("sit", "seat 0")]
+    for count in (1, 2, 3):
+        pairs += [*loaded_after(count), *AGAIN]
+    pairs += [(f"feed 0 {KEEPALIVE}{full}", "taken 4"), SILENT, (f"feed 0 {full}{KEEPALIVE}", "taken 7"), LOADED, *AGAIN]
+    for cut in (1, 2, 3):
+        some = (f"feed 0 {KEEPALIVE[: 2 * cut]}", "wait")
+        pairs += [some, SILENT, KEPT, some, SILENT, (f"feed 0 {full}", "taken 7"), LOADED, *AGAIN]
+    # After a frame with an id the bitfield is late, with keepalives between them too.
+    for first, answer, then in [
+        (have(9), "taken 9", "used 1 1 0 1 0"),
+        (INTERESTED, "taken 5", "used 0 1 0 1 1"),
+        ("0000000114", "taken 5", "used 0 1 0 1 0"),
+    ]:
+        pairs += [KEPT, (f"feed 0 {first}", answer), KEPT, KEPT, ("seat 0", then), (f"feed 0 {full}", refused(30)), ("seat 0", then), *AGAIN]
+    # A refused frame leaves the truck fresh.
+    pairs += [KEPT, (f"feed 0 {have(10)}", refused(31)), KEPT, (f"feed 0 {bitfield('ff')}", refused(32)), *loaded_after(1), *AGAIN]
+    # Marks, counts and the other seat stay.
+    pairs += [("choke 0 0 5", UNCHOKE), ("interest 0 1 5", INTERESTED), KEPT, ("seat 0", "fresh 0 0 1 1 0"), (f"feed 0 {full}", "taken 7"), KEPT]
+    pairs += [("seat 0", "used 10 0 1 1 0"), ("head", "1 1"), ("count 9", "1"), (f"feed 1 {KEEPALIVE}", refused(36)), ("seat 1", "free")]
+    return steps(*pairs)
+
+
+def many_keepalives():
+    return steps(("start 10 16384 16384 2", "started"), ("sit", "seat 0"), *loaded_after(1000))
 
 
 def counting():
@@ -354,6 +400,7 @@ SMALL = {
     "yard-starts": starts,
     "yard-seats": lambda: seats() + marks(),
     "yard-frames": lambda: serving() + freshness(),
+    "yard-keepalives": keepalives,
     "yard-counts": lambda: counting() + pages(),
 }
-BIG = {"yard-full": full_yard}
+BIG = {"yard-full": full_yard, "yard-many-keepalives": many_keepalives}
