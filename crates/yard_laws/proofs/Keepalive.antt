@@ -47,11 +47,11 @@ module _ (y : Yard) (i : ℕ) (s : List ℕ) (none : Zero s) (fit : Fit y) (here
 -- ---- to the history
 
 module _ (h : History) (i : ℕ) (s : List ℕ) (a : Outcome Said) (w : List ℕ) (none : Zero s) where
-  abbrev e : Entry
-  e = entry (feed i s) a w
+  abbrev fed : Entry
+  fed = entry (feed i s) a w
 
   -- at its seat it is a keepalive heard, or refused, and at the others nothing
-  so-of-both : (P : Event → Type 0) → P nothing → P (heard keepalive) → (j : ℕ) → P (event j e)
+  so-of-both : (P : Event → Type 0) → P nothing → P (heard keepalive) → (j : ℕ) → P (event j fed)
   unfolding event
   so-of-both P x y j = go a
     where
@@ -59,7 +59,7 @@ module _ (h : History) (i : ℕ) (s : List ℕ) (a : Outcome Said) (w : List ℕ
       go (taken said) = by-test P (eqb j i) (λ q. rw (reads s none) y) (λ q. x)
       go (refused n p) = x
 
-  sizes-same : (z : Sizes) → sizesWith e z ≡ z
+  sizes-same : (z : Sizes) → sizesWith fed z ≡ z
   unfolding sizesWith
   sizes-same z = go a
     where
@@ -67,9 +67,9 @@ module _ (h : History) (i : ℕ) (s : List ℕ) (a : Outcome Said) (w : List ℕ
       go (taken said) = refl
       go (refused n p) = refl
 
-  pub keepalive-unsaid : ((j : ℕ) → recordOf (e ∷ h) j ≡ recordOf h j) × ((j p : ℕ) → announced (e ∷ h) j p ≡ announced h j p) × (sizesSet (e ∷ h) ≡ sizesSet h)
+  pub keepalive-unsaid : ((j : ℕ) → recordOf (fed ∷ h) j ≡ recordOf h j) × ((j p : ℕ) → announced (fed ∷ h) j p ≡ announced h j p) × (sizesSet (fed ∷ h) ≡ sizesSet h)
   keepalive-unsaid = (
-    λ j. record-then h e sizes-same j (event j e) refl
+    λ j. record-then h fed sizes-same j (event j fed) refl
         ∙ so-of-both (λ v. recordThen v h j ≡ recordOf h j) refl
         (ap (λ (k : ℕ). holding k (recordOf h j)) (count-ext _ _ (pieces h) (λ p l. ap (λ (b : Bool). seated h j && b) (or-first (announced h j p) false refl)))) j,
     λ j p. so-of-both (λ v. announcedBy v p (announced h j p) ≡ announced h j p) refl (or-first (announced h j p) false refl) j,
