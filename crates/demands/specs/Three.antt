@@ -2,7 +2,7 @@
 -- Nothing is asked of what stands in the tables that are lent first: the first call of a run is a start that is accepted, and from there on the tables are handed
 -- from call to call as each leaves them. A history holds the calls with their answers, the newest first; `seated`, `announced`, `fresh` and the four marks are
 -- recursions on it that look at no table (yard_laws/specs/History.antt).
-use mathlib.Core.Path.{_≡_, refl, sym, ap, _∙_}
+use mathlib.Core.Path.{_≡_, refl, sym, ap, subst, _∙_}
 use mathlib.Core.Logic.{_↔_, Iff·trans}
 use mathlib.Core.Bool.{true, false, not, _&&_}
 use mathlib.Core.List.{List, _∷_, _++_, List·Memᴰ as In}
@@ -15,7 +15,7 @@ use Rattle.yard_tables.specs.Counting.{bit, count, some}
 use Rattle.yard_tables.specs.Rows.{width, hasIn}
 use Rattle.yard_tables.specs.Seats.{cleared}
 use Rattle.yard_tables.specs.Looks.{firstOr}
-use Rattle.yard_tables.specs.Tables.{Yard, Said, Out, wait, used, serve, dropped, listed, scarce, seated as givesSeat}
+use Rattle.yard_tables.specs.Tables.{Yard, Said, Out, wait, serve, dropped, listed, scarce, seated as givesSeat}
 use Rattle.yard_tables.specs.Step.{Call, sit, feed, missing, scarcest, look, step, written}
 use Rattle.yard_tables.specs.declared.Head.{Head}
 use Rattle.yard_tables.specs.declared.Seat.{Seat}
@@ -61,12 +61,17 @@ ascending-unique first l m = pages.ascending-unique l m
 pub tables-fixed : (lent other : Yard) (h : History) (y z : Yard) → Made lent h y → Made other h z → fixedBy lent ≡ fixedBy other → y ≡ z
 tables-fixed lent other h y z m k e = runs.run-same lent other e h h y z (made-run lent h y m) (made-run other h z k) refl
 
--- a keepalive says nothing: where the sizes fit and a truck sits it is taken with its 4 bytes, and the tables stay byte for byte, whatever stands in them
-pub keepalive-keeps : (t : Tables) (i : ℕ) (bytes : Lent (List ℕ)) (r : ℕ) (told : Lent Told) → yard.feed-ensures i bytes r (t .head) (t .seats) (t .rows) (t .holders) told
-    → Fit (found t) → Taken (found t) i → Zero (before bytes)
-    → (r ≡ 0) × (after told ≡ record { value = 4; request = 0; total = 0; next = 0 })
+-- a call was taken that used 4 bytes and left every table byte for byte
+abbrev pub UsesFour : Tables → ℕ → Lent Told → Type 0
+UsesFour t r told =
+    (r ≡ 0) × (after told ≡ record { value = 4; request = 0; total = 0; next = 0 })
     × (after (t .head) ≡ before (t .head)) × (after (t .seats) ≡ before (t .seats)) × (after (t .rows) ≡ before (t .rows)) × (after (t .holders) ≡ before (t .holders))
-keepalive-keeps t i bytes r told e fit here none =
+
+-- a keepalive, whose four bytes name the length 0 (`Zero`: peer_wire/specs/Causes.antt), says nothing: so it is where the sizes fit and a truck sits, whatever stands in
+-- the tables
+pub keepalive-says-nothing : (t : Tables) (i : ℕ) (bytes : Lent (List ℕ)) (r : ℕ) (told : Lent Told) → yard.feed-ensures i bytes r (t .head) (t .seats) (t .rows) (t .holders) told
+    → Fit (found t) → Taken (found t) i → Zero (before bytes) → UsesFour t r told
+keepalive-says-nothing t i bytes r told e fit here none =
     let k = keepalive.keepalive-kept (found t) i (before bytes) none fit here in
     let z = e .2 ∙ ap (λ (o : Out). o .yard) k in (
       e .0 ∙ ap (λ (o : Out). codeOf (o .answer)) k,
@@ -156,9 +161,12 @@ module _ (lent : Yard) (h : History) (y : Yard) (made : Made lent h y) where
   pub written-right : (c : Call) → written c y ≡ output fixed h c
   written-right = theorem.wrote fixed h y agrees
 
-  -- a keepalive of a truck that sits is taken with its 4 bytes, and leaves the tables
-  pub keepalive-right : (i : ℕ) (s : List ℕ) → Sits fixed h i → Zero s → step (feed i s) y ≡ record { answer = taken (used 4); yard = y }
-  keepalive-right = demand.keepalive-right fixed h y agrees
+  -- so a keepalive of any truck that sits uses its 4 bytes and changes nothing
+  pub keepalive-right : (t : Tables) → found t ≡ y → (i : ℕ) (bytes : Lent (List ℕ)) (r : ℕ) (told : Lent Told) → yard.feed-ensures i bytes r (t .head) (t .seats) (t .rows) (t .holders) told
+      → Sits fixed h i → Zero (before bytes) → UsesFour t r told
+  keepalive-right t f i bytes r told e sits =
+      let (fit, here) = demand.sits-taken fixed h y agrees i sits in
+      keepalive-says-nothing t i bytes r told e (subst Fit (sym f) fit) (subst (λ (x : Yard). Taken x i) (sym f) here)
 
   -- ---- 11. "Tops: S for head and holder counts, P for held."
 

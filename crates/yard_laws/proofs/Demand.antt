@@ -2,7 +2,6 @@
 -- (`run-agrees`: Theorem.antt). Assumes nothing.
 use mathlib.Core.Path.{_≡_, sym, ap, _∙_}
 use mathlib.Core.Logic.{_↔_}
-use mathlib.Core.Bool.{true}
 use mathlib.Core.List.{List}
 use Prim.Native.Nat.{ℕ, _≤_, _<_}
 use native.Mathlib.Omega.{arith}
@@ -10,13 +9,12 @@ use lib.ListN.{length, getD}
 use Rattle.refusal.specs.Paper.{Outcome, taken, refused}
 use Rattle.refusal.specs.Numbers.{damaged}
 use Rattle.refusal.proofs.Cases.{both}
-use Rattle.peer_wire.specs.Causes.{Zero}
 use Rattle.yard_tables.specs.Counting.{count, Least}
 use Rattle.yard_tables.proofs.Counts.{count-le, count-sub}
 use Rattle.yard_tables.proofs.Flags.{on-bit}
 use Rattle.yard_tables.specs.Seats.{on, cleared}
-use Rattle.yard_tables.specs.Tables.{Yard, Said, wait, used, serve, dropped, scarce, seated as givesSeat, sizesFit}
-use Rattle.yard_tables.specs.Step.{Call, sit, feed, scarcest, step, written}
+use Rattle.yard_tables.specs.Tables.{Yard, Said, wait, serve, dropped, scarce, seated as givesSeat, sizesFit}
+use Rattle.yard_tables.specs.Step.{Call, sit, scarcest, step, written}
 use Rattle.yard_tables.specs.declared.Head.{Head}
 use Rattle.yard_tables.specs.declared.Seat.{Seat}
 use Rattle.yard_laws.specs.History.{History, Fixed, seated, announced, pieces}
@@ -24,13 +22,13 @@ use Rattle.yard_laws.specs.Says.{hasPiece, loaded, allOf, holders, Lowes
 use Rattle.yard_laws.specs.Expected.{answer}
 use Rattle.yard_laws.specs.Causes.{Sits, Cause, WaitCause, Serves, Drops}
 use Rattle.yard_laws.specs.Given.{Gives, seats, picks, Writes}
+use Rattle.yard_laws.specs.Damage.{Fit, Taken}
 use Rattle.yard_laws.proofs.Agreeing.{Agrees}
 use Rattle.yard_laws.proofs.Calls.{sizes-here}
 use Rattle.yard_laws.proofs.Theorem.{answered, wrote}
 use Rattle.yard_laws.proofs.Fair.{refused-exactly, wait-exactly-when, taken-without, never-damaged as undamaged}
 use Rattle.yard_laws.proofs.Serving.{serve-exactly, drop-exactly}
 use Rattle.yard_laws.proofs.Damage.{fit-is}
-use Rattle.yard_laws.proofs.Keepalive.{keepalive-kept}
 use Rattle.yard_laws.proofs.Given.{given-exactly, writes-exactly}
 
 module _ (fixed : Fixed) (h : History) (y : Yard) (agrees : Agrees fixed h y) where
@@ -46,13 +44,12 @@ module _ (fixed : Fixed) (h : History) (y : Yard) (agrees : Agrees fixed h y) wh
   pub complete-right : y .head .complete ≡ count n (loaded h)
   complete-right = ap (λ (k : Head). k .complete) (agrees .head-is)
 
-  -- a keepalive of a truck that sits leaves everything
-  pub keepalive-right : (i : ℕ) (s : List ℕ) → Sits fixed h i → Zero s → step (feed i s) y ≡ record { answer = taken (used 4); yard = y }
-  keepalive-right i s sits none =
-      let e : on (getD (y .seats) i cleared .taken) ≡ true = ap (λ (x : Seat). on (x .taken)) (agrees .seat-is i) ∙ on-bit (seated h i) ∙ sits .1 in
-      keepalive-kept y i s none
-      (fit-is y (ap (λ (k : ℕ). sizesFit (y .head) k (length (y .rows)) (length (y .holders))) (agrees .seats-len) ∙ agrees .fits))
-      (omega (arith, agrees .seats-len, sits .0), e)
+  -- a truck that sits by the history does so by the tables, whose sizes fit
+  pub sits-taken : (i : ℕ) → Sits fixed h i → Fit y × Taken y i
+  sits-taken i sits = (
+    fit-is y (ap (λ (k : ℕ). sizesFit (y .head) k (length (y .rows)) (length (y .holders))) (agrees .seats-len) ∙ agrees .fits),
+    (omega (arith, agrees .seats-len, sits .0), ap (λ (x : Seat). on (x .taken)) (agrees .seat-is i) ∙ on-bit (seated h i) ∙ sits .1),
+  )
 
   -- ---- 11: no count passes what it could reach
 

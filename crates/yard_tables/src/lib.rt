@@ -19,8 +19,8 @@ pub struct Head {
     pub complete: u32,
 }
 
-// One seat. Fresh: no frame of its truck with an id was taken yet. The marks are BEP 3's, `am` ours and `peer` the truck's. The flags
-// and `held` are one word of 64 bits; further fields follow as whole words, so that no byte is padding.
+// One seat. Fresh: no frame of its truck with an id was taken yet. The marks are BEP 3's, `am` ours and `peer` the
+// truck's. The flags and `held` are one word of 64 bits; further fields follow as whole words, so that no byte is padding.
 #[repr(C)]
 pub struct Seat {
     pub taken: u8,
