@@ -1,4 +1,4 @@
-"""The yard: document 01's steps, every refusal, every frame, pages, and a full yard of the largest size."""
+"""The yard: document 01's steps, every refusal, every frame, keepalives, pages, and a full yard of the largest size."""
 
 from notation import case, refused
 
