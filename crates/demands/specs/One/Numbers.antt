@@ -361,7 +361,7 @@ handshake-22 bytes info r e h p = Iff·trans (same-answer e) (framing.handshake-
 pub handshake-23 : (bytes info : Lent (List ℕ)) (r : Greeting) → wire.read-handshake-ensures bytes info r → length (before info) ≡ 20 → (p : ℕ) → shakePaper r ≡ refused 23 p ↔ (Named (before bytes) × (68 ≤ length (before bytes)) × (infoIn (before bytes) ≡ before info → ⊥) × (p ≡ 0))
 handshake-23 bytes info r e h p = Iff·trans (same-answer e) (framing.handshake-23 (before info) (before bytes) p h)
 
--- ---- 30: "bitfield not first"
+-- ---- 30: "bitfield not first", which document 02 says of the frames with an id
 
 -- given by yard, after an accepted start and any calls
 pub yard-30 : (lent : Yard) (h : History) (t : Tables) → Made lent h (found t) → (c : Call) (r : ℕ) (z : Yard) → Permits t c r z
