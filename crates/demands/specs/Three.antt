@@ -15,7 +15,7 @@ use Rattle.yard_tables.specs.Counting.{bit, count, some}
 use Rattle.yard_tables.specs.Rows.{width, hasIn}
 use Rattle.yard_tables.specs.Seats.{cleared}
 use Rattle.yard_tables.specs.Looks.{firstOr}
-use Rattle.yard_tables.specs.Tables.{Yard, Said, Out, wait, serve, dropped, listed, scarce, seated as givesSeat}
+use Rattle.yard_tables.specs.Tables.{Yard, Said, wait, serve, dropped, listed, scarce, seated as givesSeat}
 use Rattle.yard_tables.specs.Step.{Call, sit, feed, missing, scarcest, look, step, written}
 use Rattle.yard_tables.specs.declared.Head.{Head}
 use Rattle.yard_tables.specs.declared.Seat.{Seat}
@@ -36,6 +36,7 @@ use Rattle.yard_laws.proofs.Keepalive as keepalive
 use Rattle.yard_telling.specs.Telling.{codeOf, toldOf, shownOf}
 use Rattle.yard_telling.specs.declared.Told.{Told}
 use Rattle.demands_laws.proofs.Refusals.{same-answer}
+use Rattle.demands_laws.proofs.Keeping.{same-tables}
 use Rattle.demands_laws.proofs.Tables.{no-wait}
 use Rattle.demands_laws.proofs.Runs as runs
 use Rattle.demands_laws.proofs.Runs.{start-taken}
@@ -73,14 +74,8 @@ pub keepalive-says-nothing : (t : Tables) (i : ℕ) (bytes : Lent (List ℕ)) (r
     → Fit (found t) → Taken (found t) i → Zero (before bytes) → UsesFour t r told
 keepalive-says-nothing t i bytes r told e fit here none =
     let k = keepalive.keepalive-kept (found t) i (before bytes) none fit here in
-    let z = e .2 ∙ ap (λ (o : Out). o .yard) k in (
-      e .0 ∙ ap (λ (o : Out). codeOf (o .answer)) k,
-      e .1 ∙ ap (λ (o : Out). toldOf (o .answer) (before told)) k,
-      ap (λ (x : Yard). x .head) z,
-      ap (λ (x : Yard). x .seats) z,
-      ap (λ (x : Yard). x .rows) z,
-      ap (λ (x : Yard). x .holders) z,
-    )
+    let s = same-tables (e .2 ∙ k .1) refl in
+    (e .0 ∙ ap codeOf (k .0), e .1 ∙ ap (λ (a : Outcome Said). toldOf a (before told)) (k .0), s .0, s .1, s .2, s .3)
 
 -- nor does it change anything that a history says: of each seat its record and what is announced there, and the sizes
 pub keepalive-unsaid : (h : History) (i : ℕ) (s : List ℕ) (a : Outcome Said) (w : List ℕ) → Zero s

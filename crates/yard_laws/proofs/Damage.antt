@@ -305,12 +305,16 @@ module _ (y : Yard) where
   sitting-to : (i : ℕ) (t : Turn) → Taken y i → sitting i n (seatAt i) t ≡ t
   sitting-to i t h = ap (λ (b : Bool). cond b t (refuse seat (seatAt i))) (both-true (ltb i n) (on (getD (y .seats) i cleared .taken)) (lt-ltb i n (h .0)) (h .1))
 
+  pub heard-at : (i : ℕ) (s : List ℕ) (m : Message (List ℕ)) (bytes : ℕ) → Fit y → Taken y i → Says s m bytes → feedOf i s n (seatAt i) ≡ messageOf n i bytes m (seatAt i)
+  unfolding feedOf
+  heard-at i s m bytes fit here f =
+      sized-to i _ fit ∙ sitting-to i _ here ∙ ap (λ (o : Outcome Found). frameOf n i s o (seatAt i)) (f .reads)
+      ∙ ap (λ (q : Message (List ℕ)). messageOf n i bytes q (seatAt i)) (f .means)
+
   heard-as : (i : ℕ) (s : List ℕ) (m : Message (List ℕ)) (bytes : ℕ) → Fit y → Taken y i → Says s m bytes
       → step (feed i s) y .answer ≡ messageOf n i bytes m (seatAt i) .answer
-  unfolding step feedOf
-  heard-as i s m bytes fit here f = ap (λ (t : Turn). t .answer)
-      (sized-to i _ fit ∙ sitting-to i _ here ∙ ap (λ (o : Outcome Found). frameOf n i s o (seatAt i)) (f .reads)
-      ∙ ap (λ (q : Message (List ℕ)). messageOf n i bytes q (seatAt i)) (f .means))
+  unfolding step
+  heard-as i s m bytes fit here f = ap (λ (t : Turn). t .answer) (heard-at i s m bytes fit here f)
 
   -- a frame that announces a count too many
   over-given : (i : ℕ) (s : List ℕ) (said : ℕ → Bool) → Fit y → Taken y i → Announces y i s said → overTop n i said (seatAt i) ≡ true → step (feed i s) y .answer ≡ refused damaged 0

@@ -5,28 +5,24 @@ use mathlib.Core.Bool.{Bool, true, false, not, _&&_}
 use mathlib.Core.List.{List, [], _∷_, _++_, List·Memᴰ as In, List·Memᴰ·head, List·Memᴰ·tail, List·Memᴰ·not-nil, List·Memᴰ·cases-cons}
 use Prim.Native.Nat.{ℕ}
 use lib.Dec.{eqb}
-use lib.ListN.{length, set}
-use lib.Seq.{set-getD}
+use lib.ListN.{length}
 use Rattle.refusal.specs.Paper.{Outcome, taken, refused}
-use Rattle.refusal.proofs.Cases.{no-way, cannot, by-bool, by-test, pick-yes, and-not, or-first}
+use Rattle.refusal.proofs.Cases.{no-way, cannot, by-bool, by-test, and-not, or-first}
 use Rattle.peer_wire.specs.Message.{Message, keepalive, body}
 use Rattle.peer_wire.specs.Frames.{found, readOf}
 use Rattle.peer_wire.specs.Causes.{Zero}
 use Rattle.peer_wire.proofs.Decided.{decides}
-use Rattle.yard_tables.specs.Seats.{cleared, holding}
-use Rattle.yard_tables.specs.Tables.{Yard, Said, used, Turn, says, yardOf}
+use Rattle.yard_tables.specs.Seats.{holding}
+use Rattle.yard_tables.specs.Tables.{Yard, Said, used, Turn, says}
 use Rattle.yard_tables.specs.Frames.{messageOf, feedOf}
 use Rattle.yard_tables.specs.Step.{feed, step}
-use Rattle.yard_tables.specs.declared.Seat.{Seat}
 use Rattle.yard_tables.proofs.Counts.{count-ext}
+use Rattle.yard_tables.proofs.Keeping.{put-back}
 use Rattle.yard_laws.specs.History.{Entry, History, entry, Event, nothing, came, gone, heard, weChoke, weWant, event, eventOf, seated, seatedBy, announced, announcedBy, fresh, freshBy, hasId, Spoke, pieces, Sizes, sizesSet, sizesWith, sizesAfter}
 use Rattle.yard_laws.specs.Says.{recordOf}
-use Rattle.yard_laws.specs.View.{byTables}
-use Rattle.yard_laws.specs.Expected.{sitsBy}
 use Rattle.yard_laws.specs.Damage.{Fit, Taken}
 use Rattle.yard_laws.proofs.Agreeing.{recordThen, record-then}
-use Rattle.yard_laws.proofs.Damage.{seatAt, fits, is-fit}
-use Rattle.yard_laws.proofs.OnTables.{is-sits}
+use Rattle.yard_laws.proofs.Damage.{seatAt, heard-at}
 
 reads : (s : List ℕ) → Zero s → readOf s ≡ taken (found keepalive 4)
 reads s none = decides s (taken (found keepalive 4)) (inl (none, refl, refl))
@@ -35,14 +31,12 @@ reads s none = decides s (taken (found keepalive 4)) (inl (none, refl, refl))
 
 module _ (y : Yard) (i : ℕ) (s : List ℕ) (none : Zero s) (fit : Fit y) (here : Taken y i) where
   at-its-seat : feedOf i s (length (y .seats)) (seatAt y i) ≡ says (used 4) (seatAt y i)
-  unfolding feedOf messageOf
-  at-its-seat = sym (pick-yes _ (fits y) (is-fit y fit) (pick-yes _ (sitsBy (byTables y) i) (is-sits y i here) (rw (reads s none))))
+  unfolding messageOf
+  at-its-seat = heard-at y i s keepalive 4 fit here (record { at = keepalive; reads = reads s none; means = refl })
 
-  pub keepalive-kept : step (feed i s) y ≡ record { answer = taken (used 4); yard = y }
+  pub keepalive-kept : (step (feed i s) y .answer ≡ taken (used 4)) × (step (feed i s) y .yard ≡ y)
   unfolding step
-  keepalive-kept =
-      ap (λ (t : Turn). record { answer = t .answer; yard = record { head = t .after .head; seats = set (y .seats) i (t .after .seat); rows = t .after .rows; holders = t .after .holders } }) at-its-seat
-      ∙ ap (λ (l : List Seat). record { answer = taken (used 4); yard = yardOf (y .head) l (y .rows) (y .holders) }) (set-getD (y .seats) i cleared)
+  keepalive-kept = (ap (λ (t : Turn). t .answer) at-its-seat, put-back y i (feedOf i s) (ap (λ (t : Turn). t .after) at-its-seat))
 
 -- ---- to the history
 

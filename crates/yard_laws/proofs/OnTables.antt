@@ -104,7 +104,7 @@ module _ (y : Yard) where
   sits-is : (i : ℕ) → sitsBy v i ≡ true → Taken y i
   sits-is i e = let q = and-eq-true-iff (ltb i n) (on (seatOf y i .taken)) .0 e in (ltb-true i n (q .0), q .1)
 
-  pub is-sits : (i : ℕ) → Taken y i → sitsBy v i ≡ true
+  is-sits : (i : ℕ) → Taken y i → sitsBy v i ≡ true
   is-sits i h = both-true (ltb i n) (on (seatOf y i .taken)) (lt-ltb i n (h .0)) (h .1)
 
   -- ---- where the sizes fit and no count is damaged, the answer is the one by what the tables say

@@ -122,11 +122,18 @@ module _ (y : Yard) where
   abbrev KeepsYard : Out → Type 0
   KeepsYard o = Unused (o .answer) → o .yard ≡ y
 
-  back : (i : ℕ) (f : ℕ → Around → Turn) → Keeps (around (y .head) (getD (y .seats) i cleared) (y .rows) (y .holders)) (f (length (y .seats)) (around (y .head) (getD (y .seats) i cleared) (y .rows) (y .holders)))
-      → KeepsYard (atSeat i f y)
-  back i f k u =
-      ap (λ (x : Around). yardOf (x .head) (set (y .seats) i (x .seat)) (x .rows) (x .holders)) (k u)
+  -- seat i and the tables around it
+  abbrev At : ℕ → Around
+  At i = around (y .head) (getD (y .seats) i cleared) (y .rows) (y .holders)
+
+  -- what leaves these leaves the yard
+  pub put-back : (i : ℕ) (f : ℕ → Around → Turn) → f (length (y .seats)) (At i) .after ≡ At i → atSeat i f y .yard ≡ y
+  put-back i f k =
+      ap (λ (x : Around). yardOf (x .head) (set (y .seats) i (x .seat)) (x .rows) (x .holders)) k
       ∙ ap (λ (l : List Seat). yardOf (y .head) l (y .rows) (y .holders)) (set-getD (y .seats) i cleared)
+
+  back : (i : ℕ) (f : ℕ → Around → Turn) → Keeps (At i) (f (length (y .seats)) (At i)) → KeepsYard (atSeat i f y)
+  back i f k u = put-back i f (k u)
 
   pub step-keeps : (c : Call) → Unused (step c y .answer) → step c y .yard ≡ y
   unfolding step startOf
