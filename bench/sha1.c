@@ -14,7 +14,7 @@ static uint32_t turned(uint32_t x, int n) { return x << n | x >> (32 - n); }
 
 static uint32_t word(const uint8_t *b) { return (uint32_t)b[0] << 24 | (uint32_t)b[1] << 16 | (uint32_t)b[2] << 8 | b[3]; }
 
-/* One block with all 80 words kept, as in the proved code, but made before the rounds, one a turn, and a loop for each twenty rounds, one a turn. */
+/* One block with all 80 words kept, made before the rounds, one a turn, and a loop for each twenty rounds, one a turn. */
 static void plain_block(uint32_t *h, const uint8_t *p) {
     uint32_t w[80], a = h[0], b = h[1], c = h[2], d = h[3], e = h[4];
     for (int t = 0; t < 16; t++) w[t] = word(p + 4 * t);
@@ -32,7 +32,7 @@ static void plain_block(uint32_t *h, const uint8_t *p) {
     h[0] += a, h[1] += b, h[2] += c, h[3] += d, h[4] += e;
 }
 
-/* One block with a window of 16 words and the rounds written out, five at a time, so that no value moves. */
+/* One block with a window of 16 words, as in the proved code, and the rounds written out, five at a time, so that no value moves. */
 static void unrolled_block(uint32_t *h, const uint8_t *p) {
     uint32_t w[16], a = h[0], b = h[1], c = h[2], d = h[3], e = h[4];
 #define LOAD(t) (w[t] = word(p + 4 * (t)))
@@ -99,7 +99,8 @@ static int race(const uint8_t *m, size_t n, int runs, const char *size, const ch
             if (spent < least[k]) least[k] = spent;
         }
     printf("SHA-1 of %s, the least of %d runs%s\n", size, runs, note);
-    for (int k = 0; k < WAYS; k++) printf("%-20s %8.0f MB/s   of unrolled C %5.2f\n", ways[k].name, (double)n / least[k] / 1e6, least[2] / least[k]);
+    for (int k = 0; k < WAYS; k++)
+        printf("%-20s %8.0f MB/s   of unrolled C %5.2f   of OpenSSL %5.2f\n", ways[k].name, (double)n / least[k] / 1e6, least[2] / least[k], least[3] / least[k]);
     return 0;
 }
 

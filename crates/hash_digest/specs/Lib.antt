@@ -1,3 +1,4 @@
 -- The definitions, a file for each subject.
 pub mod Words
+pub mod Window
 pub mod Message

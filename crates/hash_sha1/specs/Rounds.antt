@@ -1,30 +1,27 @@
 -- What holds between the parts of the block function. Assumes nothing: these are definitions.
 -- They serve inner contracts alone and need not be believed: the contract of `compressed` speaks of Sha1.antt.
-use mathlib.Core.Path.{_≡_}
 use mathlib.Core.List.{List}
-use Prim.Native.Nat.{ℕ, _+_}
-use lib.ListN.{length, take, getD, set}
-use Rattle.hash_sha1.specs.Sha1.{schedule, mixed, step}
+use Prim.Native.Nat.{ℕ, zero, suc, _+_, _*_}
+use lib.Bits.{bitXor}
+use Rattle.hash_digest.specs.Words.{rotl, ch}
+use Rattle.hash_digest.specs.Window.{Rule, Window, inWindow, moved}
+use Rattle.hash_sha1.specs.Sha1.{schedule, step}
 use Rattle.hash_sha1.specs.declared.block.Hash.{Hash}
-use Rattle.hash_sha1.specs.declared.block.Words.{Words}
+use Rattle.hash_sha1.specs.declared.block.Constants.{Constants}
+
+-- the constants of each twenty rounds
+abbrev pub constants : Constants
+constants = record { first = 0x5a827999; second = 0x6ed9eba1; third = 0x8f1bbcdc; last = 0xca62c1d6 }
 
 -- ---- the words
 
--- w has room for the schedule of the block b and holds its first n words
+-- how a word of the schedule is made from those before it
+abbrev pub rule : Rule
+rule = record { mix = λ x y z v. rotl 1 (bitXor (bitXor (bitXor x y) z) v); first = 3; second = 8; third = 14 }
+
+-- the last sixteen of the first n words of the schedule of the block b stand in the window
 abbrev pub Made : List ℕ → ℕ → List ℕ → Type 0
-Made b n w = (length w ≡ 80) × (take n w ≡ schedule b n)
-
--- word t made from those before it
-unfoldable pub word : ℕ → List ℕ → List ℕ
-word t w = set w t (mixed w t)
-
--- five of them from t on
-abbrev pub fiveWords : ℕ → List ℕ → List ℕ
-fiveWords t w = word (t + 4) (word (t + 3) (word (t + 2) (word (t + 1) (word t w))))
-
--- the five words that stand from t on
-abbrev pub fiveFrom : List ℕ → ℕ → Words
-fiveFrom w t = record { a = getD w t 0; b = getD w (t + 1) 0; c = getD w (t + 2) 0; d = getD w (t + 3) 0; e = getD w (t + 4) 0 }
+Made b n w = Window (schedule b 80) n w
 
 -- ---- the rounds of one kind, which has a function F and a constant k
 
@@ -35,30 +32,31 @@ turned f k g w = step g f k w
 abbrev pub roundBy : (ℕ → ℕ → ℕ → ℕ) → ℕ → Hash → ℕ → Hash
 roundBy F k g w = turned (F (g .b) (g .c) (g .d)) k g w
 
--- five rounds
-abbrev pub five : (ℕ → ℕ → ℕ → ℕ) → ℕ → Hash → Words → Hash
-five F k g w = roundBy F k (roundBy F k (roundBy F k (roundBy F k (roundBy F k g (w .a)) (w .b)) (w .c)) (w .d)) (w .e)
+-- n rounds from t on, on words that stand in the window
+unfoldable pub roundsAt : (ℕ → ℕ → ℕ → ℕ) → ℕ → ℕ → ℕ → Hash → List ℕ → Hash
+roundsAt F k t zero g w = g
+roundsAt F k t (suc n) g w = roundBy F k (roundsAt F k t n g w) (inWindow w (t + n))
 
--- on the words that stand from t on
-unfoldable pub fiveAt : (ℕ → ℕ → ℕ → ℕ) → ℕ → ℕ → Hash → List ℕ → Hash
-fiveAt F k t g w = five F k g (fiveFrom w t)
-
--- twenty
-abbrev pub twentyAt : (ℕ → ℕ → ℕ → ℕ) → ℕ → ℕ → Hash → List ℕ → Hash
-twentyAt F k t g w = fiveAt F k (t + 15) (fiveAt F k (t + 10) (fiveAt F k (t + 5) (fiveAt F k t g w) w) w) w
-
--- a hash value, and words that are made twenty rounds ahead of it
-pub record Ahead : Type 0 where
+-- a hash value and a window
+pub record Run : Type 0 where
   pub hash : Hash
   pub words : List ℕ
 
-abbrev pub ahead : Hash → List ℕ → Ahead
-ahead g w = record { hash = g; words = w }
+abbrev pub run : Hash → List ℕ → Run
+run g w = record { hash = g; words = w }
 
--- five rounds from t on, before which the words of five rounds twenty on are made
-unfoldable pub fiveOn : (ℕ → ℕ → ℕ → ℕ) → ℕ → ℕ → Ahead → Ahead
-fiveOn F k t x = ahead (fiveAt F k t (x .hash) (fiveWords (t + 20) (x .words))) (fiveWords (t + 20) (x .words))
+-- the first twenty rounds: of the words after the block's own, four are made before the last five
+unfoldable pub opening : ℕ → Run → Run
+opening k x =
+    let g = roundsAt ch k 10 5 (roundsAt ch k 5 5 (roundsAt ch k 0 5 (x .hash) (x .words)) (x .words)) (x .words) in
+    let v = moved rule 16 4 (x .words) in
+    run (roundsAt ch k 15 5 g v) v
 
--- twenty
-abbrev pub twenty : (ℕ → ℕ → ℕ → ℕ) → ℕ → ℕ → Ahead → Ahead
-twenty F k t x = fiveOn F k (t + 15) (fiveOn F k (t + 10) (fiveOn F k (t + 5) (fiveOn F k t x)))
+-- five words from t on, and five rounds on them
+unfoldable pub turn : (ℕ → ℕ → ℕ → ℕ) → ℕ → ℕ → Run → Run
+turn F k t x = let v = moved rule t 5 (x .words) in run (roundsAt F k t 5 (x .hash) v) v
+
+-- n times
+unfoldable pub turns : (ℕ → ℕ → ℕ → ℕ) → ℕ → ℕ → ℕ → Run → Run
+turns F k t zero x = x
+turns F k t (suc n) x = turn F k (t + 5 * n) (turns F k t n x)

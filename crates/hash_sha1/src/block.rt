@@ -1,12 +1,14 @@
-// SHA-1 of one block: 6.1.2 of FIPS 180-4.
+// SHA-1 of a message's whole blocks: 6.1.2 of FIPS 180-4, in the window of sixteen words of 6.1.3.
 ghost use mathlib.Core.Path.{_≡_};
 ghost use Prim.Native.Nat.{_+_, _<_, _≤_};
 ghost use lib.ListN.{length};
 ghost use Rattle.hash_digest.specs.Message.{hashed};
 ghost use Rattle.hash_sha1.specs.declared.block.Hash.{Hash};
-ghost use Rattle.hash_sha1.specs.Sha1.{plus, mixed, compress, output};
+ghost use Rattle.hash_sha1.specs.declared.block.Constants.{Constants};
+ghost use Rattle.hash_sha1.specs.Sha1.{plus, compress, output};
 ghost use Rattle.hash_digest.specs.Words.{ch, parity, maj};
-ghost use Rattle.hash_sha1.specs.Rounds.{Made, word, fiveWords, fiveFrom, turned, roundBy, five, fiveAt, ahead, fiveOn, twenty, twentyAt};
+ghost use Rattle.hash_digest.specs.Window.{inWindow, made, renewed, moved};
+ghost use Rattle.hash_sha1.specs.Rounds.{constants, rule, Made, turned, roundBy, roundsAt, run, opening, turn, turns};
 use hash_digest::word::add;
 use hash_digest::word::byte0;
 use hash_digest::word::byte1;
@@ -29,36 +31,27 @@ pub struct Hash {
     pub e: u32,
 }
 
-// Five words of the schedule, one after the other.
-struct Words {
-    a: u32,
-    b: u32,
-    c: u32,
-    d: u32,
-    e: u32,
+// 4.2.1: the constants of each twenty rounds.
+struct Constants {
+    first: u32,
+    second: u32,
+    third: u32,
+    last: u32,
 }
 
 // The hash value after the whole blocks of a message.
 pub fn whole(first: Hash, m: &[u8]) -> Hash
     ensures { λ r. ⌜ r ≡ hashed compress first (now (m .entry)) ⌝ }
 {
-    let n = m.len() / 64;
-    let mut w = [0u32; 80];
-    let mut h = first;
-    let mut i = 0;
-    while i < n {
-        h = compressed(h, &m[64 * i..64 * i + 64], &mut w);
-        i += 1;
-    }
-    h
+    all(first, m, standard())
 }
 
-// The hash value after one more block. The module is private: only `stream` calls it, with blocks of 64 bytes.
+// The hash value after one more block. The module is private: only `stream` and `once` call it, with blocks of 64 bytes.
 pub fn block(h: Hash, b: &[u8]) -> Hash
     requires { ⌜ length (now b) ≡ 64 ⌝ }
     ensures { λ r. ⌜ r ≡ compress h (now (b .entry)) ⌝ }
 {
-    whole(h, b)
+    all(h, b, standard())
 }
 
 // The digest's bytes.
@@ -89,22 +82,48 @@ pub fn spread(h: Hash) -> [u8; 20]
     ]
 }
 
-// Steps 1 to 4. Words are made twenty rounds before they are used, so that no round waits for its word. What `w` holds before does not matter.
-fn compressed(h: Hash, b: &[u8], w: &mut [u32; 80]) -> Hash
-    requires { ⌜ length (now b) ≡ 64 ⌝ }
+// The constants are handed over, so that the compiler does not know them here: it adds what it knows last, where the next round waits for it.
+fn all(first: Hash, m: &[u8], k: Constants) -> Hash
+    requires { ⌜ k ≡ constants ⌝ }
+    ensures { λ r. ⌜ r ≡ hashed compress first (now (m .entry)) ⌝ }
+{
+    let n = m.len() / 64;
+    let mut w = [0u32; 16];
+    let mut h = first;
+    let mut i = 0;
+    while i < n {
+        h = compressed(h, &m[64 * i..64 * i + 64], k, &mut w);
+        i += 1;
+    }
+    h
+}
+
+fn standard() -> Constants
+    ensures { λ r. ⌜ r ≡ constants ⌝ }
+{
+    Constants {
+        first: 0x5a827999,
+        second: 0x6ed9eba1,
+        third: 0x8f1bbcdc,
+        last: 0xca62c1d6,
+    }
+}
+
+// Steps 1 to 4. What `w` holds before does not matter.
+fn compressed(h: Hash, b: &[u8], k: Constants, w: &mut [u32; 16]) -> Hash
+    requires { ⌜ (length (now b) ≡ 64) × (k ≡ constants) ⌝ }
     ensures { λ r. ⌜ r ≡ compress h (now (b .entry)) ⌝ }
 {
     words_to_16(b, w);
-    words_to_20(w);
-    let first = rounds_to_20(h, w);
-    let second = rounds_to_40(first, w);
-    let third = rounds_to_60(second, w);
-    let last = rounds_to_80(third, w);
+    let first = rounds_to_20(h, k.first, w);
+    let second = rounds_to_40(first, k.second, w);
+    let third = rounds_to_60(second, k.third, w);
+    let last = rounds_to_80(third, k.last, w);
     sum(last, h)
 }
 
 fn words_to_16(b: &[u8], w: &mut [u32])
-    requires { ⌜ (length (now b) ≡ 64) × (length (now w) ≡ 80) ⌝ }
+    requires { ⌜ (length (now b) ≡ 64) × (length (now w) ≡ 16) ⌝ }
     ensures { λ _. ⌜ Made (now (b .entry)) 16 (now (w .exit)) ⌝ }
 {
     let mut t = 0;
@@ -114,9 +133,64 @@ fn words_to_16(b: &[u8], w: &mut [u32])
     }
 }
 
-// The words 16 to 19, for the rounds that come before any others are made.
-fn words_to_20(w: &mut [u32; 80])
-    ensures { λ _. ⌜ now (w .exit) ≡ word 19 (word 18 (word 17 (word 16 (now (w .entry))))) ⌝ }
+// The rounds by twenties, written out: where every place is a number, the compiler keeps the words in registers.
+fn rounds_to_20(before: Hash, k: u32, w: &mut [u32; 16]) -> Hash
+    ensures { λ r. ⌜ run r (now (w .exit)) ≡ opening k (run before (now (w .entry))) ⌝ }
+{
+    let one = five_ch(before, k, w, 0);
+    let two = five_ch(one, k, w, 5);
+    let three = five_ch(two, k, w, 10);
+    words_to_20(w);
+    five_ch(three, k, w, 15)
+}
+
+fn rounds_to_40(before: Hash, k: u32, w: &mut [u32; 16]) -> Hash
+    ensures { λ r. ⌜ run r (now (w .exit)) ≡ turns parity k 20 4 (run before (now (w .entry))) ⌝ }
+{
+    let one = turn_parity(before, k, w, 20);
+    let two = turn_parity(one, k, w, 25);
+    let three = turn_parity(two, k, w, 30);
+    turn_parity(three, k, w, 35)
+}
+
+fn rounds_to_60(before: Hash, k: u32, w: &mut [u32; 16]) -> Hash
+    ensures { λ r. ⌜ run r (now (w .exit)) ≡ turns maj k 40 4 (run before (now (w .entry))) ⌝ }
+{
+    let one = turn_maj(before, k, w, 40);
+    let two = turn_maj(one, k, w, 45);
+    let three = turn_maj(two, k, w, 50);
+    turn_maj(three, k, w, 55)
+}
+
+fn rounds_to_80(before: Hash, k: u32, w: &mut [u32; 16]) -> Hash
+    ensures { λ r. ⌜ run r (now (w .exit)) ≡ turns parity k 60 4 (run before (now (w .entry))) ⌝ }
+{
+    let one = turn_parity(before, k, w, 60);
+    let two = turn_parity(one, k, w, 65);
+    let three = turn_parity(two, k, w, 70);
+    turn_parity(three, k, w, 75)
+}
+
+// Five rounds from t on, once their words stand in the places of those sixteen before.
+fn turn_parity(g: Hash, k: u32, w: &mut [u32; 16], t: usize) -> Hash
+    requires { ⌜ (16 ≤ t) × (t + 5 ≤ 80) ⌝ }
+    ensures { λ r. ⌜ run r (now (w .exit)) ≡ turn parity k t (run g (now (w .entry))) ⌝ }
+{
+    five_words(w, t);
+    five_parity(g, k, w, t)
+}
+
+fn turn_maj(g: Hash, k: u32, w: &mut [u32; 16], t: usize) -> Hash
+    requires { ⌜ (16 ≤ t) × (t + 5 ≤ 80) ⌝ }
+    ensures { λ r. ⌜ run r (now (w .exit)) ≡ turn maj k t (run g (now (w .entry))) ⌝ }
+{
+    five_words(w, t);
+    five_maj(g, k, w, t)
+}
+
+// Step 1, the words 16 to 19, and five words from t on.
+fn words_to_20(w: &mut [u32; 16])
+    ensures { λ _. ⌜ now (w .exit) ≡ moved rule 16 4 (now (w .entry)) ⌝ }
 {
     next_word(w, 16);
     next_word(w, 17);
@@ -124,80 +198,9 @@ fn words_to_20(w: &mut [u32; 80])
     next_word(w, 19);
 }
 
-// The rounds by twenties, written out: where every place is a number, the compiler keeps the words in registers.
-fn rounds_to_20(before: Hash, w: &mut [u32; 80]) -> Hash
-    ensures { λ r. ⌜ ahead r (now (w .exit)) ≡ twenty ch 0x5a827999 0 (ahead before (now (w .entry))) ⌝ }
-{
-    let one = first_at(before, w, 0);
-    let two = first_at(one, w, 5);
-    let three = first_at(two, w, 10);
-    first_at(three, w, 15)
-}
-
-fn rounds_to_40(before: Hash, w: &mut [u32; 80]) -> Hash
-    ensures { λ r. ⌜ ahead r (now (w .exit)) ≡ twenty parity 0x6ed9eba1 20 (ahead before (now (w .entry))) ⌝ }
-{
-    let one = second_at(before, w, 20);
-    let two = second_at(one, w, 25);
-    let three = second_at(two, w, 30);
-    second_at(three, w, 35)
-}
-
-fn rounds_to_60(before: Hash, w: &mut [u32; 80]) -> Hash
-    ensures { λ r. ⌜ ahead r (now (w .exit)) ≡ twenty maj 0x8f1bbcdc 40 (ahead before (now (w .entry))) ⌝ }
-{
-    let one = third_at(before, w, 40);
-    let two = third_at(one, w, 45);
-    let three = third_at(two, w, 50);
-    third_at(three, w, 55)
-}
-
-fn rounds_to_80(before: Hash, w: &[u32; 80]) -> Hash
-    ensures { λ r. ⌜ r ≡ twentyAt parity 0xca62c1d6 60 before (now (w .entry)) ⌝ }
-{
-    let one = last_at(before, w, 60);
-    let two = last_at(one, w, 65);
-    let three = last_at(two, w, 70);
-    last_at(three, w, 75)
-}
-
-// Five rounds from t on, once the words of those twenty on are made.
-fn first_at(g: Hash, w: &mut [u32; 80], t: usize) -> Hash
-    requires { ⌜ t + 25 ≤ 80 ⌝ }
-    ensures { λ r. ⌜ ahead r (now (w .exit)) ≡ fiveOn ch 0x5a827999 t (ahead g (now (w .entry))) ⌝ }
-{
-    five_words(w, t + 20);
-    five_first(g, words_at(w, t))
-}
-
-fn second_at(g: Hash, w: &mut [u32; 80], t: usize) -> Hash
-    requires { ⌜ t + 25 ≤ 80 ⌝ }
-    ensures { λ r. ⌜ ahead r (now (w .exit)) ≡ fiveOn parity 0x6ed9eba1 t (ahead g (now (w .entry))) ⌝ }
-{
-    five_words(w, t + 20);
-    five_second(g, words_at(w, t))
-}
-
-fn third_at(g: Hash, w: &mut [u32; 80], t: usize) -> Hash
-    requires { ⌜ t + 25 ≤ 80 ⌝ }
-    ensures { λ r. ⌜ ahead r (now (w .exit)) ≡ fiveOn maj 0x8f1bbcdc t (ahead g (now (w .entry))) ⌝ }
-{
-    five_words(w, t + 20);
-    five_third(g, words_at(w, t))
-}
-
-// The last, for which all words are made.
-fn last_at(g: Hash, w: &[u32; 80], t: usize) -> Hash
-    requires { ⌜ t + 5 ≤ 80 ⌝ }
-    ensures { λ r. ⌜ r ≡ fiveAt parity 0xca62c1d6 t g (now (w .entry)) ⌝ }
-{
-    five_last(g, words_at(w, t))
-}
-
-// Step 1, five words from t on.
-fn five_words(w: &mut [u32; 80], t: usize)
+fn five_words(w: &mut [u32; 16], t: usize)
     requires { ⌜ (16 ≤ t) × (t + 5 ≤ 80) ⌝ }
-    ensures { λ _. ⌜ now (w .exit) ≡ fiveWords t (now (w .entry)) ⌝ }
+    ensures { λ _. ⌜ now (w .exit) ≡ moved rule t 5 (now (w .entry)) ⌝ }
 {
     next_word(w, t);
     next_word(w, t + 1);
@@ -206,98 +209,71 @@ fn five_words(w: &mut [u32; 80], t: usize)
     next_word(w, t + 4);
 }
 
+// Word t in the place of the one sixteen before it.
 fn next_word(w: &mut [u32], t: usize)
-    requires { ⌜ (16 ≤ t) × (t < 80) × (length (now w) ≡ 80) ⌝ }
-    ensures { λ _. ⌜ now (w .exit) ≡ word t (now (w .entry)) ⌝ }
+    requires { ⌜ (16 ≤ t) × (t < 80) × (length (now w) ≡ 16) ⌝ }
+    ensures { λ _. ⌜ now (w .exit) ≡ renewed rule t (now (w .entry)) ⌝ }
 {
-    w[t] = mixed(w, t);
+    w[t % 16] = mixed(w, t);
 }
 
-// The five words from t on.
-fn words_at(w: &[u32], t: usize) -> Words
-    requires { ⌜ (t + 5 ≤ 80) × (length (now w) ≡ 80) ⌝ }
-    ensures { λ r. ⌜ r ≡ fiveFrom (now (w .entry)) t ⌝ }
-{
-    Words {
-        a: w[t],
-        b: w[t + 1],
-        c: w[t + 2],
-        d: w[t + 3],
-        e: w[t + 4],
-    }
-}
-
-// Step 3, five rounds: after five each value stands where it stood, so that none is moved.
-fn five_first(g: Hash, w: Words) -> Hash
-    ensures { λ r. ⌜ r ≡ five ch 0x5a827999 g w ⌝ }
-{
-    let one = first(g, w.a);
-    let two = first(one, w.b);
-    let three = first(two, w.c);
-    let four = first(three, w.d);
-    first(four, w.e)
-}
-
-fn five_second(g: Hash, w: Words) -> Hash
-    ensures { λ r. ⌜ r ≡ five parity 0x6ed9eba1 g w ⌝ }
-{
-    let one = second(g, w.a);
-    let two = second(one, w.b);
-    let three = second(two, w.c);
-    let four = second(three, w.d);
-    second(four, w.e)
-}
-
-fn five_third(g: Hash, w: Words) -> Hash
-    ensures { λ r. ⌜ r ≡ five maj 0x8f1bbcdc g w ⌝ }
-{
-    let one = third(g, w.a);
-    let two = third(one, w.b);
-    let three = third(two, w.c);
-    let four = third(three, w.d);
-    third(four, w.e)
-}
-
-fn five_last(g: Hash, w: Words) -> Hash
-    ensures { λ r. ⌜ r ≡ five parity 0xca62c1d6 g w ⌝ }
-{
-    let one = last(g, w.a);
-    let two = last(one, w.b);
-    let three = last(two, w.c);
-    let four = last(three, w.d);
-    last(four, w.e)
-}
-
-fn first(g: Hash, w: u32) -> Hash
-    ensures { λ r. ⌜ r ≡ roundBy ch 0x5a827999 g w ⌝ }
-{
-    round(g, choose(g.b, g.c, g.d), 0x5a827999, w)
-}
-
-fn second(g: Hash, w: u32) -> Hash
-    ensures { λ r. ⌜ r ≡ roundBy parity 0x6ed9eba1 g w ⌝ }
-{
-    round(g, odd(g.b, g.c, g.d), 0x6ed9eba1, w)
-}
-
-fn third(g: Hash, w: u32) -> Hash
-    ensures { λ r. ⌜ r ≡ roundBy maj 0x8f1bbcdc g w ⌝ }
-{
-    round(g, most(g.b, g.c, g.d), 0x8f1bbcdc, w)
-}
-
-fn last(g: Hash, w: u32) -> Hash
-    ensures { λ r. ⌜ r ≡ roundBy parity 0xca62c1d6 g w ⌝ }
-{
-    round(g, odd(g.b, g.c, g.d), 0xca62c1d6, w)
-}
-
-// Step 1: word t of the message schedule from 16 on.
 fn mixed(w: &[u32], t: usize) -> u32
-    requires { ⌜ (16 ≤ t) × (t < 80) × (length (now w) ≡ 80) ⌝ }
-    ensures { λ r. ⌜ r ≡ mixed (now (w .entry)) t ⌝ }
+    requires { ⌜ (16 ≤ t) × (t < 80) × (length (now w) ≡ 16) ⌝ }
+    ensures { λ r. ⌜ r ≡ made rule (inWindow (now (w .entry))) t ⌝ }
 {
-    rotl1(w[t - 3] ^ w[t - 8] ^ w[t - 14] ^ w[t - 16])
+    rotl1(w[(t - 3) % 16] ^ w[(t - 8) % 16] ^ w[(t - 14) % 16] ^ w[(t - 16) % 16])
+}
+
+// Step 3, five rounds from t on: after five each value stands where it stood, so that none is moved.
+fn five_ch(g: Hash, k: u32, w: &[u32], t: usize) -> Hash
+    requires { ⌜ (t + 5 ≤ 80) × (length (now w) ≡ 16) ⌝ }
+    ensures { λ r. ⌜ r ≡ roundsAt ch k t 5 g (now (w .entry)) ⌝ }
+{
+    let one = round_ch(g, k, w[t % 16]);
+    let two = round_ch(one, k, w[(t + 1) % 16]);
+    let three = round_ch(two, k, w[(t + 2) % 16]);
+    let four = round_ch(three, k, w[(t + 3) % 16]);
+    round_ch(four, k, w[(t + 4) % 16])
+}
+
+fn five_parity(g: Hash, k: u32, w: &[u32], t: usize) -> Hash
+    requires { ⌜ (t + 5 ≤ 80) × (length (now w) ≡ 16) ⌝ }
+    ensures { λ r. ⌜ r ≡ roundsAt parity k t 5 g (now (w .entry)) ⌝ }
+{
+    let one = round_parity(g, k, w[t % 16]);
+    let two = round_parity(one, k, w[(t + 1) % 16]);
+    let three = round_parity(two, k, w[(t + 2) % 16]);
+    let four = round_parity(three, k, w[(t + 3) % 16]);
+    round_parity(four, k, w[(t + 4) % 16])
+}
+
+fn five_maj(g: Hash, k: u32, w: &[u32], t: usize) -> Hash
+    requires { ⌜ (t + 5 ≤ 80) × (length (now w) ≡ 16) ⌝ }
+    ensures { λ r. ⌜ r ≡ roundsAt maj k t 5 g (now (w .entry)) ⌝ }
+{
+    let one = round_maj(g, k, w[t % 16]);
+    let two = round_maj(one, k, w[(t + 1) % 16]);
+    let three = round_maj(two, k, w[(t + 2) % 16]);
+    let four = round_maj(three, k, w[(t + 3) % 16]);
+    round_maj(four, k, w[(t + 4) % 16])
+}
+
+fn round_ch(g: Hash, k: u32, w: u32) -> Hash
+    ensures { λ r. ⌜ r ≡ roundBy ch k g w ⌝ }
+{
+    round(g, choose(g.b, g.c, g.d), k, w)
+}
+
+fn round_parity(g: Hash, k: u32, w: u32) -> Hash
+    ensures { λ r. ⌜ r ≡ roundBy parity k g w ⌝ }
+{
+    round(g, odd(g.b, g.c, g.d), k, w)
+}
+
+fn round_maj(g: Hash, k: u32, w: u32) -> Hash
+    ensures { λ r. ⌜ r ≡ roundBy maj k g w ⌝ }
+{
+    round(g, most(g.b, g.c, g.d), k, w)
 }
 
 fn round(h: Hash, f: u32, k: u32, w: u32) -> Hash

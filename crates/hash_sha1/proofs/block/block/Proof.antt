@@ -7,7 +7,7 @@ use Rattle.hash_sha1.proofs.block.block.Statement.{statement}
 use Rattle.hash_sha1.proofs.block.block.Tie as tie
 
 returns : tie.Need-returns
-returns c = c .whole .ensures ∙ hashed-one compress (c .before .before .args .h) (c .before .before .args .b .now) (c .before .before .pre)
+returns c = c .all .ensures ∙ hashed-one compress (c .before .before .before .args .h) (c .before .before .before .args .b .now) (c .before .before .before .pre)
 
 pub block-spec : {M : Type 1} → statement M
-block-spec = tie.close (tie.spec (λ c κs. search needs) returns)
+block-spec = tie.close (tie.spec (λ c κs. search needs) (λ c κs. search needs) returns)

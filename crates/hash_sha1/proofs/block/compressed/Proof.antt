@@ -10,13 +10,13 @@ use Rattle.hash_sha1.proofs.block.compressed.Tie as tie
 returns : tie.Need-returns
 unfolding compress
 returns c =
-    let a = c .before .before .before .before .before .before .before .before .before .before .before .before .before .before .args in
+    let s = c .before .before .before .before .before .before .before .before .before .before .before .before in
+    let a = s .args in
     c .sum .ensures
-    ∙ ap (λ (x : Hash). plus x (a .h)) (all-done (a .h) (a .b .now) _ (c .before .before .before .before .before .before .before .before .before .before .before .words-to-16 .ensures) (c .before .before .before .before .before .before .before .before .before .words-to-20 .ensures) (c .before .before .before .before .before .before .before .rounds-to-20 .ensures) (c .before .before .before .before .before .rounds-to-40 .ensures) (c .before .before .before .rounds-to-60 .ensures) (c .before .rounds-to-80 .ensures))
+    ∙ ap (λ (x : Hash). plus x (a .h)) (all-done (a .h) (a .b .now) _ (a .k) (s .pre .1) (c .before .before .before .before .before .before .before .before .before .words-to-16 .ensures) (c .before .before .before .before .before .before .before .rounds-to-20 .ensures) (c .before .before .before .before .before .rounds-to-40 .ensures) (c .before .before .before .rounds-to-60 .ensures) (c .before .rounds-to-80 .ensures))
 
 pub compressed-spec : {M : Type 1} → statement M
 compressed-spec =
     tie.close
     (tie.spec
-    (λ c κs. search needs) (λ c κs. search needs) (λ c κs. search needs) (λ c κs. search needs) (λ c κs. search needs) (λ c κs. search needs)
-    (λ c κs. search needs) returns)
+    (λ c κs. search needs) (λ c κs. search needs) (λ c κs. search needs) (λ c κs. search needs) (λ c κs. search needs) (λ c κs. search needs) returns)

@@ -1,11 +1,11 @@
--- `next_word` meets its contract: one word more, from those before it. Assumes nothing.
+-- `next_word` meets its contract: one word more, from the window as it was. Assumes nothing.
 use borrow.Author.Needs.{needs}
-use Rattle.hash_sha1.specs.Rounds.{word}
+use Rattle.hash_digest.specs.Window.{renewed}
 use Rattle.hash_sha1.proofs.block.next_word.Statement.{statement}
 use Rattle.hash_sha1.proofs.block.next_word.Tie as tie
 
 returns : tie.Need-returns
-unfolding word
+unfolding renewed
 returns c = cc
 
 pub next-word-spec : {M : Type 1} → statement M

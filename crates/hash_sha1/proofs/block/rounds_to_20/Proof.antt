@@ -1,10 +1,12 @@
--- `rounds_to_20` meets its contract: five rounds four times. Assumes nothing.
+-- `rounds_to_20` meets its contract: fifteen rounds on the block's words, four words more, and five rounds. Assumes nothing.
 use borrow.Author.Needs.{needs}
+use Rattle.hash_sha1.specs.Rounds.{opening}
 use Rattle.hash_sha1.proofs.block.rounds_to_20.Statement.{statement}
 use Rattle.hash_sha1.proofs.block.rounds_to_20.Tie as tie
 
 returns : tie.Need-returns
+unfolding opening
 returns c = cc
 
 pub rounds-to-20-spec : {M : Type 1} → statement M
-rounds-to-20-spec = tie.close (tie.spec (λ c κs. search needs) (λ c κs. search needs) (λ c κs. search needs) (λ c κs. search needs) returns)
+rounds-to-20-spec = tie.close (tie.spec (λ c κs. search needs) (λ c κs. search needs) (λ c κs. search needs) (λ c κs. search needs) (λ c κs. search needs) returns)

@@ -1,9 +1,11 @@
--- `words_to_20` meets its contract: four words, each from those before it. Assumes nothing.
+-- `words_to_20` meets its contract: four words, each in the place of the one sixteen before it. Assumes nothing.
 use borrow.Author.Needs.{needs}
+use Rattle.hash_digest.specs.Window.{moved}
 use Rattle.hash_sha1.proofs.block.words_to_20.Statement.{statement}
 use Rattle.hash_sha1.proofs.block.words_to_20.Tie as tie
 
 returns : tie.Need-returns
+unfolding moved
 returns c = cc
 
 pub words-to-20-spec : {M : Type 1} → statement M

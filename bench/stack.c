@@ -1,0 +1,152 @@
+/* The most stack that a call of the library uses, on a stack of its own that is painted before each call: from where the caller's stack
+ * pointer stood down to the last byte that lost its paint, what the C library's copies use included. bench/run builds and runs it. */
+#define _XOPEN_SOURCE 700
+#include "../host/wardrail.h"
+
+#include <stdio.h>
+#include <stdlib.h>
+#include <string.h>
+#include <ucontext.h>
+
+enum { ROOM = 1 << 16, PIECE = 1 << 16, FILES = 32, DEEPEST = 31, MOST_TEXT = 1 << 12 };
+
+static uint8_t text[MOST_TEXT], piece[PIECE], digest[20];
+static size_t length, bytes;
+static uint32_t number;
+static uint64_t detail;
+
+/* ---- a call on a painted stack */
+
+static uint8_t stack[ROOM] __attribute__((aligned(16)));
+static ucontext_t here, there;
+static uint64_t (*called)(void);
+static uint64_t answer;
+static const uint8_t *top;
+
+/* where the stack pointer of `onward` stands when it calls */
+static __attribute__((noinline)) uint64_t nothing(void) {
+    top = __builtin_dwarf_cfa();
+    return 0;
+}
+
+static void onward(void) { answer = called(); }
+
+static void run(uint64_t (*call)(void), uint8_t paint) {
+    memset(stack, paint, ROOM);
+    called = call;
+    getcontext(&there);
+    there.uc_stack.ss_sp = stack;
+    there.uc_stack.ss_size = ROOM;
+    there.uc_link = &here;
+    makecontext(&there, onward, 0);
+    swapcontext(&here, &there);
+}
+
+/* the bytes below `top` that two runs with different paints have touched: a byte may be written in one of the paints */
+static size_t used(uint64_t (*call)(void)) {
+    size_t most = 0;
+    for (int k = 0; k < 2; k++) {
+        const uint8_t paint = k ? 0x5a : 0xa5;
+        size_t free = 0;
+        run(call, paint);
+        while (free < ROOM && stack[free] == paint) free++;
+        if (free == 0) {
+            fprintf(stderr, "bench: the painted stack is too short\n");
+            exit(1);
+        }
+        const size_t depth = (size_t)(top - (stack + free));
+        if (depth > most) most = depth;
+    }
+    return most;
+}
+
+/* ---- the calls */
+
+static uint64_t sha1(void) { return wardrail_sha1(piece, bytes, digest); }
+static uint64_t info_hash(void) { return wardrail_info_hash(text, length, digest); }
+static uint64_t piece_check(void) { return wardrail_piece_check(text, length, number, piece, bytes, &detail); }
+
+enum { CALLS = 3 };
+static const struct {
+    const char *name;
+    uint64_t (*call)(void);
+} calls[CALLS] = {{"wardrail_sha1", sha1}, {"wardrail_piece_check", piece_check}, {"wardrail_info_hash", info_hash}};
+static size_t most[CALLS], asked[CALLS];
+
+static uint64_t ask(int k) {
+    const size_t depth = used(calls[k].call);
+    if (depth > most[k]) most[k] = depth;
+    asked[k]++;
+    return answer;
+}
+
+/* the same, where a refusal would mean that the call was not measured to its end */
+static void must(int k) {
+    if (ask(k) == 0) return;
+    fprintf(stderr, "bench: %s answered %llu\n", calls[k].name, (unsigned long long)answer);
+    exit(1);
+}
+
+/* ---- what they are asked: messages around the ends of blocks, and torrents with one file and with many, their piece, whole, cut and wrong,
+ * lists below a key that nobody reads, to the depth that is refused, and each beginning of such a torrent */
+
+static void put(const char *s) {
+    memcpy(text + length, s, strlen(s));
+    length += strlen(s);
+}
+
+static void torrent(int files, int deep) {
+    length = 0;
+    put("d8:announce4:here4:infod");
+    if (files > 1) put("5:filesl");
+    for (int i = 0; i < files && files > 1; i++) put("d6:lengthi2048e4:pathl4:city5:roadsee");
+    put(files > 1 ? "e" : "6:lengthi65536e");
+    put("4:name4:maps12:piece lengthi65536e6:pieces20:");
+    memcpy(text + length, digest, 20);
+    length += 20;
+    put("e4:zone");
+    for (int i = 0; i < deep; i++) put("l");
+    put("i1e");
+    for (int i = 0; i < deep; i++) put("e");
+    put("e");
+}
+
+static void messages(void) {
+    for (bytes = 0; bytes < 200; bytes++) must(0);
+    bytes = PIECE;
+    must(0);
+}
+
+static void torrents(int files) {
+    for (int deep = 0; deep <= DEEPEST; deep++) {
+        bytes = PIECE;
+        must(0);
+        torrent(files, deep);
+        number = 0;
+        must(1);
+        if (detail != 1) {
+            fprintf(stderr, "bench: the piece is not its torrent's\n");
+            exit(1);
+        }
+        for (bytes = PIECE - 2; bytes < PIECE; bytes++) ask(1);
+        piece[0] ^= 1;
+        must(1);
+        piece[0] ^= 1;
+        number = 1;
+        ask(1);
+        must(2);
+    }
+    torrent(files, DEEPEST + 1);
+    for (; length > 0; length--) ask(1), ask(2);
+}
+
+int main(void) {
+    for (int i = 0; i < PIECE; i++) piece[i] = (uint8_t)(i * 167 + i / 251);
+    run(nothing, 0);
+    messages();
+    torrents(1);
+    torrents(FILES);
+    printf("Stack in bytes, the most of so many calls on a painted stack\n");
+    for (int k = 0; k < CALLS; k++) printf("%-20s %6zu   of %zu calls\n", calls[k].name, most[k], asked[k]);
+    return 0;
+}
