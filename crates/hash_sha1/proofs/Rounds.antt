@@ -53,19 +53,19 @@ Reached h b t x = Done h b t (x .hash) × Made b t (x .words)
 record Kind (F : ℕ → ℕ → ℕ → ℕ) (K a n : ℕ) : Type 0 where
   round : (t : ℕ) → a ≤ t → t < n → (g : Hash) (v : ℕ) → roundBy F K g v ≡ step g (f t (g .b) (g .c) (g .d)) (k t) v
 
-first : Kind ch 0x5a827999 0 20
+first : Kind ch (constants .first) 0 20
 unfolding turned
 first = record { round = λ t p q g v. rw (lt-ltb t 20 q) }
 
-second : Kind parity 0x6ed9eba1 20 40
+second : Kind parity (constants .second) 20 40
 unfolding turned
 second = record { round = λ t p q g v. rw (le-ltb t 20 p, lt-ltb t 40 q) }
 
-third : Kind maj 0x8f1bbcdc 40 60
+third : Kind maj (constants .third) 40 60
 unfolding turned
 third = record { round = λ t p q g v. rw (le-ltb t 20 (omega arith), le-ltb t 40 p, lt-ltb t 60 q) }
 
-last : Kind parity 0xca62c1d6 60 80
+last : Kind parity (constants .last) 60 80
 unfolding turned
 last = record { round = λ t p q g v. rw (le-ltb t 20 (omega arith), le-ltb t 40 (omega arith), le-ltb t 60 p) }
 
