@@ -1,14 +1,15 @@
 -- The fold over blocks, for any function of a block: what a message's parts leave is what the whole leaves. Assumes nothing.
 use mathlib.Core.Path.{_≡_, refl, sym, ap, _∙_}
-use mathlib.Core.List.{List, [], _++_}
+use mathlib.Core.List.{List, [], _∷_, _++_}
 use Prim.Native.Nat.{ℕ, zero, suc, _+_, _-_, _*_, _/_, _%_, _≤_, _<_}
 use native.Mathlib.Nat.{add-zero}
 use native.Mathlib.Numerals.{add-one}
 use native.Mathlib.Omega.{arith}
 use lib.ListN.{length, take, drop, replicate, length-append, length-drop, take-append-drop, drop-of-length-le}
-use lib.Seq.{length-take-le, take-all, take-take, take-at, take-append-le, drop-append-le, drop-append-add, drop-drop}
+use lib.Seq.{sets, length-sets, length-take-le, take-all, take-take, take-at, drop-at, take-append-le, drop-append-le, drop-append-add, drop-drop}
+use Rattle.refusal.specs.BigEndian.{bytesOf, numberWritten}
 use Rattle.hash_digest.specs.Message.{zeros, padding, pad, folded, hashed, rest, filled}
-use Rattle.hash_digest.proofs.Stores.{filled-short, filled-whole, length-padding}
+use Rattle.hash_digest.proofs.Stores.{filled-short, filled-whole, length-filled, length-padding, ends-in, ends-after, fits-written}
 
 -- ---- the bytes after the whole blocks
 
@@ -135,6 +136,29 @@ module _ {H : Type 0} (compress : H → List ℕ → H) where
       q ∙ ap (λ (x : H). compress x (take 64 (drop 64 t))) v ∙ ap (λ (x : List ℕ). compress (compress h (take 64 x)) (take 64 (drop 64 x))) f
       ∙ ap (compress (compress h (take 64 p))) (take-all 64 (drop 64 p) (omega arith)) ∙ sym (hashed-one (compress h (take 64 p)) (drop 64 p) d)
       ∙ sym (hashed-first h p (omega arith))
+
+  -- the same by a block that holds s, the byte 128 and zeros: the length is written into it, or into zeros for the second
+  pub last-in-one : (h : H) (s x y : List ℕ) (n bits : ℕ) {r : H} → length s ≡ n % 64 → n % 64 < 56 → bits ≡ n * 8 → x ≡ filled 64 (s ++ (128 ∷ []))
+      → y ≡ numberWritten 8 x 56 bits → r ≡ compress h y → r ≡ hashed compress h (s ++ padding n)
+  last-in-one h s x y n bits l b c e w q =
+      let p : List ℕ = s ++ padding n in
+      let k : length p ≡ 64 = omega (arith, length-append s (padding n), length-padding n) in
+      let m : length x ≡ 64 = ap length e ∙ length-filled 64 (s ++ (128 ∷ [])) in
+      let f : y ≡ p =
+      w ∙ fits-written x 56 bits (omega arith) ∙ ap (λ (z : List ℕ). sets z 56 (bytesOf 8 bits)) e ∙ ends-in 64 s n 56 bits l b (omega arith) (omega arith) c
+      ∙ filled-whole 64 p (omega arith) ∙ take-all 64 p (omega arith) in
+      q ∙ ap (compress h) f ∙ sym (hashed-one h p k)
+
+  pub last-in-two : (h : H) (s x y : List ℕ) (n bits : ℕ) {g r : H} → length s ≡ n % 64 → 56 ≤ n % 64 → bits ≡ n * 8 → x ≡ filled 64 (s ++ (128 ∷ []))
+      → g ≡ compress h x → y ≡ numberWritten 8 (replicate 64 0) 56 bits → r ≡ compress g y → r ≡ hashed compress h (s ++ padding n)
+  last-in-two h s x y n bits {g} l b c e v w q =
+      let o : List ℕ = replicate 64 0 in
+      let u : y ≡ sets o 56 (bytesOf 8 bits) = w ∙ fits-written o 56 bits (omega arith) in
+      let m : length x ≡ 64 = ap length e ∙ length-filled 64 (s ++ (128 ∷ [])) in
+      let k : length y ≡ 64 = ap length u ∙ length-sets o 56 (bytesOf 8 bits) in
+      let f : x ++ y ≡ filled 128 (s ++ padding n) = ap (λ (z : List ℕ). z ++ y) e ∙ ap (λ (z : List ℕ). filled 64 (s ++ (128 ∷ [])) ++ z) u ∙ ends-after s n bits l b c in
+      let d : take 64 (drop 64 (x ++ y)) ≡ y = ap (take 64) (drop-at x y 64 m) ∙ take-all 64 y (omega arith) in
+      last-two h s (x ++ y) n l b f (v ∙ ap (compress h) (sym (take-at x y 64 m))) (q ∙ ap (compress g) (sym d))
 
   -- a part after the bytes that are held: too few for a block, or a first block and the rest of the part
   pub part-few : (h : H) (s l : List ℕ) (k : ℕ) → length s ≤ k → length l < 64 - k → (hashed compress h (s ++ l) ≡ h) × (rest (s ++ l) ≡ s ++ l)

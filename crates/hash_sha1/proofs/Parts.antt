@@ -116,7 +116,3 @@ finish-state m o =
 pub parts-whole : (parts : List (List ℕ)) (o : List ℕ) → finishOf (addAll begun parts) o ≡ digestOf (joined parts) o
 parts-whole parts o =
     ap (λ (s : Stream). finishOf (addAll s parts) o) begun-state ∙ ap (λ (s : Stream). finishOf s o) (add-all [] parts) ∙ finish-state (joined parts) o
-
--- one part
-pub part-whole : (m o : List ℕ) → finishOf (addOf begun m) o ≡ digestOf m o
-part-whole m o = ap (λ (s : Stream). finishOf (addOf s m) o) begun-state ∙ ap (λ (s : Stream). finishOf s o) (add-state [] m) ∙ finish-state m o

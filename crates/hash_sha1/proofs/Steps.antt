@@ -10,17 +10,17 @@ use lib.Seq.{take-all}
 use Rattle.refusal.specs.Paper.{Outcome, taken, refused, refusal, then}
 use Rattle.refusal.specs.Numbers.{long}
 use Rattle.refusal.specs.Limits.{longestPiece}
-use Rattle.hash_digest.specs.Message.{padding, hashed, rest, filled}
-use Rattle.hash_digest.proofs.Blocks.{part-few, part-first}
-use Rattle.hash_sha1.specs.Sha1.{compress, output, sha1}
+use Rattle.hash_digest.specs.Message.{padding, pad, hashed, rest, filled}
+use Rattle.hash_digest.proofs.Blocks.{hashed-append, part-few, part-first}
+use Rattle.hash_sha1.specs.Sha1.{initial, compress, output, sha1}
 use Rattle.hash_sha1.specs.Digest.{Left, left, paper, digestOf, same, agreementOf}
-use Rattle.hash_sha1.specs.Parts.{begun, held, grown, addOf, finishOf}
+use Rattle.hash_sha1.specs.Parts.{held, grown, finishOf}
 use Rattle.refusal.specs.declared.Refusal.{Refusal}
 use Rattle.hash_sha1.specs.declared.Hashed.{Hashed}
 use Rattle.hash_sha1.specs.declared.Hashed.the-variants.{Written, Refused}
 use Rattle.hash_sha1.specs.declared.block.Hash.{Hash}
 use Rattle.hash_sha1.specs.declared.stream.Stream.{Stream}
-use Rattle.hash_sha1.proofs.Parts.{same-state, finish-whole, finish-over, digest-whole, digest-over, by-limit, part-whole}
+use Rattle.hash_sha1.proofs.Parts.{same-state, finish-whole, finish-over, digest-whole, digest-over, by-limit}
 
 -- ---- a part
 
@@ -60,10 +60,22 @@ finish-written s o b p q = ap (left (taken tt)) (q ∙ ap output p) ∙ sym (fin
 pub finish-refused : (s : Stream) (o : List ℕ) {r : Hashed} → longestPiece < s .length → r ≡ Refused (record { number = long; place = 0 }) → left (paper r) o ≡ finishOf s o
 finish-refused s o b e = ap (λ (x : Hashed). left (paper x) o) e ∙ sym (finish-over s o b)
 
--- start, one part, the end
-pub whole-message : (m o : List ℕ) (s t : Stream) {x : Left} → s ≡ begun → t ≡ addOf s m → x ≡ finishOf t o → x ≡ digestOf m o
-whole-message m o s t p q e =
-    e ∙ ap (λ (y : Stream). finishOf y o) q ∙ ap (λ (y : Stream). finishOf (addOf y m) o) p ∙ part-whole m o
+-- ---- a message that is all there
+
+-- its whole blocks, and the last
+pub hash-whole : (m : List ℕ) {i g r : Hash} → i ≡ initial → g ≡ hashed compress i m
+    → r ≡ hashed compress g (take (length m - (length m - length m % 64)) (drop (length m - length m % 64) m) ++ padding (length m)) → r ≡ hashed compress initial (pad m)
+hash-whole m {i} {g} p v q =
+    q ∙ ap (λ (x : List ℕ). hashed compress g (x ++ padding (length m))) (onward-rest m)
+    ∙ ap (λ (x : Hash). hashed compress x (rest m ++ padding (length m))) (v ∙ ap (λ (x : Hash). hashed compress x m) p)
+    ∙ sym (hashed-append compress initial m (padding (length m)))
+
+pub digest-made : (m o : List ℕ) {h : Hash} {d : List ℕ} → length m ≤ longestPiece → h ≡ hashed compress initial (pad m) → d ≡ output h → left (taken tt) d ≡ digestOf m o
+unfolding sha1
+digest-made m o b p q = ap (left (taken tt)) (q ∙ ap output p) ∙ sym (digest-whole m o b)
+
+pub digest-refused : (m o : List ℕ) {q : Refusal} → longestPiece < length m → q ≡ record { number = long; place = 0 } → left (refusal q) o ≡ digestOf m o
+digest-refused m o b e = ap (λ (x : Refusal). left (refusal x) o) e ∙ sym (digest-over m o b)
 
 -- ---- the comparison
 

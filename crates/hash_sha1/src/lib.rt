@@ -1,5 +1,6 @@
 // SHA-1 (FIPS 180-4) of a lent slice, or of a message that comes in parts (`stream`).
 mod block;
+mod once;
 pub mod stream;
 
 pub use block::Hash;
@@ -7,6 +8,8 @@ ghost use mathlib.Core.Path.{_≡_};
 ghost use Rattle.hash_sha1.specs.Digest.{paper, left, digestOf, agreementPaper, agreementOf, same};
 ghost use Rattle.refusal.specs.Paper.{taken};
 use refusal::Refusal;
+use refusal::limit;
+use refusal::number;
 
 // Whether the digest was written, or why not.
 pub enum Hashed {
@@ -25,7 +28,12 @@ pub enum Agreement {
 pub fn digest(message: &[u8], out: &mut [u8; 20]) -> Hashed
     ensures { λ r. ⌜ left (paper r) (now (out .exit)) ≡ digestOf (now (message .entry)) (now (out .entry)) ⌝ }
 {
-    stream::finish(stream::add(stream::start(), message), out)
+    if limit::PIECE < message.len() {
+        return Hashed::Refused(refusal::refuse(number::LONG, 0));
+    }
+    let bytes = block::spread(once::hash(message));
+    *out = bytes;
+    Hashed::Written
 }
 
 // Whether the digest of at most 16,777,216 bytes is the expected one; bytes that are not 20 are none.
