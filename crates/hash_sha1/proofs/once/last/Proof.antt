@@ -1,6 +1,7 @@
 -- `last` meets its contract: the length has room in the first block or stands in a second. Assumes nothing.
 use borrow.Author.Needs.{needs}
 use Rattle.hash_digest.proofs.Blocks.{last-in-one, last-in-two}
+use Rattle.hash_digest.proofs.Stores.{marks}
 use Rattle.hash_sha1.specs.Sha1.{compress}
 use mathlib.Core.Path.{refl}
 use native.Mathlib.Omega.{arith}
@@ -8,10 +9,10 @@ use Rattle.hash_sha1.proofs.once.last.Statement.{statement}
 use Rattle.hash_sha1.proofs.once.last.Tie as tie
 
 returns : tie.Need-returns
-returns c = last-in-one compress (c .before .before .before .before .before .before .before .before .before .args .h) (c .before .before .before .before .before .before .before .before .before .args .held .now) (c .before .before .before .before .before .before .gathered .result) (c .before .before .before .write8 .last .0) (c .before .before .before .before .before .before .before .before .before .args .count) _ (c .before .before .before .before .before .before .before .before .before .pre) (omega arith) refl (c .before .before .before .before .before .before .gathered .ensures) (c .before .before .before .write8 .ensures .1) (c .block .ensures)
+returns c = last-in-one compress (c .before .before .before .before .before .before .before .before .before .before .args .h) (c .before .before .before .before .before .before .before .before .before .before .args .held .now) (c .before .before .before .before .before .before .before .mark .last .0) (c .before .before .before .write8 .last .0) (c .before .before .before .before .before .before .before .before .before .before .args .count) _ (c .before .before .before .before .before .before .before .before .before .before .pre) (omega arith) refl (marks (c .before .before .before .before .before .before .before .before .before .before .args .held .now) (c .before .before .before .before .before .before .before .before .before .before .args .count) (c .before .before .before .before .before .before .before .before .before .before .pre) (c .before .before .before .before .before .before .before .mark .ensures)) (c .before .before .before .write8 .ensures .1) (c .block .ensures)
 
 returns-2 : tie.Need-returns-2
-returns-2 c = last-in-two compress (c .before .before .before .before .before .before .before .before .before .before .before .args .h) (c .before .before .before .before .before .before .before .before .before .before .before .args .held .now) (c .before .before .before .before .before .before .before .before .gathered .result) (c .before .before .before .write82 .last .0) (c .before .before .before .before .before .before .before .before .before .before .before .args .count) _ (c .before .before .before .before .before .before .before .before .before .before .before .pre) (omega arith) refl (c .before .before .before .before .before .before .before .before .gathered .ensures) (c .before .before .before .before .before .block2 .ensures) (c .before .before .before .write82 .ensures .1) (c .block3 .ensures)
+returns-2 c = last-in-two compress (c .before .before .before .before .before .before .before .before .before .before .before .before .args .h) (c .before .before .before .before .before .before .before .before .before .before .before .before .args .held .now) (c .before .before .before .before .before .before .before .before .before .mark .last .0) (c .before .before .before .write82 .last .0) (c .before .before .before .before .before .before .before .before .before .before .before .before .args .count) _ (c .before .before .before .before .before .before .before .before .before .before .before .before .pre) (omega arith) refl (marks (c .before .before .before .before .before .before .before .before .before .before .before .before .args .held .now) (c .before .before .before .before .before .before .before .before .before .before .before .before .args .count) (c .before .before .before .before .before .before .before .before .before .before .before .before .pre) (c .before .before .before .before .before .before .before .before .before .mark .ensures)) (c .before .before .before .before .before .block2 .ensures) (c .before .before .before .write82 .ensures .1) (c .block3 .ensures)
 
 pub last-spec : {M : Type 1} → statement M
 last-spec =
