@@ -6,7 +6,7 @@ use Prim.Native.Nat.{ℕ, zero, suc, _+_, _-_, _*_, _%_, _≤_, _<_, min}
 use native.Mathlib.Numerals.{add-one}
 use native.Mathlib.Omega.{arith}
 use lib.ListN.{length, take, drop, getD, set, replicate, length-append, length-take, length-replicate, length-set, replicate-append-replicate}
-use lib.Seq.{sets, sets-eq, length-sets, paste, paste-suc, take-length, take-all, take-at, drop-at, take-append-le, drop-drop}
+use lib.Seq.{sets, sets-eq, length-sets, paste, paste-suc, take-length, take-all, take-at, drop-at, set-at, take-append-le, drop-drop}
 use borrow.Author.Tests.{le-leb}
 use Rattle.refusal.specs.BigEndian.{bytesOf, numberWritten}
 use Rattle.refusal.proofs.Bytes.{length-bytesOf}
@@ -111,31 +111,19 @@ module _ (all : List ℕ) (at : ℕ) (before : List ℕ) where
       let k : i ≡ length all = omega arith in
       e ∙ ap (paste before at all) k ∙ rw (sets-eq all before at h, take-length all)
 
--- from the front, and one byte after them
-module _ (all before : List ℕ) where
-  pub front-next : (i : ℕ) {out : List ℕ} → length all < length before → i < length all → out ≡ paste before 0 all i
-      → set out i (getD all i 0) ≡ paste before 0 all (i + 1)
-  front-next i {out} h b e =
-      let k : i ≡ 0 + i = omega arith in
-      ap (λ (j : ℕ). set out j (getD all i 0)) k ∙ store-next all 0 before i (omega arith) b e
-
-  pub front-all : (a : ℕ) {i : ℕ} {out : List ℕ} → length all < length before → i ≤ length all → length all ≤ i → out ≡ paste before 0 all i
-      → set out i a ≡ sets before 0 (all ++ (a ∷ []))
-  front-all a {i} h b c e =
-      let k : i ≡ 0 + length all = omega arith in
-      rw (store-all all 0 before (omega arith) b c e, k) (sym (sets-append before 0 all (a ∷ [])))
-
 -- ---- the padding
 
 pub length-padding : (n : ℕ) → length (padding n) ≡ 9 + zeros n
 unfolding padding
 length-padding n = simp (length-append, length-replicate, length-bytesOf) (omega arith)
 
--- s and the byte 128, stored into a block of zeros
-pub marks : (s : List ℕ) (n : ℕ) {x : List ℕ} → length s ≡ n % 64 → x ≡ sets (replicate 64 0) 0 (s ++ (128 ∷ [])) → x ≡ filled 64 (s ++ (128 ∷ []))
+-- s copied into a block of zeros, and the byte 128 after it
+pub marks : (s : List ℕ) (n : ℕ) {x : List ℕ} → length s ≡ n % 64 → x ≡ take (length s) s ++ drop (length s) (replicate 64 0) → set x (length s) 128 ≡ filled 64 (s ++ (128 ∷ []))
 marks s n l e =
-    let k : length (s ++ (128 ∷ [])) ≤ 64 = omega (arith, length-append s (128 ∷ [])) in
-    e ∙ stored 64 (s ++ (128 ∷ [])) k ∙ sym (filled-short 64 (s ++ (128 ∷ [])) k)
+    let k : length (s ++ (128 ∷ [])) ≡ length s + 1 = length-append s (128 ∷ []) in
+    let a : 64 - length s ≡ suc (64 - (length s + 1)) = omega arith in
+    rw (e, take-length, drop-zeros (length s) 64 (omega arith), a, set-at s 0 (replicate (64 - (length s + 1)) 0) 128 (length s) refl)
+    (sym (filled-short 64 (s ++ (128 ∷ [])) (omega arith) ∙ rw (k, append-assoc)))
 
 -- s and the byte 128, and zeros up to `at` and after it
 marked : (room : ℕ) (s : List ℕ) (r at : ℕ) → length s ≡ r → r < at → at ≤ room

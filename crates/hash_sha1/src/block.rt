@@ -5,7 +5,7 @@ ghost use lib.ListN.{length};
 ghost use Rattle.hash_digest.specs.Message.{hashed};
 ghost use Rattle.hash_sha1.specs.declared.block.Hash.{Hash};
 ghost use Rattle.hash_sha1.specs.declared.block.Constants.{Constants};
-ghost use Rattle.hash_sha1.specs.Sha1.{plus, compress, output};
+ghost use Rattle.hash_sha1.specs.Sha1.{initial, plus, compress, output};
 ghost use Rattle.hash_digest.specs.Words.{ch, parity, maj};
 ghost use Rattle.hash_digest.specs.Window.{inWindow, made, renewed, moved};
 ghost use Rattle.hash_sha1.specs.Rounds.{constants, rule, Made, turned, roundBy, roundsAt, run, opening, turn, turns};
@@ -37,6 +37,19 @@ struct Constants {
     second: u32,
     third: u32,
     last: u32,
+}
+
+// 5.3.1: the initial hash value.
+pub fn initial() -> Hash
+    ensures { λ r. ⌜ r ≡ initial ⌝ }
+{
+    Hash {
+        a: 0x67452301,
+        b: 0xefcdab89,
+        c: 0x98badcfe,
+        d: 0x10325476,
+        e: 0xc3d2e1f0,
+    }
 }
 
 // The hash value after the whole blocks of a message.

@@ -113,17 +113,7 @@ fn empty(length: u32) -> Stream
     ensures { λ r. ⌜ r ≡ record { hash = initial; tail = replicate 64 0; length = length } ⌝ }
 {
     let tail = [0u8; 64];
-    made(
-        Hash {
-            a: 0x67452301,
-            b: 0xefcdab89,
-            c: 0x98badcfe,
-            d: 0x10325476,
-            e: 0xc3d2e1f0,
-        },
-        tail,
-        length,
-    )
+    made(block::initial(), tail, length)
 }
 
 fn too_long() -> Stream

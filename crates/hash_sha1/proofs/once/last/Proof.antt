@@ -9,14 +9,21 @@ use Rattle.hash_sha1.proofs.once.last.Statement.{statement}
 use Rattle.hash_sha1.proofs.once.last.Tie as tie
 
 returns : tie.Need-returns
-returns c = last-in-one compress (c .before .before .before .before .before .before .before .before .before .before .args .h) (c .before .before .before .before .before .before .before .before .before .before .args .held .now) (c .before .before .before .before .before .before .before .mark .last .0) (c .before .before .before .write8 .last .0) (c .before .before .before .before .before .before .before .before .before .before .args .count) _ (c .before .before .before .before .before .before .before .before .before .before .pre) (omega arith) refl (marks (c .before .before .before .before .before .before .before .before .before .before .args .held .now) (c .before .before .before .before .before .before .before .before .before .before .args .count) (c .before .before .before .before .before .before .before .before .before .before .pre) (c .before .before .before .before .before .before .before .mark .ensures)) (c .before .before .before .write8 .ensures .1) (c .block .ensures)
+returns c =
+    let s = c .before .before .before .before .before .before .before .before .before .before in
+    let a = s .args in
+    last-in-one compress (a .h) (a .held .now) _ (c .before .before .before .write8 .last .0) (a .count) _ (s .pre) (omega arith) refl (marks (a .held .now) (a .count) (s .pre) (c .before .before .before .before .before .before .before .copy .ensures .1)) (c .before .before .before .write8 .ensures .1) (c .block .ensures)
 
 returns-2 : tie.Need-returns-2
-returns-2 c = last-in-two compress (c .before .before .before .before .before .before .before .before .before .before .before .before .args .h) (c .before .before .before .before .before .before .before .before .before .before .before .before .args .held .now) (c .before .before .before .before .before .before .before .before .before .mark .last .0) (c .before .before .before .write82 .last .0) (c .before .before .before .before .before .before .before .before .before .before .before .before .args .count) _ (c .before .before .before .before .before .before .before .before .before .before .before .before .pre) (omega arith) refl (marks (c .before .before .before .before .before .before .before .before .before .before .before .before .args .held .now) (c .before .before .before .before .before .before .before .before .before .before .before .before .args .count) (c .before .before .before .before .before .before .before .before .before .before .before .before .pre) (c .before .before .before .before .before .before .before .before .before .mark .ensures)) (c .before .before .before .before .before .block2 .ensures) (c .before .before .before .write82 .ensures .1) (c .block3 .ensures)
+returns-2 c =
+    let s = c .before .before .before .before .before .before .before .before .before .before .before .before in
+    let a = s .args in
+    last-in-two compress (a .h) (a .held .now) _ (c .before .before .before .write82 .last .0) (a .count) _ (s .pre) (omega arith) refl (marks (a .held .now) (a .count) (s .pre) (c .before .before .before .before .before .before .before .before .before .copy .ensures .1)) (c .before .before .before .before .before .block2 .ensures) (c .before .before .before .write82 .ensures .1) (c .block3 .ensures)
 
 pub last-spec : {M : Type 1} → statement M
 last-spec =
     tie.close
     (tie.spec
-    (λ c. search needs) (λ c. search needs) (λ c κs. search needs) (λ c. search needs) (λ c κs. search needs) (λ c. search needs) (λ c κs. search needs) returns
-    (λ c. search needs) (λ c κs. search needs) (λ c. search needs) (λ c κs. search needs) (λ c. search needs) (λ c κs. search needs) returns-2)
+    (λ c. search needs) (λ c. search needs) (λ c κs. search needs) (λ c. search needs) (λ c. search needs) (λ c κs. search needs) (λ c. search needs)
+    (λ c κs. search needs) returns (λ c. search needs) (λ c κs. search needs) (λ c. search needs) (λ c κs. search needs) (λ c. search needs)
+    (λ c κs. search needs) returns-2)
