@@ -14,6 +14,7 @@ static uint8_t text[MOST_TEXT], piece[PIECE], digest[20];
 static size_t length, bytes;
 static uint32_t number;
 static uint64_t detail;
+static struct wardrail_torrent read;
 
 /* ---- a call on a painted stack */
 
@@ -65,18 +66,21 @@ static size_t used(uint64_t (*call)(void)) {
 static uint64_t sha1(void) { return wardrail_sha1(piece, bytes, digest); }
 static uint64_t info_hash(void) { return wardrail_info_hash(text, length, digest); }
 static uint64_t piece_check(void) { return wardrail_piece_check(text, length, number, piece, bytes, &detail); }
+static uint64_t read_torrent(void) { return wardrail_torrent(text, length, &read); }
 
-enum { CALLS = 3 };
+enum { SHA1, PIECE_CHECK, INFO_HASH, TORRENT, CALLS };
 static const struct {
     const char *name;
     uint64_t (*call)(void);
-} calls[CALLS] = {{"wardrail_sha1", sha1}, {"wardrail_piece_check", piece_check}, {"wardrail_info_hash", info_hash}};
-static size_t most[CALLS], asked[CALLS];
+} calls[CALLS] = {{"wardrail_sha1", sha1}, {"wardrail_piece_check", piece_check}, {"wardrail_info_hash", info_hash}, {"wardrail_torrent", read_torrent}};
+/* of each call the most on messages and plain torrents, and on nested ones */
+static size_t most[CALLS][2], asked;
+static int nested;
 
 static uint64_t ask(int k) {
     const size_t depth = used(calls[k].call);
-    if (depth > most[k]) most[k] = depth;
-    asked[k]++;
+    if (depth > most[k][nested]) most[k][nested] = depth;
+    asked++;
     return answer;
 }
 
@@ -87,8 +91,8 @@ static void must(int k) {
     exit(1);
 }
 
-/* ---- what they are asked: messages around the ends of blocks, and torrents with one file and with many, their piece, whole, cut and wrong,
- * lists below a key that nobody reads, to the depth that is refused, and each beginning of such a torrent */
+/* ---- what they are asked: messages around the ends of blocks, and torrents with one file and with many, their piece, whole, cut and wrong;
+ * then the same with lists below a key that nobody reads, up to the deepest that is taken, and each beginning of one that is too deep */
 
 static void put(const char *s) {
     memcpy(text + length, s, strlen(s));
@@ -111,42 +115,40 @@ static void torrent(int files, int deep) {
     put("e");
 }
 
-static void messages(void) {
-    for (bytes = 0; bytes < 200; bytes++) must(0);
+static void one_torrent(int files, int deep) {
     bytes = PIECE;
-    must(0);
+    must(SHA1);
+    torrent(files, deep);
+    must(TORRENT);
+    number = 0;
+    must(PIECE_CHECK);
+    if (detail != 1) {
+        fprintf(stderr, "bench: the piece is not its torrent's\n");
+        exit(1);
+    }
+    for (bytes = PIECE - 2; bytes < PIECE; bytes++) ask(PIECE_CHECK);
+    piece[0] ^= 1;
+    must(PIECE_CHECK);
+    piece[0] ^= 1;
+    number = 1;
+    ask(PIECE_CHECK);
+    must(INFO_HASH);
 }
 
-static void torrents(int files) {
-    for (int deep = 0; deep <= DEEPEST; deep++) {
-        bytes = PIECE;
-        must(0);
-        torrent(files, deep);
-        number = 0;
-        must(1);
-        if (detail != 1) {
-            fprintf(stderr, "bench: the piece is not its torrent's\n");
-            exit(1);
-        }
-        for (bytes = PIECE - 2; bytes < PIECE; bytes++) ask(1);
-        piece[0] ^= 1;
-        must(1);
-        piece[0] ^= 1;
-        number = 1;
-        ask(1);
-        must(2);
-    }
-    torrent(files, DEEPEST + 1);
-    for (; length > 0; length--) ask(1), ask(2);
+static void ask_all(void) {
+    for (bytes = 0; bytes < 200; bytes++) must(SHA1);
+    one_torrent(1, 0);
+    one_torrent(FILES, 0);
+    nested = 1;
+    for (int deep = 1; deep <= DEEPEST; deep++) one_torrent(1, deep), one_torrent(FILES, deep);
+    for (torrent(FILES, DEEPEST + 1); length > 0; length--) ask(PIECE_CHECK), ask(INFO_HASH), ask(TORRENT);
 }
 
 int main(void) {
     for (int i = 0; i < PIECE; i++) piece[i] = (uint8_t)(i * 167 + i / 251);
     run(nothing, 0);
-    messages();
-    torrents(1);
-    torrents(FILES);
-    printf("Stack in bytes, the most of so many calls on a painted stack\n");
-    for (int k = 0; k < CALLS; k++) printf("%-20s %6zu   of %zu calls\n", calls[k].name, most[k], asked[k]);
+    ask_all();
+    printf("Stack in bytes, the most of %zu calls on a painted stack\n%-20s %15s %15s\n", asked, "", "plain torrents", "nested ones");
+    for (int k = 0; k < CALLS; k++) printf("%-20s %15zu %15zu\n", calls[k].name, most[k][0], most[k][1]);
     return 0;
 }
