@@ -10,6 +10,7 @@ import platform
 import re
 import sys
 from pathlib import Path
+from statistics import mean
 
 COLUMNS = ["what", "size", "of", "ours_us", "peer", "peer_us", "goal"]
 SHA1_BYTES = 16_777_216
@@ -66,11 +67,12 @@ def found(form, said):
 
 
 def sha1(folder):
-    """Beside unrolled C, and beside OpenSSL in the run that keeps it from the processor's SHA instructions."""
+    """Beside unrolled C, and beside OpenSSL kept from the processor's SHA instructions: the mean of the least times with the code at each place."""
 
     def row(file, name, peer, goal):
-        said = (folder / file).read_text()
-        ours, theirs = (SHA1_BYTES / float(found(rf"^{way} +(\d+) MB/s", said)) for way in ("wardrail_sha1", name))
+        races = re.split(r"^SHA-1 of ", (folder / file).read_text(), flags=re.M)
+        said = [race for race in races if race.startswith("16 MiB")]
+        ours, theirs = (mean([SHA1_BYTES / float(found(rf"^{way} +(\d+) MB/s", race)) for race in said]) for way in ("wardrail_sha1", name))
         return ["SHA-1 of 16 MiB", SHA1_BYTES, "bytes", ours, peer, theirs, goal]
 
     return [row("sha1.txt", "unrolled C", "unrolled C", 1), row("unaided.txt", "OpenSSL", "OpenSSL without SHA instructions", UNAIDED_GOAL)]
