@@ -85,47 +85,46 @@ module _ {F : ℕ → ℕ → ℕ → ℕ} {K a n : ℕ} (κ : Kind F K a n) (h 
       subst (λ (u : ℕ). Done h b u (roundsAt F K t (suc c) g w)) e
       (one-done w m (t + c) (omega arith) (omega arith) (omega arith) (omega arith) d (some-done w m t c g p (omega arith) (omega arith) j d x))
 
-  -- five words, and five rounds on them
-  turn-done : (x : Run) (t : ℕ) → a ≤ t → t + 5 ≤ n → 16 ≤ t → t + 5 ≤ 80 → Reached h b t x → Reached h b (t + 5) (turn F K t x)
+  -- four words, and four rounds on them
+  turn-done : (x : Run) (t : ℕ) → a ≤ t → t + 4 ≤ n → 16 ≤ t → t + 4 ≤ 80 → Reached h b t x → Reached h b (t + 4) (turn F K t x)
   unfolding turn
   turn-done x t p q i j y =
-      let d : Made b (t + 5) (moved rule t 5 (x .words)) = window-late near (by-rule b) (x .words) t 5 i j (y .1) in
-      (some-done (moved rule t 5 (x .words)) (t + 5) t 5 (x .hash) p q (omega arith) (omega arith) d (y .0), d)
+      let d : Made b (t + 4) (moved rule t 4 (x .words)) = window-late near (by-rule b) (x .words) t 4 i j (y .1) in
+      (some-done (moved rule t 4 (x .words)) (t + 4) t 4 (x .hash) p q (omega arith) (omega arith) d (y .0), d)
 
-  turns-done : (x : Run) (t c : ℕ) → a ≤ t → t + 5 * c ≤ n → 16 ≤ t → t + 5 * c ≤ 80 → Reached h b t x → Reached h b (t + 5 * c) (turns F K t c x)
+  turns-done : (x : Run) (t c : ℕ) → a ≤ t → t + 4 * c ≤ n → 16 ≤ t → t + 4 * c ≤ 80 → Reached h b t x → Reached h b (t + 4 * c) (turns F K t c x)
   unfolding turns
   turns-done x t zero p q i j y = rw add-zero y
   turns-done x t (suc c) p q i j y =
-      let e : t + 5 * c + 5 ≡ t + 5 * suc c = omega arith in
+      let e : t + 4 * c + 4 ≡ t + 4 * suc c = omega arith in
       subst (λ (u : ℕ). Reached h b u (turns F K t (suc c) x)) e
-      (turn-done (turns F K t c x) (t + 5 * c) (omega arith) (omega arith) (omega arith) (omega arith) (turns-done x t c p (omega arith) i (omega arith) y))
+      (turn-done (turns F K t c x) (t + 4 * c) (omega arith) (omega arith) (omega arith) (omega arith) (turns-done x t c p (omega arith) i (omega arith) y))
 
 -- the first twenty
 opened : (h : Hash) (b w : List ℕ) → Made b 16 w → Reached h b 20 (opening (constants .first) (run h w))
 unfolding opening rounds
 opened h b w d =
-    let v = moved rule 16 4 w in
-    let e : Made b 20 v = window-late near (by-rule b) w 16 4 (omega arith) (omega arith) d in
-    let x₁ = some-done first h b w 16 0 5 h (omega arith) (omega arith) (omega arith) (omega arith) d refl in
-    let x₂ = some-done first h b w 16 5 5 _ (omega arith) (omega arith) (omega arith) (omega arith) d x₁ in
-    let x₃ = some-done first h b w 16 10 5 _ (omega arith) (omega arith) (omega arith) (omega arith) d x₂ in
-    (some-done first h b v 20 15 5 _ (omega arith) (omega arith) (omega arith) (omega arith) e x₃, e)
+    let x₁ = some-done first h b w 16 0 4 h (omega arith) (omega arith) (omega arith) (omega arith) d refl in
+    let x₂ = some-done first h b w 16 4 4 _ (omega arith) (omega arith) (omega arith) (omega arith) d x₁ in
+    let x₃ = some-done first h b w 16 8 4 _ (omega arith) (omega arith) (omega arith) (omega arith) d x₂ in
+    let x₄ = some-done first h b w 16 12 4 _ (omega arith) (omega arith) (omega arith) (omega arith) d x₃ in
+    turn-done first h b (run _ w) 16 (omega arith) (omega arith) (omega arith) (omega arith) (x₄, d)
 
 -- all of them, by what the steps of the code ensure
 module _ (h : Hash) (b w : List ℕ) (c : Constants) {v₁ v₂ v₃ v₄ : List ℕ} {g₁ g₂ g₃ r : Hash} where
-  pub all-done : c ≡ constants → Made b 16 w → run g₁ v₁ ≡ opening (c .first) (run h w) → run g₂ v₂ ≡ turns parity (c .second) 20 4 (run g₁ v₁)
-      → run g₃ v₃ ≡ turns maj (c .third) 40 4 (run g₂ v₂) → run r v₄ ≡ turns parity (c .last) 60 4 (run g₃ v₃) → r ≡ rounds h (schedule b 80) 80
+  pub all-done : c ≡ constants → Made b 16 w → run g₁ v₁ ≡ opening (c .first) (run h w) → run g₂ v₂ ≡ turns parity (c .second) 20 5 (run g₁ v₁)
+      → run g₃ v₃ ≡ turns maj (c .third) 40 5 (run g₂ v₂) → run r v₄ ≡ turns parity (c .last) 60 5 (run g₃ v₃) → r ≡ rounds h (schedule b 80) 80
   all-done e d e₁ e₂ e₃ e₄ =
       let y₁ : Reached h b 20 (run g₁ v₁) = subst (Reached h b 20) (sym (e₁ ∙ ap (λ (x : Constants). opening (x .first) (run h w)) e)) (opened h b w d) in
       let y₂ : Reached h b 40 (run g₂ v₂) =
-      subst (Reached h b 40) (sym (e₂ ∙ ap (λ (x : Constants). turns parity (x .second) 20 4 (run g₁ v₁)) e))
-      (turns-done second h b (run g₁ v₁) 20 4 (omega arith) (omega arith) (omega arith) (omega arith) y₁) in
+      subst (Reached h b 40) (sym (e₂ ∙ ap (λ (x : Constants). turns parity (x .second) 20 5 (run g₁ v₁)) e))
+      (turns-done second h b (run g₁ v₁) 20 5 (omega arith) (omega arith) (omega arith) (omega arith) y₁) in
       let y₃ : Reached h b 60 (run g₃ v₃) =
-      subst (Reached h b 60) (sym (e₃ ∙ ap (λ (x : Constants). turns maj (x .third) 40 4 (run g₂ v₂)) e))
-      (turns-done third h b (run g₂ v₂) 40 4 (omega arith) (omega arith) (omega arith) (omega arith) y₂) in
+      subst (Reached h b 60) (sym (e₃ ∙ ap (λ (x : Constants). turns maj (x .third) 40 5 (run g₂ v₂)) e))
+      (turns-done third h b (run g₂ v₂) 40 5 (omega arith) (omega arith) (omega arith) (omega arith) y₂) in
       let y₄ : Reached h b 80 (run r v₄) =
-      subst (Reached h b 80) (sym (e₄ ∙ ap (λ (x : Constants). turns parity (x .last) 60 4 (run g₃ v₃)) e))
-      (turns-done last h b (run g₃ v₃) 60 4 (omega arith) (omega arith) (omega arith) (omega arith) y₃) in
+      subst (Reached h b 80) (sym (e₄ ∙ ap (λ (x : Constants). turns parity (x .last) 60 5 (run g₃ v₃)) e))
+      (turns-done last h b (run g₃ v₃) 60 5 (omega arith) (omega arith) (omega arith) (omega arith) y₃) in
       y₄ .0
 
 -- ---- the steps of the code, joined
@@ -140,16 +139,22 @@ words-joined t w e₁ e₂ e₃ e₄ = rw add-zero (cc)
 pub of-kind : (F : ℕ → ℕ → ℕ → ℕ) (K : ℕ) (g : Hash) (w : ℕ) {v : ℕ} {r : Hash} → v ≡ F (g .b) (g .c) (g .d) → r ≡ turned v K g w → r ≡ roundBy F K g w
 of-kind F K g w e q = q ∙ ap (λ (x : ℕ). turned x K g w) e
 
--- five of them
-pub five-joined : (F : ℕ → ℕ → ℕ → ℕ) (K t : ℕ) (g : Hash) (w : List ℕ) {r₁ r₂ r₃ r₄ r₅ : Hash} → r₁ ≡ roundBy F K g (inWindow w t) → r₂ ≡ roundBy F K r₁ (inWindow w (t + 1))
-    → r₃ ≡ roundBy F K r₂ (inWindow w (t + 2)) → r₄ ≡ roundBy F K r₃ (inWindow w (t + 3)) → r₅ ≡ roundBy F K r₄ (inWindow w (t + 4)) → r₅ ≡ roundsAt F K t 5 g w
+-- four of them
+pub four-joined : (F : ℕ → ℕ → ℕ → ℕ) (K t : ℕ) (g : Hash) (w : List ℕ) {r₁ r₂ r₃ r₄ : Hash} → r₁ ≡ roundBy F K g (inWindow w t) → r₂ ≡ roundBy F K r₁ (inWindow w (t + 1))
+    → r₃ ≡ roundBy F K r₂ (inWindow w (t + 2)) → r₄ ≡ roundBy F K r₃ (inWindow w (t + 3)) → r₄ ≡ roundsAt F K t 4 g w
 unfolding roundsAt
-five-joined F K t g w e₁ e₂ e₃ e₄ e₅ = rw add-zero (cc)
+four-joined F K t g w e₁ e₂ e₃ e₄ = rw add-zero (cc)
 
 -- once their words stand
-pub turn-joined : (F : ℕ → ℕ → ℕ → ℕ) (K t : ℕ) (g : Hash) (w : List ℕ) {v : List ℕ} {r : Hash} → v ≡ moved rule t 5 w → r ≡ roundsAt F K t 5 g v → run r v ≡ turn F K t (run g w)
+pub turn-joined : (F : ℕ → ℕ → ℕ → ℕ) (K t : ℕ) (g : Hash) (w : List ℕ) {v : List ℕ} {r : Hash} → v ≡ moved rule t 4 w → r ≡ roundsAt F K t 4 g v → run r v ≡ turn F K t (run g w)
 unfolding turn
 turn-joined F K t g w e q = rw (q, e)
+
+-- five times
+pub turns-joined : (F : ℕ → ℕ → ℕ → ℕ) (K t : ℕ) (x : Run) {x₁ x₂ x₃ x₄ x₅ : Run} → x₁ ≡ turn F K t x → x₂ ≡ turn F K (t + 4) x₁ → x₃ ≡ turn F K (t + 8) x₂ → x₄ ≡ turn F K (t + 12) x₃
+    → x₅ ≡ turn F K (t + 16) x₄ → x₅ ≡ turns F K t 5 x
+unfolding turns
+turns-joined F K t x e₁ e₂ e₃ e₄ e₅ = rw add-zero (cc)
 
 pub stepped : (h : Hash) (f k w : ℕ) {x₀ x₁ x₂ x₃ x₄ y : ℕ} → x₀ ≡ rotl 5 (h .a) → x₁ ≡ add32 x₀ f → x₂ ≡ add32 x₁ (h .e) → x₃ ≡ add32 x₂ k → x₄ ≡ add32 x₃ w → y ≡ rotl 30 (h .b)
     → _≡_ {A = Hash} (record { a = x₄; b = h .a; c = y; d = h .c; e = h .d }) (step h f k w)

@@ -45,18 +45,17 @@ pub record Run : Type 0 where
 abbrev pub run : Hash → List ℕ → Run
 run g w = record { hash = g; words = w }
 
--- the first twenty rounds: of the words after the block's own, four are made before the last five
-unfoldable pub opening : ℕ → Run → Run
-opening k x =
-    let g = roundsAt ch k 10 5 (roundsAt ch k 5 5 (roundsAt ch k 0 5 (x .hash) (x .words)) (x .words)) (x .words) in
-    let v = moved rule 16 4 (x .words) in
-    run (roundsAt ch k 15 5 g v) v
-
--- five words from t on, and five rounds on them
+-- four words from t on, and four rounds on them
 unfoldable pub turn : (ℕ → ℕ → ℕ → ℕ) → ℕ → ℕ → Run → Run
-turn F k t x = let v = moved rule t 5 (x .words) in run (roundsAt F k t 5 (x .hash) v) v
+turn F k t x = let v = moved rule t 4 (x .words) in run (roundsAt F k t 4 (x .hash) v) v
 
 -- n times
 unfoldable pub turns : (ℕ → ℕ → ℕ → ℕ) → ℕ → ℕ → ℕ → Run → Run
 turns F k t zero x = x
-turns F k t (suc n) x = turn F k (t + 5 * n) (turns F k t n x)
+turns F k t (suc n) x = turn F k (t + 4 * n) (turns F k t n x)
+
+-- the first twenty rounds: sixteen on the block's own words, and four
+unfoldable pub opening : ℕ → Run → Run
+opening k x =
+    let w = x .words in
+    turn ch k 16 (run (roundsAt ch k 12 4 (roundsAt ch k 8 4 (roundsAt ch k 4 4 (roundsAt ch k 0 4 (x .hash) w) w) w) w) w)

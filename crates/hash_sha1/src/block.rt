@@ -150,76 +150,77 @@ fn words_to_16(b: &[u8], w: &mut [u32])
 fn rounds_to_20(before: Hash, k: u32, w: &mut [u32; 16]) -> Hash
     ensures { λ r. ⌜ run r (now (w .exit)) ≡ opening k (run before (now (w .entry))) ⌝ }
 {
-    let one = five_ch(before, k, w, 0);
-    let two = five_ch(one, k, w, 5);
-    let three = five_ch(two, k, w, 10);
-    words_to_20(w);
-    five_ch(three, k, w, 15)
+    let one = four_ch(before, k, w, 0);
+    let two = four_ch(one, k, w, 4);
+    let three = four_ch(two, k, w, 8);
+    let four = four_ch(three, k, w, 12);
+    turn_ch(four, k, w, 16)
 }
 
 fn rounds_to_40(before: Hash, k: u32, w: &mut [u32; 16]) -> Hash
-    ensures { λ r. ⌜ run r (now (w .exit)) ≡ turns parity k 20 4 (run before (now (w .entry))) ⌝ }
+    ensures { λ r. ⌜ run r (now (w .exit)) ≡ turns parity k 20 5 (run before (now (w .entry))) ⌝ }
 {
     let one = turn_parity(before, k, w, 20);
-    let two = turn_parity(one, k, w, 25);
-    let three = turn_parity(two, k, w, 30);
-    turn_parity(three, k, w, 35)
+    let two = turn_parity(one, k, w, 24);
+    let three = turn_parity(two, k, w, 28);
+    let four = turn_parity(three, k, w, 32);
+    turn_parity(four, k, w, 36)
 }
 
 fn rounds_to_60(before: Hash, k: u32, w: &mut [u32; 16]) -> Hash
-    ensures { λ r. ⌜ run r (now (w .exit)) ≡ turns maj k 40 4 (run before (now (w .entry))) ⌝ }
+    ensures { λ r. ⌜ run r (now (w .exit)) ≡ turns maj k 40 5 (run before (now (w .entry))) ⌝ }
 {
     let one = turn_maj(before, k, w, 40);
-    let two = turn_maj(one, k, w, 45);
-    let three = turn_maj(two, k, w, 50);
-    turn_maj(three, k, w, 55)
+    let two = turn_maj(one, k, w, 44);
+    let three = turn_maj(two, k, w, 48);
+    let four = turn_maj(three, k, w, 52);
+    turn_maj(four, k, w, 56)
 }
 
 fn rounds_to_80(before: Hash, k: u32, w: &mut [u32; 16]) -> Hash
-    ensures { λ r. ⌜ run r (now (w .exit)) ≡ turns parity k 60 4 (run before (now (w .entry))) ⌝ }
+    ensures { λ r. ⌜ run r (now (w .exit)) ≡ turns parity k 60 5 (run before (now (w .entry))) ⌝ }
 {
     let one = turn_parity(before, k, w, 60);
-    let two = turn_parity(one, k, w, 65);
-    let three = turn_parity(two, k, w, 70);
-    turn_parity(three, k, w, 75)
+    let two = turn_parity(one, k, w, 64);
+    let three = turn_parity(two, k, w, 68);
+    let four = turn_parity(three, k, w, 72);
+    turn_parity(four, k, w, 76)
 }
 
-// Five rounds from t on, once their words stand in the places of those sixteen before.
+// Four rounds from t on, once their words stand in the places of those sixteen before.
+fn turn_ch(g: Hash, k: u32, w: &mut [u32; 16], t: usize) -> Hash
+    requires { ⌜ (16 ≤ t) × (t + 4 ≤ 80) ⌝ }
+    ensures { λ r. ⌜ run r (now (w .exit)) ≡ turn ch k t (run g (now (w .entry))) ⌝ }
+{
+    four_words(w, t);
+    four_ch(g, k, w, t)
+}
+
 fn turn_parity(g: Hash, k: u32, w: &mut [u32; 16], t: usize) -> Hash
-    requires { ⌜ (16 ≤ t) × (t + 5 ≤ 80) ⌝ }
+    requires { ⌜ (16 ≤ t) × (t + 4 ≤ 80) ⌝ }
     ensures { λ r. ⌜ run r (now (w .exit)) ≡ turn parity k t (run g (now (w .entry))) ⌝ }
 {
-    five_words(w, t);
-    five_parity(g, k, w, t)
+    four_words(w, t);
+    four_parity(g, k, w, t)
 }
 
 fn turn_maj(g: Hash, k: u32, w: &mut [u32; 16], t: usize) -> Hash
-    requires { ⌜ (16 ≤ t) × (t + 5 ≤ 80) ⌝ }
+    requires { ⌜ (16 ≤ t) × (t + 4 ≤ 80) ⌝ }
     ensures { λ r. ⌜ run r (now (w .exit)) ≡ turn maj k t (run g (now (w .entry))) ⌝ }
 {
-    five_words(w, t);
-    five_maj(g, k, w, t)
+    four_words(w, t);
+    four_maj(g, k, w, t)
 }
 
-// Step 1, the words 16 to 19, and five words from t on.
-fn words_to_20(w: &mut [u32; 16])
-    ensures { λ _. ⌜ now (w .exit) ≡ moved rule 16 4 (now (w .entry)) ⌝ }
-{
-    next_word(w, 16);
-    next_word(w, 17);
-    next_word(w, 18);
-    next_word(w, 19);
-}
-
-fn five_words(w: &mut [u32; 16], t: usize)
-    requires { ⌜ (16 ≤ t) × (t + 5 ≤ 80) ⌝ }
-    ensures { λ _. ⌜ now (w .exit) ≡ moved rule t 5 (now (w .entry)) ⌝ }
+// Step 1, four words from t on.
+fn four_words(w: &mut [u32; 16], t: usize)
+    requires { ⌜ (16 ≤ t) × (t + 4 ≤ 80) ⌝ }
+    ensures { λ _. ⌜ now (w .exit) ≡ moved rule t 4 (now (w .entry)) ⌝ }
 {
     next_word(w, t);
     next_word(w, t + 1);
     next_word(w, t + 2);
     next_word(w, t + 3);
-    next_word(w, t + 4);
 }
 
 // Word t in the place of the one sixteen before it.
@@ -237,38 +238,35 @@ fn mixed(w: &[u32], t: usize) -> u32
     rotl1(w[(t - 3) % 16] ^ w[(t - 8) % 16] ^ w[(t - 14) % 16] ^ w[(t - 16) % 16])
 }
 
-// Step 3, five rounds from t on: after five each value stands where it stood, so that none is moved.
-fn five_ch(g: Hash, k: u32, w: &[u32], t: usize) -> Hash
-    requires { ⌜ (t + 5 ≤ 80) × (length (now w) ≡ 16) ⌝ }
-    ensures { λ r. ⌜ r ≡ roundsAt ch k t 5 g (now (w .entry)) ⌝ }
+// Step 3, four rounds from t on.
+fn four_ch(g: Hash, k: u32, w: &[u32], t: usize) -> Hash
+    requires { ⌜ (t + 4 ≤ 80) × (length (now w) ≡ 16) ⌝ }
+    ensures { λ r. ⌜ r ≡ roundsAt ch k t 4 g (now (w .entry)) ⌝ }
 {
     let one = round_ch(g, k, w[t % 16]);
     let two = round_ch(one, k, w[(t + 1) % 16]);
     let three = round_ch(two, k, w[(t + 2) % 16]);
-    let four = round_ch(three, k, w[(t + 3) % 16]);
-    round_ch(four, k, w[(t + 4) % 16])
+    round_ch(three, k, w[(t + 3) % 16])
 }
 
-fn five_parity(g: Hash, k: u32, w: &[u32], t: usize) -> Hash
-    requires { ⌜ (t + 5 ≤ 80) × (length (now w) ≡ 16) ⌝ }
-    ensures { λ r. ⌜ r ≡ roundsAt parity k t 5 g (now (w .entry)) ⌝ }
+fn four_parity(g: Hash, k: u32, w: &[u32], t: usize) -> Hash
+    requires { ⌜ (t + 4 ≤ 80) × (length (now w) ≡ 16) ⌝ }
+    ensures { λ r. ⌜ r ≡ roundsAt parity k t 4 g (now (w .entry)) ⌝ }
 {
     let one = round_parity(g, k, w[t % 16]);
     let two = round_parity(one, k, w[(t + 1) % 16]);
     let three = round_parity(two, k, w[(t + 2) % 16]);
-    let four = round_parity(three, k, w[(t + 3) % 16]);
-    round_parity(four, k, w[(t + 4) % 16])
+    round_parity(three, k, w[(t + 3) % 16])
 }
 
-fn five_maj(g: Hash, k: u32, w: &[u32], t: usize) -> Hash
-    requires { ⌜ (t + 5 ≤ 80) × (length (now w) ≡ 16) ⌝ }
-    ensures { λ r. ⌜ r ≡ roundsAt maj k t 5 g (now (w .entry)) ⌝ }
+fn four_maj(g: Hash, k: u32, w: &[u32], t: usize) -> Hash
+    requires { ⌜ (t + 4 ≤ 80) × (length (now w) ≡ 16) ⌝ }
+    ensures { λ r. ⌜ r ≡ roundsAt maj k t 4 g (now (w .entry)) ⌝ }
 {
     let one = round_maj(g, k, w[t % 16]);
     let two = round_maj(one, k, w[(t + 1) % 16]);
     let three = round_maj(two, k, w[(t + 2) % 16]);
-    let four = round_maj(three, k, w[(t + 3) % 16]);
-    round_maj(four, k, w[(t + 4) % 16])
+    round_maj(three, k, w[(t + 3) % 16])
 }
 
 fn round_ch(g: Hash, k: u32, w: u32) -> Hash

@@ -1,4 +1,4 @@
--- `rounds_to_20` meets its contract: fifteen rounds on the block's words, four words more, and five rounds. Assumes nothing.
+-- `rounds_to_20` meets its contract: sixteen rounds on the block's words, and four. Assumes nothing.
 use borrow.Author.Needs.{needs}
 use Rattle.hash_sha1.specs.Rounds.{opening}
 use Rattle.hash_sha1.proofs.block.rounds_to_20.Statement.{statement}
