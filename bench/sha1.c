@@ -110,7 +110,7 @@ int main(int count, char **words) {
     if (!m) return 1;
     for (size_t i = 0; i < MOST; i++) m[i] = (uint8_t)(i * 167 + i / 251);
     if (count > 1) snprintf(note, sizeof note, ", %s", words[1]);
-    const int fault = race(m, MOST, 15, "16 MiB", note) || race(m, 262144, 600, "256 KiB", note);
+    const int fault = race(m, MOST, 25, "16 MiB", note) || race(m, 262144, 600, "256 KiB", note);
     free(m);
     return fault;
 }
