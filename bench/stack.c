@@ -14,7 +14,7 @@ static uint8_t text[MOST_TEXT], piece[PIECE], digest[20];
 static size_t length, bytes;
 static uint32_t number;
 static uint64_t detail;
-static struct wardrail_torrent read;
+static struct wardrail_torrent told;
 
 /* ---- a call on a painted stack */
 
@@ -43,7 +43,7 @@ static void run(uint64_t (*call)(void), uint8_t paint) {
     swapcontext(&here, &there);
 }
 
-/* the bytes below `top` that two runs with different paints have touched: a byte may be written in one of the paints */
+/* the bytes from `top` down to the last that is touched, in two paints, since what is written may have the colour of one */
 static size_t used(uint64_t (*call)(void)) {
     size_t most = 0;
     for (int k = 0; k < 2; k++) {
@@ -66,7 +66,7 @@ static size_t used(uint64_t (*call)(void)) {
 static uint64_t sha1(void) { return wardrail_sha1(piece, bytes, digest); }
 static uint64_t info_hash(void) { return wardrail_info_hash(text, length, digest); }
 static uint64_t piece_check(void) { return wardrail_piece_check(text, length, number, piece, bytes, &detail); }
-static uint64_t read_torrent(void) { return wardrail_torrent(text, length, &read); }
+static uint64_t read_torrent(void) { return wardrail_torrent(text, length, &told); }
 
 enum { SHA1, PIECE_CHECK, INFO_HASH, TORRENT, CALLS };
 static const struct {
