@@ -103,3 +103,8 @@ module _ {R : Rule} (near : Near R) {b : List ℕ} {m : ℕ} {s : List ℕ} (σ 
   window-late w t (suc n) h within d =
       let e : t + n + 1 ≡ t + suc n = omega arith in
       subst (λ (i : ℕ). Window s i (moved R t (suc n) w)) e (renewing (moved R t n w) (t + n) (omega arith) (omega arith) (window-late w t n h (omega arith) d))
+
+-- four words, as four steps of code put them
+pub four-moved : (R : Rule) (t : ℕ) (w : List ℕ) {v₁ v₂ v₃ v₄ : List ℕ} → v₁ ≡ renewed R t w → v₂ ≡ renewed R (t + 1) v₁ → v₃ ≡ renewed R (t + 2) v₂ → v₄ ≡ renewed R (t + 3) v₃ → v₄ ≡ moved R t 4 w
+unfolding moved
+four-moved R t w e₁ e₂ e₃ e₄ = rw add-zero (cc)

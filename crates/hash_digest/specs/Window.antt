@@ -28,7 +28,7 @@ inWindow w i = getD w (i % 16) 0
 abbrev pub made : Rule → (ℕ → ℕ) → ℕ → ℕ
 made R at t = R .mix (at (t - R .first)) (at (t - R .second)) (at (t - R .third)) (at (t - 16))
 
--- s is the schedule of n words of the block b by a rule
+-- 6.1.2, 6.2.2, step 1: the first n words of s are the schedule of the block b by a rule
 pub record Schedule (R : Rule) (b : List ℕ) (n : ℕ) (s : List ℕ) : Type 0 where
   pub early : (t : ℕ) → t < 16 → t < n → inOrder s t ≡ word b t
   pub late : (t : ℕ) → 16 ≤ t → t < n → inOrder s t ≡ made R (inOrder s) t

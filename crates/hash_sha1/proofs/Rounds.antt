@@ -10,7 +10,7 @@ use borrow.Author.Tests.{lt-ltb, le-ltb}
 use Rattle.refusal.specs.BigEndian.{bigEndian}
 use Rattle.refusal.proofs.Places.{four-there}
 use Rattle.hash_digest.specs.Words.{add32, rotl, ch, parity, maj}
-use Rattle.hash_digest.specs.Window.{Near, Schedule, inWindow, renewed, moved}
+use Rattle.hash_digest.specs.Window.{Near, Schedule, inWindow, moved}
 use Rattle.hash_digest.proofs.Window.{scheduled, window-none, window-early, window-late}
 use Rattle.hash_sha1.specs.Sha1.{schedule, rounds, step, plus, f, k}
 use Rattle.hash_sha1.specs.Rounds.{constants, rule, Made, turned, roundBy, roundsAt, Run, run, opening, turn, turns}
@@ -129,17 +129,11 @@ module _ (h : Hash) (b w : List ℕ) (c : Constants) {v₁ v₂ v₃ v₄ : List
 
 -- ---- the steps of the code, joined
 
--- four words
-pub words-joined : (t : ℕ) (w : List ℕ) {v₁ v₂ v₃ v₄ : List ℕ} → v₁ ≡ renewed rule t w → v₂ ≡ renewed rule (t + 1) v₁ → v₃ ≡ renewed rule (t + 2) v₂ → v₄ ≡ renewed rule (t + 3) v₃
-    → v₄ ≡ moved rule t 4 w
-unfolding moved
-words-joined t w e₁ e₂ e₃ e₄ = rw add-zero (cc)
-
 -- a round of a kind
 pub of-kind : (F : ℕ → ℕ → ℕ → ℕ) (K : ℕ) (g : Hash) (w : ℕ) {v : ℕ} {r : Hash} → v ≡ F (g .b) (g .c) (g .d) → r ≡ turned v K g w → r ≡ roundBy F K g w
 of-kind F K g w e q = q ∙ ap (λ (x : ℕ). turned x K g w) e
 
--- four of them
+-- four of it
 pub four-joined : (F : ℕ → ℕ → ℕ → ℕ) (K t : ℕ) (g : Hash) (w : List ℕ) {r₁ r₂ r₃ r₄ : Hash} → r₁ ≡ roundBy F K g (inWindow w t) → r₂ ≡ roundBy F K r₁ (inWindow w (t + 1))
     → r₃ ≡ roundBy F K r₂ (inWindow w (t + 2)) → r₄ ≡ roundBy F K r₃ (inWindow w (t + 3)) → r₄ ≡ roundsAt F K t 4 g w
 unfolding roundsAt

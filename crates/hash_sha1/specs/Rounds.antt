@@ -5,13 +5,13 @@ use Prim.Native.Nat.{ℕ, zero, suc, _+_, _*_}
 use lib.Bits.{bitXor}
 use Rattle.hash_digest.specs.Words.{rotl, ch}
 use Rattle.hash_digest.specs.Window.{Rule, Window, inWindow, moved}
-use Rattle.hash_sha1.specs.Sha1.{schedule, step}
+use Rattle.hash_sha1.specs.Sha1.{k, schedule, step}
 use Rattle.hash_sha1.specs.declared.block.Hash.{Hash}
 use Rattle.hash_sha1.specs.declared.block.Constants.{Constants}
 
--- the constants of each twenty rounds
+-- the standard's constants, one for each twenty rounds
 abbrev pub constants : Constants
-constants = record { first = 0x5a827999; second = 0x6ed9eba1; third = 0x8f1bbcdc; last = 0xca62c1d6 }
+constants = record { first = k 0; second = k 20; third = k 40; last = k 60 }
 
 -- ---- the words
 
