@@ -6,7 +6,9 @@ use native.Mathlib.Omega.{arith}
 use lib.ListN.{length, length-take, length-drop}
 use borrow.Author.Tests.{le-leb}
 use Rattle.refusal.specs.Paper.{Outcome, taken, refused}
+use Rattle.refusal.specs.Limits.{mostText, longestPiece}
 use Rattle.refusal.specs.Parts.{bytesAt}
+use Rattle.refusal.specs.declared.Part.{Part}
 use Rattle.hash_sha1.specs.Sha1.{sha1}
 use Rattle.hash_sha1.specs.Digest.{Left, left, digestOf}
 use Rattle.hash_sha1.specs.Digest.{paper as hashPaper}
@@ -29,9 +31,14 @@ pub info-hash-determined : (s o : List ℕ) (r t : Hashed) (x y : List ℕ) → 
 info-hash-determined s o r t x y e f = (sym (again r) ∙ ap (λ (l : Left). hashedAs (l .answer)) (e ∙ sym f) ∙ again t, ap (λ (l : Left). l .out) (e ∙ sym f))
 
 -- of a text that is a torrent
+module _ (s : List ℕ) (t : Torrent) (e : readOf s ≡ taken t) where
+  -- a part of it is no longer than a text may be, and can be hashed
+  pub part-short : (p : Part) → length (bytesAt s p) ≤ mostText
+  part-short p = let f = torrent-exact s .only t e .1 in simp (length-take, length-drop) (omega (arith, f .short))
+
+  pub info-short : length (bytesAt s (t .info)) ≤ longestPiece
+  info-short = omega (arith, part-short (t .info))
+
 pub info-hash : (s o : List ℕ) (t : Torrent) → readOf s ≡ taken t → infoHashOf s o ≡ left (taken tt) (sha1 (bytesAt s (t .info)))
 unfolding digestOf
-info-hash s o t e =
-    let f = torrent-exact s .only t e .1 in
-    let h : length (bytesAt s (t .info)) ≤ 16777216 = simp (length-take, length-drop) (omega (arith, f .short)) in
-    ap (hashedIn s o) e ∙ rw (le-leb (length (bytesAt s (t .info))) 16777216 h)
+info-hash s o t e = ap (hashedIn s o) e ∙ rw (le-leb (length (bytesAt s (t .info))) longestPiece (info-short s t e))

@@ -1,0 +1,19 @@
+-- Laws of links.
+pub mod Digits
+pub mod Running
+pub mod Lengths
+pub mod Turning
+pub mod Spelling
+pub mod Pairing
+pub mod Decoding
+pub mod Putting
+pub mod Answers
+pub mod Saying
+pub mod Reached
+pub mod Exact
+pub mod Opening
+pub mod Parting
+pub mod Stopping
+pub mod Faults
+pub mod Back
+pub mod Example

@@ -1,0 +1,121 @@
+-- The bytes of a link put into output one after the other, and how many there are. Assumes nothing.
+use mathlib.Core.Path.{_≡_, refl, sym, ap, _∙_, subst}
+use mathlib.Core.Bool.{true, false}
+use mathlib.Core.List.{List, [], _∷_, _++_, append-assoc}
+use Prim.Native.Nat.{ℕ, _+_, _*_, _/_, _%_, _<_, _≤_}
+use native.Mathlib.Omega.{arith}
+use native.Mathlib.Numerals.{add-one}
+use borrow.Author.Tests.{lt-ltb, le-ltb}
+use lib.ListN.{length, getD, drop, set, length-append, length-take, length-drop, drop-of-length-le}
+use lib.Seq.{sets, length-sets}
+use Rattle.refusal.specs.Texts.{bytes}
+use Rattle.refusal.specs.Limits.{mostText, longestPiece}
+use Rattle.refusal.specs.Paper.{Outcome, taken, refused, map}
+use Rattle.refusal.specs.Numbers.{long, room}
+use Rattle.refusal.specs.Parts.{bytesAt}
+use Rattle.refusal.specs.declared.Part.{Part}
+use Rattle.bencode_writer.specs.Escaped.{escapedByte, escapedBy, percent}
+use Rattle.bencode_writer.specs.Put.{Left, left, paper, putOf, placePast, Ran}
+use Rattle.bencode_writer.specs.declared.Put.{Put}
+use Rattle.bencode_writer.specs.declared.Put.the-variants.{To, Refused}
+use Rattle.bencode_writer.proofs.Escapes.{escape-plain, escape-other, escaped-more, escaped-none}
+use Rattle.bencode_writer.proofs.Laws.{put-whole, put-none}
+use Rattle.bencode_writer.proofs.Runs.{ran-length, ran-then, ran-as, put-ran}
+use Rattle.hash_sha1.specs.Sha1.{sha1}
+use Rattle.torrent_metainfo.specs.declared.Torrent.{Torrent}
+use Rattle.torrent_metainfo.specs.Reading.{readOf}
+use Rattle.torrent_metainfo.proofs.Exact.{torrent-exact}
+use Rattle.torrent_lines.proofs.Running.{Going, going-start, going-more}
+use Rattle.links.specs.Link.{smallDigit}
+use Rattle.links.specs.Writing.{unreserved, escaped, smallHex, textOf, linkText, unlessLong, writtenOf, puts, writeOf, sizePaper}
+use Rattle.links.specs.declared.Sized.{Sized}
+use Rattle.links.specs.declared.Sized.the-variants.{Bytes, Refused as Unsized}
+use Rattle.links.proofs.Lengths.{from-place}
+
+-- ---- a digit, and a byte of a value
+
+pub digit-low : (n : ℕ) → n < 10 → 48 + n ≡ smallDigit n
+digit-low n h = rw (lt-ltb n 10 h)
+
+pub digit-high : (n : ℕ) → 10 ≤ n → 87 + n ≡ smallDigit n
+digit-high n h = rw (le-ltb n 10 h)
+
+module _ (b : ℕ) where
+  pub one-byte : unreserved b ≡ true → (1 ≡ length (escapedByte unreserved b)) × (1 ≤ 3)
+  one-byte e = (ap length (escape-plain unreserved b e), omega arith)
+
+  pub three-bytes : unreserved b ≡ false → (3 ≡ length (escapedByte unreserved b)) × (3 ≤ 3)
+  three-bytes e = (ap length (escape-other unreserved b e), omega arith)
+
+  pub put-plain : (at : ℕ) (o : List ℕ) → unreserved b ≡ true → Ran (escapedByte unreserved b) at o (at + 1) (set o at b)
+  put-plain at o e = ran-as (record { place = refl; out = refl }) (escape-plain unreserved b e)
+
+-- ---- what is left to put
+
+module _ {all : List ℕ} {at : ℕ} {o left : List ℕ} {to : ℕ} {p : List ℕ} (g : Going all at o left to p) where
+  pub going-length : length p ≡ length o
+  going-length = sym (length-sets p to left) ∙ ap length (g .same) ∙ length-sets o at all
+
+  pub going-room : at + length all ≤ length o → to + length left ≤ length p
+  going-room h = omega (arith, g .place, going-length)
+
+-- one byte of a value more, and how many bytes a value has
+module _ (s : List ℕ) (i : ℕ) where
+  pub escaped-length : i < length s → length (escaped (drop i s)) ≡ length (escapedByte unreserved (getD s i 0)) + length (escaped (drop (i + 1) s))
+  escaped-length h = ap length (escaped-more unreserved s i h) ∙ length-append (escapedByte unreserved (getD s i 0)) (escaped (drop (i + 1) s))
+
+-- ---- digits of a hash
+
+module _ (s : List ℕ) (i : ℕ) where
+  pub hex-more : i < length s → smallHex (drop i s) ≡ (smallDigit (getD s i 0 / 16) ∷ smallDigit (getD s i 0 % 16) ∷ []) ++ smallHex (drop (i + 1) s)
+  unfolding smallHex
+  hex-more h = ap smallHex (from-place s i h)
+
+  pub hex-none : length s ≤ i → smallHex (drop i s) ≡ []
+  unfolding smallHex
+  hex-none h = ap smallHex (drop-of-length-le s h)
+
+pub put-digits : (x y at : ℕ) (o : List ℕ) {a b : ℕ} → a ≡ x → b ≡ y → Ran (x ∷ y ∷ []) at o (at + 2) (set (set o at a) (at + 1) b)
+put-digits x y at o e f = record { place = refl; out = rw (e, f, add-one) }
+
+pub hex-length : (s : List ℕ) → length (smallHex s) ≡ 2 * length s
+unfolding smallHex
+hex-length [] = omega arith
+hex-length (b ∷ s) = omega (arith, hex-length s)
+
+-- ---- a whole link
+
+module _ (h d t : List ℕ) where
+  pub text-length : length h ≡ 20 → length (textOf h d t) ≡ 68 + length (escaped d) + length (escaped t)
+  unfolding textOf
+  text-length e =
+      omega (arith, e, hex-length h, length-append (smallHex h) (bytes "&dn=" ++ (escaped d ++ (bytes "&tr=" ++ escaped t))), length-append (escaped d) (bytes "&tr=" ++ escaped t))
+
+  -- by its four parts
+  text-parts : length (textOf h d t) ≡ 20 + length (smallHex h) + length (bytes "&dn=" ++ escaped d) + length (bytes "&tr=" ++ escaped t)
+  unfolding textOf
+  text-parts =
+      omega (arith, length-append (smallHex h) (bytes "&dn=" ++ (escaped d ++ (bytes "&tr=" ++ escaped t))), length-append (escaped d) (bytes "&tr=" ++ escaped t))
+
+  module _ (o : List ℕ) (l : length (textOf h d t) ≤ length o) {a : ℕ} {o₁ : List ℕ} {x : Outcome ℕ}
+      (e : left x o₁ ≡ putOf (bytes "magnet:?xt=urn:btih:") 0 o) (f : a ≡ placePast x) where
+    start : Ran (bytes "magnet:?xt=urn:btih:") 0 o a o₁
+    start = put-ran (bytes "magnet:?xt=urn:btih:") 0 o (omega (arith, l, text-parts)) e f
+
+    pub hash-room : a + length (smallHex h) ≤ length o₁
+    hash-room = omega (arith, l, text-parts, start .place, ran-length start)
+
+    module _ {b : ℕ} {o₂ : List ℕ} (g : Ran (smallHex h) a o₁ b o₂) where
+      pub name-room : b + length (bytes "&dn=" ++ escaped d) ≤ length o₂
+      name-room = omega (arith, l, text-parts, start .place, ran-length start, g .place, ran-length g)
+
+      module _ {c : ℕ} {o₃ : List ℕ} (i : Ran (bytes "&dn=" ++ escaped d) b o₂ c o₃) where
+        pub address-room : c + length (bytes "&tr=" ++ escaped t) ≤ length o₃
+        address-room = omega (arith, l, text-parts, start .place, ran-length start, g .place, ran-length g, i .place, ran-length i)
+
+        pub text-put : {q : ℕ} {o₄ : List ℕ} → Ran (bytes "&tr=" ++ escaped t) c o₃ q o₄ → Ran (textOf h d t) 0 o q o₄
+        unfolding textOf
+        text-put j = ran-as (ran-then (ran-then (ran-then start g) i) j) (joined (bytes "magnet:?xt=urn:btih:") (smallHex h) (bytes "&dn=") (escaped d) (bytes "&tr=" ++ escaped t))
+          where
+            joined : (u v w x y : List ℕ) → ((u ++ v) ++ (w ++ x)) ++ y ≡ u ++ (v ++ (w ++ (x ++ y)))
+            joined u v w x y = append-assoc (u ++ v) (w ++ x) y ∙ append-assoc u v ((w ++ x) ++ y) ∙ ap (λ (z : List ℕ). u ++ (v ++ z)) (append-assoc w x y)

@@ -1,0 +1,6 @@
+-- The definitions, a file for each subject.
+pub mod Link
+pub mod Causes
+pub mod Reading
+pub mod Writing
+pub mod Places
