@@ -1,6 +1,6 @@
 -- What the calls leave and answer, by what their steps come to. Assumes nothing.
 use mathlib.Core.Path.{_≡_, refl, sym, ap, _∙_}
-use mathlib.Core.Bool.{true, false}
+use mathlib.Core.Bool.{Bool, true, false, cond}
 use mathlib.Core.List.{List}
 use Prim.Native.Nat.{ℕ, _+_, _<_, _≤_}
 use native.Mathlib.Omega.{arith}
@@ -15,16 +15,17 @@ use Rattle.refusal.specs.declared.Refusal.{Refusal}
 use Rattle.refusal.specs.Parts.{bytesAt}
 use Rattle.refusal.specs.BigEndian.{bytesOf}
 use Rattle.bencode_writer.specs.Put.{placePast, Ran}
-use Rattle.bencode_writer.specs.Put.{left as putLeft, paper as putPaper}
+use Rattle.bencode_writer.specs.Put.{Left as PutLeft, left as putLeft, paper as putPaper}
 use Rattle.bencode_writer.specs.declared.Put.{Put}
 use Rattle.bencode_writer.specs.declared.Put.the-variants.{To, Refused as Unput}
-use Rattle.bencode_writer.proofs.Laws.{put-done, put-nothing}
+use Rattle.bencode_writer.proofs.Laws.{put-done, put-nothing, refusal-keeps}
+use Rattle.refusal.proofs.Cases.{no-way}
 use Rattle.hash_sha1.specs.Sha1.{sha1}
 use Rattle.torrent_metainfo.specs.declared.Torrent.{Torrent}
 use Rattle.torrent_metainfo.specs.Reading.{readOf as torrentIn}
 use Rattle.links.specs.Link.{Said, absent, said, Meaning}
-use Rattle.links.specs.Reading.{fed, finish, begun, readOf, sizeOf, storedIn, givenOf, left, decodedTo, leftOf, paper}
-use Rattle.links.specs.Writing.{escaped, textOf, linkText, unlessLong, writtenOf, puts}
+use Rattle.links.specs.Reading.{fed, finish, begun, readOf, sizeOf, storedIn, givenOf, sizesOf, Left, left, roomFor, decodedTo, leftOf, paper}
+use Rattle.links.specs.Writing.{escaped, textOf, linkText, unlessLong, writtenOf, puts, writeOf}
 use Rattle.links.specs.Places.{SpeltAt, HashAt, Holds, unheld, held, ScannedAs, found, unfound, givenIn, sizeIn}
 use Rattle.links.specs.declared.Given.{Given}
 use Rattle.links.specs.declared.Given.the-variants.{Bytes as Some}
@@ -140,3 +141,25 @@ module _ (s : List ℕ) (t : Torrent) where
 pub written-refused : (s : List ℕ) (n p : ℕ) → torrentIn s ≡ refused n p → refused n p ≡ writtenOf s
 unfolding writtenOf
 written-refused s n p e = rw e
+
+-- ---- a refusal leaves what is lent
+
+pub reading-keeps : (s h d t : List ℕ) (n p : ℕ) → leftOf s h d t .answer ≡ refused n p → (leftOf s h d t .hash ≡ h) × (leftOf s h d t .name ≡ d) × (leftOf s h d t .address ≡ t)
+unfolding leftOf
+reading-keeps s h d t n p = go (readOf s)
+  where
+    go : (o : Outcome Meaning) → decodedTo h d t o .answer ≡ refused n p → (decodedTo h d t o .hash ≡ h) × (decodedTo h d t o .name ≡ d) × (decodedTo h d t o .address ≡ t)
+    go (taken m) e = room (roomFor m d t) e
+      where
+        room : (b : Bool) → cond b (left (taken (sizesOf m)) (m .hash) (storedIn (m .name) d) (storedIn (m .address) t)) (left (refused no.room 0) h d t) .answer ≡ refused n p
+            → let l : Left = cond b (left (taken (sizesOf m)) (m .hash) (storedIn (m .name) d) (storedIn (m .address) t)) (left (refused no.room 0) h d t) in (l .hash ≡ h) × (l .name ≡ d) × (l .address ≡ t)
+        room true f = no-way (cc)
+        room false f = (refl, refl, refl)
+    go (refused k q) e = (refl, refl, refl)
+
+pub link-keeps : (s o : List ℕ) (r : Put) {out : List ℕ} → putLeft (putPaper r) out ≡ writeOf s o → (n p : ℕ) → putPaper r ≡ refused n p → out ≡ o
+link-keeps s o r {out} e n p h = go (writtenOf s) e
+  where
+    go : (w : Outcome (List ℕ)) → putLeft (putPaper r) out ≡ puts o w → out ≡ o
+    go (taken w) f = refusal-keeps w 0 o r f h .1
+    go (refused m q) f = ap (λ (l : PutLeft). l .out) f

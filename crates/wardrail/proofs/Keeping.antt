@@ -20,8 +20,12 @@ use Rattle.torrent_authoring.proofs.Written.{refusal-keeps as torrent-keeps}
 use Rattle.sheets.specs.declared.Source.{Source}
 use Rattle.sheets.specs.declared.Source.the-variants.{Torrent, Sheet}
 use Rattle.sheets.specs.Reading.{Answered}
+use Rattle.links.specs.Reading.{Sizes, leftOf as readTo}
+use Rattle.links.specs.Writing.{writeOf as linkTextOf}
+use Rattle.links.proofs.Answers.{link-keeps, reading-keeps}
 use Rattle.wardrail.specs.Said.{wordOf, leftOf, Tells}
 use Rattle.wardrail.specs.Addresses.{wordFrom, addressDetail, TellsOf}
+use Rattle.wardrail.specs.Magnets.{linkDetail, ReadTo}
 use Rattle.wardrail.specs.Writers.{Wrote}
 
 -- a word other than 0 is a refusal's
@@ -71,6 +75,15 @@ write-reply-keeps n bs o = keeps (replyTextOf n bs o) o (λ k p e. reply-keeps n
 
 pub write-torrent-keeps : (f : Fields) (o : List ℕ) → Keeps (torrentTextOf f o) o
 write-torrent-keeps f o = keeps (torrentTextOf f o) o (λ n p e. torrent-keeps f o (Refused (record { number = n; place = p })) (same-left (torrentTextOf f o) n p e) n p refl .2)
+
+pub write-link-keeps : (s o : List ℕ) → Keeps (linkTextOf s o) o
+write-link-keeps s o = keeps (linkTextOf s o) o (λ n p e. link-keeps s o (Refused (record { number = n; place = p })) (same-left (linkTextOf s o) n p e) n p refl)
+
+-- of a link that is read: the three outputs and the detail
+pub read-to-keeps : (s h n a was : List ℕ) (r : ℕ) (d h′ n′ a′ : List ℕ) → ReadTo (readTo s h n a) was r d h′ n′ a′ → (r ≡ 0 → ⊥) → (h′ ≡ h) × (n′ ≡ n) × (a′ ≡ a) × (d ≡ was)
+read-to-keeps s h n a was r d h′ n′ a′ w k =
+    let (x, y, z) = refusing (readTo s h n a .answer) (w .word) k (reading-keeps s h n a) in
+    (w .hash ∙ x, w .name ∙ y, w .address ∙ z, refusing (readTo s h n a .answer) (w .word) k (λ m p e. w .left ∙ ap (λ (o : Outcome Sizes). leftOf (map linkDetail o) was) e))
 
 pub block-keeps : (ns : List ℕ) (pl p o n : ℕ) (out : List ℕ) → Keeps (partsWritten (blockOf (joinedFiles ns) pl (spot p o) n) out) out
 block-keeps ns pl p o n out = keeps l out (λ m q e. block-refusal-keeps (joinedFiles ns) pl p o n out (Unlaid (record { number = m; place = q })) (l .out) (same-left l m q e) m q refl)

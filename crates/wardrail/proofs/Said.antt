@@ -8,9 +8,12 @@ use Rattle.refusal.specs.declared.Part.{Part}
 use Rattle.sheets.specs.declared.Source.{Source}
 use Rattle.sheets.specs.declared.Source.the-variants.{Torrent, Sheet}
 use Rattle.sheets.specs.Reading.{Answered, of}
+use Rattle.links.specs.declared.Given.{Given}
+use Rattle.links.specs.Reading.{Sizes, Left as Link, left as link}
 use Rattle.wardrail.specs.Said.{wordOf, numberIn, placeIn, textIn, leftOf, Tells}
 use Rattle.wardrail.specs.Addresses.{wordFrom, textNumber, addressDetail, TellsOf}
 use Rattle.wardrail.specs.Hashing.{Digested}
+use Rattle.wardrail.specs.Magnets.{isGiven, givenBytes, linkDetail, ReadTo}
 use Rattle.wardrail.specs.Writers.{Wrote}
 
 -- the answer a, which the contract says is x, is the case b, and g is what C is told of an answer
@@ -35,6 +38,22 @@ digested e f =
       word = f ∙ ap (λ (x : Left (Unit {0})). wordOf (x .answer)) e;
       out = ap (λ (x : Left (Unit {0})). x .out) e;
     }
+
+-- ---- of a link that is read: the answer a with what is lent after it is l, and is the case b
+
+pub read-to : {b a : Outcome Sizes} {l : Link} {h n t was d : List ℕ} {r : ℕ} → b ≡ a → link a h n t ≡ l → r ≡ wordOf b → d ≡ leftOf (map linkDetail b) was → ReadTo l was r d h n t
+read-to {was = was} e f k g =
+    record {
+      word = k ∙ ap wordOf (e ∙ ap (λ (x : Link). x .answer) f);
+      left = g ∙ ap (λ (y : Outcome Sizes). leftOf (map linkDetail y) was) (e ∙ ap (λ (x : Link). x .answer) f);
+      hash = ap (λ (x : Link). x .hash) f;
+      name = ap (λ (x : Link). x .name) f;
+      address = ap (λ (x : Link). x .address) f;
+    }
+
+pub detail-of : (u v : Given) {i j k m : ℕ} {d : List ℕ} → d ≡ i ∷ j ∷ k ∷ m ∷ [] → i ≡ isGiven u → j ≡ givenBytes u → k ≡ isGiven v → m ≡ givenBytes v
+    → d ≡ linkDetail (record { name = u; address = v })
+detail-of u v e f g h i = e ∙ rw (f, g, h, i)
 
 -- ---- the same of two texts: the answer a, which the contract says is x, is that of the text c
 

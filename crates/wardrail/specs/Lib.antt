@@ -4,6 +4,7 @@ pub mod Looks
 pub mod Replies
 pub mod Torrents
 pub mod Addresses
+pub mod Magnets
 pub mod Mapping
 pub mod Frames
 pub mod Files

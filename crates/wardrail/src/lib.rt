@@ -14,6 +14,7 @@ mod files;
 mod frames;
 mod hashing;
 mod looks;
+mod magnets;
 mod mapping;
 mod peers;
 mod replies;

@@ -1,16 +1,20 @@
 // Writers for C, each at the start of `out`. `detail` becomes how many bytes were written, and what is past them stays.
 ghost use mathlib.Core.List.{_∷_};
+ghost use lib.ListN.{length};
+ghost use Rattle.refusal.specs.Paper.{map};
 ghost use Rattle.bencode_writer.specs.Put.{putOf, paper};
 ghost use Rattle.peer_wire.specs.Message.{keepalive, encode};
 ghost use Rattle.peer_wire.specs.Frames.{writeOf as frameOf};
 ghost use Rattle.peer_wire.specs.Handshake.{handshake, zeros};
 ghost use Rattle.tracker.specs.Writing.{writeOf as replyTextOf};
 ghost use Rattle.torrent_authoring.specs.Writing.{fields, sizeOf, writeOf as torrentTextOf};
+ghost use Rattle.links.specs.Writing.{writtenOf, writeOf as linkTextOf};
 ghost use Rattle.wardrail.specs.Said.{Tells};
 ghost use Rattle.wardrail.specs.Writers.{Wrote};
 use crate::row::one;
 use crate::row::word;
 use bencode_writer::Put;
+use links::Sized as LinkSized;
 use torrent_authoring::Sized;
 
 // A frame of any id and payload.
@@ -81,6 +85,25 @@ pub extern "C" fn wardrail_torrent_size(
     match torrent_authoring::size(announce, name, piece_length, pieces, length) {
         Sized::Bytes(n) => one(detail, n as u64),
         Sized::Refused(r) => word(r),
+    }
+}
+
+// The link of a torrent.
+#[no_mangle]
+pub extern "C" fn wardrail_write_link(torrent: &[u8], out: &mut [u8], detail: &mut u64) -> u64
+    ensures { λ r. ⌜ Wrote (linkTextOf (now (torrent .entry)) (now (out .entry))) (now (detail .entry)) r (now (detail .exit)) (now (out .exit)) ⌝ }
+{
+    written(links::write(torrent, out), detail)
+}
+
+// How many bytes of output that link needs.
+#[no_mangle]
+pub extern "C" fn wardrail_link_size(torrent: &[u8], detail: &mut u64) -> u64
+    ensures { λ r. ⌜ Tells (map length (writtenOf (now (torrent .entry)))) (now (detail .entry)) r (now (detail .exit)) ⌝ }
+{
+    match links::size(torrent) {
+        LinkSized::Bytes(n) => one(detail, n as u64),
+        LinkSized::Refused(r) => word(r),
     }
 }
 

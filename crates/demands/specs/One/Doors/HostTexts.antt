@@ -14,18 +14,20 @@ use Rattle.torrent_metainfo.specs.Hashes.{infoHashOf}
 use Rattle.torrent_metainfo.specs.Reading.{readOf}
 use Rattle.sheets.specs.declared.Source.{Source}
 use Rattle.sheets.specs.Reading.{findOf}
+use Rattle.links.specs.Reading.{leftOf}
 use Rattle.wardrail.specs.Hashing.{stateOf, Holds, Digested}
 use Rattle.wardrail.specs.Looks.{lookDetail}
 use Rattle.wardrail.specs.Peers.{peerDetail}
 use Rattle.wardrail.specs.Replies.{replyDetail, entryDetail}
 use Rattle.wardrail.specs.Said.{wordOf, numberIn, placeIn, textIn, Tells}
 use Rattle.wardrail.specs.Addresses.{wordFrom, textNumber, TellsOf}
+use Rattle.wardrail.specs.Magnets.{ReadTo}
 use Rattle.wardrail.specs.Torrents.{torrentDetail}
 use Rattle.wardrail.proofs.Determined as said
 use Rattle.wardrail.proofs.Keeping as kept
 use Rattle.wardrail.proofs.Said as told
 use Rattle.demands_laws.proofs.Digests as digests
-use Rattle.demands.specs.One.{Lent, now, Determined1, Keeps1, Determined2}
+use Rattle.demands.specs.One.{Lent, now, Determined1, Keeps1, Determined2, Determined4, Keeps4}
 
 -- ---- the word of a refusal gives its number back, and its place below 2^55
 
@@ -80,6 +82,17 @@ address-determined torrent sheet detail r r′ detail₁ detail₂ e f = said.te
 
 pub address-keeps : (torrent sheet : Lent (List ℕ)) → Keeps1 (address-ensures torrent sheet) (λ (r : ℕ). r ≡ 0 → ⊥)
 address-keeps torrent sheet r detail e k = kept.tells-of-keeps e k
+
+-- wardrail::magnets::wardrail_link
+abbrev pub link-ensures : (text : Lent (List ℕ)) → ℕ → Lent (List ℕ) → Lent (List ℕ) → Lent (List ℕ) → Lent (List ℕ) → Type 0
+link-ensures text r hash name address detail =
+    ReadTo (leftOf (now (text .entry)) (now (hash .entry)) (now (name .entry)) (now (address .entry))) (now (detail .entry)) r (now (detail .exit)) (now (hash .exit)) (now (name .exit)) (now (address .exit))
+
+pub link-determined : (text : Lent (List ℕ)) → Determined4 (link-ensures text)
+link-determined text hash name address detail r r′ hash₁ name₁ address₁ detail₁ hash₂ name₂ address₂ detail₂ e f = said.read-to-determined e f
+
+pub link-keeps : (text : Lent (List ℕ)) → Keeps4 (link-ensures text) (λ (r : ℕ). r ≡ 0 → ⊥)
+link-keeps text r hash name address detail e k = kept.read-to-keeps _ _ _ _ _ _ _ _ _ _ e k
 
 -- wardrail::wardrail_sha1
 abbrev pub sha1-ensures : (message : Lent (List ℕ)) → ℕ → Lent (List ℕ) → Type 0

@@ -2,12 +2,15 @@
 use mathlib.Core.List.{List, _∷_}
 use mathlib.Core.Path.{_≡_}
 use Prim.Native.Nat.{ℕ}
+use lib.ListN.{length}
+use Rattle.refusal.specs.Paper.{map}
 use Rattle.bencode_writer.specs.Put.{putOf}
 use Rattle.peer_wire.specs.Frames.{writeOf as frameOf}
 use Rattle.peer_wire.specs.Handshake.{handshake, zeros}
 use Rattle.peer_wire.specs.Message.{keepalive, encode}
 use Rattle.tracker.specs.Writing.{writeOf as replyTextOf}
 use Rattle.torrent_authoring.specs.Writing.{writeOf as torrentTextOf, fields, sizeOf}
+use Rattle.links.specs.Writing.{writtenOf, writeOf as linkTextOf}
 use Rattle.wardrail.specs.Said.{Tells}
 use Rattle.wardrail.specs.Writers.{Wrote}
 use Rattle.wardrail.proofs.Determined as said
@@ -68,6 +71,27 @@ torrent-size-determined announce name «piece_length» pieces length detail r r�
 
 pub torrent-size-keeps : (announce name : Lent (List ℕ)) («piece_length» : ℕ) (pieces : Lent (List ℕ)) (length : ℕ) → Keeps1 (torrent-size-ensures announce name «piece_length» pieces length) (λ (r : ℕ). r ≡ 0 → ⊥)
 torrent-size-keeps announce name «piece_length» pieces length r detail e k = kept.tells-keeps e k
+
+-- wardrail::writers::wardrail_write_link
+abbrev pub write-link-ensures : (torrent : Lent (List ℕ)) → ℕ → Lent (List ℕ) → Lent ℕ → Type 0
+write-link-ensures torrent r out detail =
+    Wrote (linkTextOf (now (torrent .entry)) (now (out .entry))) (now (detail .entry)) r (now (detail .exit)) (now (out .exit))
+
+pub write-link-determined : (torrent : Lent (List ℕ)) → Determined2 (write-link-ensures torrent)
+write-link-determined torrent out detail r r′ out₁ out₂ detail₁ detail₂ e f = said.wrote-determined e f
+
+pub write-link-keeps : (torrent : Lent (List ℕ)) → Keeps2 (write-link-ensures torrent) (λ (r : ℕ). r ≡ 0 → ⊥)
+write-link-keeps torrent r out detail e k = kept.write-link-keeps _ _ _ _ _ _ e k
+
+-- wardrail::writers::wardrail_link_size
+abbrev pub link-size-ensures : (torrent : Lent (List ℕ)) → ℕ → Lent ℕ → Type 0
+link-size-ensures torrent r detail = Tells (map length (writtenOf (now (torrent .entry)))) (now (detail .entry)) r (now (detail .exit))
+
+pub link-size-determined : (torrent : Lent (List ℕ)) → Determined1 (link-size-ensures torrent)
+link-size-determined torrent detail r r′ detail₁ detail₂ e f = said.tells-determined e f
+
+pub link-size-keeps : (torrent : Lent (List ℕ)) → Keeps1 (link-size-ensures torrent) (λ (r : ℕ). r ≡ 0 → ⊥)
+link-size-keeps torrent r detail e k = kept.tells-keeps e k
 
 -- wardrail::writers::wardrail_write_reply
 abbrev pub write-reply-ensures : (interval : ℕ) (peers : Lent (List ℕ)) → ℕ → Lent (List ℕ) → Lent ℕ → Type 0
