@@ -694,6 +694,67 @@ static void write_frame_call(struct line *l) {
     written(l, r, detail, out);
 }
 
+/* ---- magnet links */
+
+static bool is_given(struct wardrail_given g) { return g.given == 1 || (g.given == 0 && g.len == 0); }
+
+/* What a link gives of a thing, after a space. */
+static void given(struct wardrail_given g, struct bytes out) {
+    putchar(' ');
+    if (g.given) hex(out.data, g.len);
+    else printf("none");
+}
+
+static void link_call(struct line *l) {
+    struct bytes text = l->bytes[1], name = room_of(l->word[2]), address = room_of(l->word[3]);
+    struct wardrail_link link;
+    uint8_t hash[20];
+    LEND(link);
+    LEND(hash);
+    uint64_t r = wardrail_link(LENT(text), hash, LENT(name), LENT(address), &link);
+    KEPT(r, hash);
+    agree(untouched(name.data, r ? 0 : link.name.len, name.count) && untouched(address.data, r ? 0 : link.address.len, address.count), "a link's outputs");
+    if (r) REFUSED(r, link);
+    else {
+        agree(is_given(link.name) && is_given(link.address), "what a link gives");
+        hex(hash, 20);
+        given(link.name, name);
+        given(link.address, address);
+    }
+    free(name.data);
+    free(address.data);
+}
+
+/* A link of ours reads back, into outputs of just that length, as the torrent's hash, name and announce. */
+static void agree_link(struct bytes torrent, const uint8_t *text, size_t count) {
+    struct wardrail_torrent t;
+    struct wardrail_link link;
+    uint8_t hash[20], again[20];
+    agree(wardrail_torrent(LENT(torrent), &t) == 0 && wardrail_info_hash(LENT(torrent), hash) == 0, "a link's torrent");
+    struct bytes name = {lent_out(t.name.len, 1), t.name.len}, address = {lent_out(t.announce.len, 1), t.announce.len};
+    agree(wardrail_link(text, count, again, LENT(name), LENT(address), &link) == 0 && !memcmp(hash, again, 20), "a link read back");
+    agree(link.name.given == 1 && link.name.len == t.name.len && !memcmp(name.data, torrent.data + t.name.from, t.name.len), "a link read back");
+    agree(link.address.given == 1 && link.address.len == t.announce.len && !memcmp(address.data, torrent.data + t.announce.from, t.announce.len), "a link read back");
+    free(name.data);
+    free(address.data);
+}
+
+static void write_link_call(struct line *l) {
+    struct bytes torrent = l->bytes[1], out = room_of(l->word[2]);
+    struct wardrail_torrent t;
+    uint64_t detail, size;
+    LEND(detail);
+    LEND(size);
+    uint64_t r = wardrail_write_link(LENT(torrent), LENT(out), &detail);
+    uint64_t s = wardrail_link_size(LENT(torrent), &size), of_torrent = wardrail_torrent(LENT(torrent), &t);
+    KEPT(r, detail);
+    KEPT(s, size);
+    agree(r == WARDRAIL_ROOM ? s == 0 && size > out.count : s == r && size == detail, "link_size");
+    agree(of_torrent ? r == of_torrent : !r || r == WARDRAIL_LONG || r == WARDRAIL_ROOM, "a link's torrent");
+    if (!r) agree_link(torrent, out.data, detail);
+    written(l, r, detail, out);
+}
+
 /* ---- the yard */
 
 static void end_yard(struct yard *y) {
@@ -846,6 +907,8 @@ static const struct call {
     {"write-reply", 4, BYTES(2), false, write_reply_call},
     {"write-handshake", 4, BYTES(1) | BYTES(2), false, write_handshake_call},
     {"write-frame", 4, BYTES(2), false, write_frame_call},
+    {"link", 4, BYTES(1), false, link_call},
+    {"write-link", 3, BYTES(1), false, write_link_call},
     {"start", 5, 0, false, start_call},
     {"sit", 1, 0, true, sit_call},
     {"leave", 2, 0, true, leave_call},

@@ -64,6 +64,7 @@ enum wardrail_refusal {
     WARDRAIL_PIECES = 12,   /* wrong length of pieces */
     WARDRAIL_NAME = 13,     /* a bad name or path */
     WARDRAIL_PEER = 15,     /* bad length of a peer entry, or of a key of a sheet */
+    WARDRAIL_LINK = 19,     /* a magnet link that breaks its form, names a thing twice, stops short or has no hash */
     WARDRAIL_FRAME = 20,    /* a frame length over 16,393 */
     WARDRAIL_PAYLOAD = 21,  /* a payload length wrong for its id */
     WARDRAIL_PROTOCOL = 22, /* a handshake's first 20 bytes are wrong */
@@ -252,6 +253,25 @@ uint64_t wardrail_address(const uint8_t *torrent, size_t torrent_count, const ui
 /* Which text a refusal of wardrail_address is of, an enum wardrail_text: wardrail_place counts from the first byte of that one. */
 static inline uint64_t wardrail_refused_text(uint64_t answer) { return answer >> 63 ? WARDRAIL_OF_SHEET : WARDRAIL_OF_TORRENT; }
 
+/* ---- Magnet links: an info hash, and a torrent's name (dn) and its tracker's address (tr) where they are given */
+
+/* What a link says of a thing: whether it is there, and how many bytes it has. */
+struct wardrail_given {
+    uint64_t given; /* 1, or 0 and then len is 0 */
+    uint64_t len;
+};
+WARDRAIL_ROW(wardrail_given, 2, len);
+
+struct wardrail_link {
+    struct wardrail_given name, address;
+};
+WARDRAIL_ROW(wardrail_link, 4, address);
+
+/* Reads a link: writes the info hash, and decodes dn into `name` and tr into `address`, each from its start on; the rest of both
+ * stays: 8, 19, 37. As many bytes as the text has are always room enough. */
+uint64_t wardrail_link(const uint8_t *text, size_t text_count, uint8_t hash[20], uint8_t *name, size_t name_count,
+                       uint8_t *address, size_t address_count, struct wardrail_link *link);
+
 /* ---- Where a block falls */
 
 /* A part of a file. */
@@ -334,6 +354,12 @@ uint64_t wardrail_write_torrent(const uint8_t *announce, size_t announce_count, 
 uint64_t wardrail_torrent_size(const uint8_t *announce, size_t announce_count, const uint8_t *name, size_t name_count,
                                uint64_t piece_length, const uint8_t *pieces, size_t pieces_count, uint64_t length,
                                uint64_t *detail);
+
+/* A torrent's link, with its hash, name and announce: the torrent's refusals, then 8, 37. */
+uint64_t wardrail_write_link(const uint8_t *torrent, size_t torrent_count, uint8_t *out, size_t out_count, uint64_t *detail);
+
+/* How many bytes that link has: the torrent's refusals, then 8. */
+uint64_t wardrail_link_size(const uint8_t *torrent, size_t torrent_count, uint64_t *detail);
 
 /* A compact reply: 11, 15, 8, 37. `peers` has six bytes for each entry. */
 uint64_t wardrail_write_reply(uint64_t interval, const uint8_t *peers, size_t peers_count, uint8_t *out, size_t out_count,
