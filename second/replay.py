@@ -10,6 +10,7 @@ from hashlib import sha1
 
 import bencode
 import blocks
+import links
 import places
 import sheets
 import torrent
@@ -98,6 +99,12 @@ def answer_address(text, sheet):
     return f"{source} {to_hex(address)}"
 
 
+def answer_link(text, name_room, address_room):
+    link = links.read(unhex(text), int(name_room), int(address_room))
+    name, address = ("none" if given is None else to_hex(given) for given in (link.name, link.address))
+    return f"{to_hex(link.info_hash)} {name} {address}"
+
+
 def answer_block(piece_length, lengths, piece, offset, length, room):
     block = int(piece), int(offset), int(length)
     parts = blocks.parts_of_block(int(piece_length), numbers(lengths), *block, int(room.partition("+")[0]))
@@ -178,6 +185,10 @@ def answer_handshake_cuts(data, info_hash):
 def answer_write_torrent(announce, name, piece_length, length, pieces, room):
     lengths = int(piece_length), int(length)
     return to_hex(torrent.write(unhex(announce), unhex(name), *lengths, unhex(pieces), int(room)))
+
+
+def answer_write_link(text, room):
+    return to_hex(links.write(unhex(text), int(room)))
 
 
 def answer_write_reply(interval, peers, room):
@@ -273,6 +284,7 @@ TEXT_CALLS = {
     "peer": answer_peer,
     "entries": answer_entries,
     "address": answer_address,
+    "link": answer_link,
     "block": answer_block,
     "byte": answer_byte,
     "size": answer_size,
@@ -281,6 +293,7 @@ TEXT_CALLS = {
     "handshake": answer_handshake,
     "handshake-cuts": answer_handshake_cuts,
     "write-torrent": answer_write_torrent,
+    "write-link": answer_write_link,
     "write-reply": answer_write_reply,
     "write-handshake": answer_write_handshake,
     "write-frame": answer_write_frame,

@@ -1,6 +1,6 @@
 """Prints a random script of docs/REPLAY.md, the same one for the same seed.
 
-    python3 tests/random_scripts.py --seed N --calls M [--kind texts|torrents|replies|sheets|blocks|wire|yard|all]
+    python3 tests/random_scripts.py --seed N --calls M [--kind texts|torrents|replies|sheets|links|blocks|wire|yard|all]
 
 Texts, frames and calls are made so that they would be taken, and then some are altered, damaged, cut or joined, so
 that most faults are near misses. Each kind is an endless generator of calls.
@@ -9,6 +9,7 @@ that most faults are near misses. Each kind is an endless generator of calls.
 import argparse
 from hashlib import sha1
 from random import Random
+from urllib.parse import quote_from_bytes
 
 PIECE_LENGTHS = [2**power for power in range(14, 25)]
 LARGEST_FILE = 274_877_906_944
@@ -333,6 +334,84 @@ def sheets(rng):
         yield f"address {to_hex(text)} {to_hex(random_sheet(rng, sha1(encode(top[b'info'])).digest()))}"
 
 
+# Links.
+
+
+def quoted(data):
+    return quote_from_bytes(data, safe="").encode()
+
+
+def random_value_of_link(rng, data):
+    """Those bytes in one of the ways that a value may have them."""
+    ways = [quoted(data), b"".join(b"%%%02x" % byte for byte in data), b"".join(rng.choice([b"%%%02X", b"%%%02x"]) % byte for byte in data)]
+    if all(33 <= byte <= 126 and byte not in b"&#%" for byte in data):
+        ways.append(data)
+    return rng.choice(ways)
+
+
+def random_hash(rng):
+    digits = rng.randbytes(20).hex()
+    return rng.choice([digits, digits.upper(), "".join(rng.choice([digit, digit.upper()]) for digit in digits)]).encode()
+
+
+def random_pairs(rng, name, address):
+    """Names with their values: exactly one hash, name and address mostly once, and others."""
+    pairs = [(b"xt", b"urn:btih:" + random_hash(rng))]
+    for known, data in ((b"dn", name), (b"tr", address)):
+        pairs += [(known, random_value_of_link(rng, data))] * rng.choice([0, 1, 1, 1])
+    for _ in range(rng.choice([0, 0, 1, 2, 5])):
+        other = rng.choice([b"DN", b"xt.1", b"tr.2", b"xs", b"x.pe", b"..", b"d", b"dnx", b"0"])
+        pairs.append((other, random_value_of_link(rng, random_bytes(rng, 5))))
+    return rng.sample(pairs, len(pairs))
+
+
+def with_fault_in_link(rng, pairs):
+    """The pairs with one of them twice, left out, renamed or changed in its value."""
+    at = rng.randrange(len(pairs))
+    name, value = pairs[at]
+    way = rng.randrange(5)
+    if way == 0:
+        again = rng.randint(0, len(pairs))
+        return pairs[:again] + [(name, rng.choice([value, b"", b"a", b"%"]))] + pairs[again:]
+    if way == 1:
+        return pairs[:at] + pairs[at + 1 :]
+    if way == 2:
+        name = rng.choice([b"", b"xt", b"dn", b"tr", name.upper(), name + b".1", name + b"%", name[:-1], b"-" + name])
+    else:
+        spot = rng.randint(0, len(value))
+        value = value[:spot] + rng.choice([b"%", b"%4", b"%g", b"%4g", b"#", b" ", b"&", b"=", b"0", b"\x7f", b"\x80", b""]) + value[spot + rng.randint(0, 1) :]
+    return pairs[:at] + [(name, value)] + pairs[at + 1 :]
+
+
+def random_room(rng, size):
+    return rng.choice([200, 200, size, size, size + 1, max(0, size - 1), 0, rng.randint(0, 9)])
+
+
+def link_call(rng):
+    name, address = rng.choice([random_name(rng), random_bytes(rng, 30)]), random_address(rng)
+    pairs = random_pairs(rng, name, address)
+    for _ in range(rng.choice([0, 0, 0, 1, 1, 2])):
+        pairs = with_fault_in_link(rng, pairs) if pairs else []
+    text = b"magnet:?" + b"&".join(b"%s=%s" % pair for pair in pairs)
+    if rng.random() < 0.25:
+        text = damage(rng, text)
+    return f"link {to_hex(text)} {random_room(rng, len(name))} {random_room(rng, len(address))}"
+
+
+def write_link_call(rng):
+    top = random_torrent(rng) | {b"announce": random_address(rng)}
+    top[b"info"][b"name"] = rng.choice([random_name(rng), random_bytes(rng, 30) or b"n"])
+    size = len(b"magnet:?xt=urn:btih:&dn=&tr=") + 40 + len(quoted(top[b"info"][b"name"]) + quoted(top[b"announce"]))
+    text = encode(top) if rng.random() < 0.8 else text_of(rng, top)
+    room = rng.choice([1000, size, size, size + 1, size - 1, rng.randint(0, size)])
+    return f"write-link {to_hex(text)} {room}"
+
+
+def links(rng):
+    while True:
+        yield rng.choice([link_call(rng), link_call(rng), link_call(rng), rng.choice(["", "sum "]) + write_link_call(rng)])
+
+
 # Blocks.
 
 
@@ -618,14 +697,16 @@ def yard(rng):
     return YardCalls(rng).calls()
 
 
-KINDS = {"texts": texts, "torrents": torrents, "replies": replies, "sheets": sheets, "blocks": blocks, "wire": wire, "yard": yard}
+KINDS = {
+    "texts": texts, "torrents": torrents, "replies": replies, "sheets": sheets, "links": links, "blocks": blocks, "wire": wire, "yard": yard,
+}
 
 
 def everything(rng):
     """All kinds in one script, the yard's calls half of it."""
     streams = [make(rng) for make in KINDS.values()]
     while True:
-        yield next(rng.choices(streams, [1, 1, 1, 1, 1, 1, 6])[0])
+        yield next(rng.choices(streams, [1, 1, 1, 1, 1, 1, 1, 7])[0])
 
 
 def script(seed, calls, kind="all"):

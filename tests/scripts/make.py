@@ -12,6 +12,7 @@ from pathlib import Path
 import bencode_texts
 import block_calls
 import case_table
+import link_texts
 import reply_texts
 import sample_texts
 import sheet_texts
@@ -21,7 +22,7 @@ import written_texts
 import yard_calls
 
 MODULES = [
-    bencode_texts, torrent_texts, reply_texts, sheet_texts, block_calls, wire_calls, written_texts, yard_calls, sample_texts,
+    bencode_texts, torrent_texts, reply_texts, sheet_texts, link_texts, block_calls, wire_calls, written_texts, yard_calls, sample_texts,
 ]
 
 
