@@ -1,6 +1,7 @@
 /* Yard calls on damaged tables, on tables of wrong sizes and on tables of any bytes, each answered as document 01 says; a refusal leaves
  * every byte as it was. And the looks at a place, at every place of a text; and the address for a torrent by a sheet, each of the two cut,
- * changed at every place and too long. Prints how many were tried, or each that went wrong. */
+ * changed at every place and too long. And links of any bytes into outputs of any length, read and written. Prints how many were tried, or
+ * each that went wrong. */
 #include "wardrail_yard.h"
 
 #include <stdio.h>
@@ -446,14 +447,236 @@ static void addresses(void) {
     }
 }
 
+/* ---- links: document 02's ticket 4 once more */
+
+enum { MOST = 512, FILL = 0xa5 };
+
+/* What a link says: where its first fault is, or what it gives. */
+struct said {
+    bool bad;
+    uint64_t place;
+    uint8_t hash[20], name[MOST], address[MOST];
+    struct wardrail_link link;
+};
+
+static int digit(uint8_t b) { return b >= '0' && b <= '9' ? b - '0' : b >= 'a' && b <= 'f' ? b - 'a' + 10 : b >= 'A' && b <= 'F' ? b - 'A' + 10 : -1; }
+static bool in_name(uint8_t b) { return (b >= 'a' && b <= 'z') || (b >= 'A' && b <= 'Z') || (b >= '0' && b <= '9') || b == '.'; }
+static bool in_value(uint8_t b) { return b >= 33 && b <= 126 && b != '&' && b != '#'; }
+
+/* Passes over these very bytes, or stops at the first that is another. */
+static bool passes(const char *fixed, const uint8_t *text, size_t count, size_t *at) {
+    for (; *fixed; fixed++, ++*at)
+        if (*at == count || text[*at] != (uint8_t)*fixed) return false;
+    return true;
+}
+
+static bool passes_hash(const uint8_t *text, size_t count, size_t *at, uint8_t hash[20]) {
+    if (!passes("urn:btih:", text, count, at)) return false;
+    for (int k = 0; k < 40; k++, ++*at) {
+        if (*at == count || digit(text[*at]) < 0) return false;
+        hash[k / 2] = (uint8_t)(hash[k / 2] << 4 | digit(text[*at]));
+    }
+    return *at == count || text[*at] == '&';
+}
+
+static bool passes_value(const uint8_t *text, size_t count, size_t *at, uint8_t *out, uint64_t *len) {
+    for (*len = 0; *at < count && text[*at] != '&'; ++*at) {
+        if (!in_value(text[*at])) return false;
+        out[*len] = text[*at];
+        if (text[*at] == '%') {
+            int two[2];
+            for (int k = 0; k < 2; k++)
+                if (++*at == count || (two[k] = digit(text[*at])) < 0) return false;
+            out[*len] = (uint8_t)(two[0] * 16 + two[1]);
+        }
+        ++*len;
+    }
+    return true;
+}
+
+/* One pair. A fault is where it stopped. */
+static bool passes_pair(const uint8_t *text, size_t count, size_t *at, struct said *s, bool *hashed) {
+    static uint8_t skipped[MOST];
+    uint64_t len;
+    size_t first = *at;
+    while (*at < count && in_name(text[*at])) ++*at;
+    if (*at == first || *at == count || text[*at] != '=') return false;
+    bool two = ++*at == first + 3, xt = two && !memcmp(text + first, "xt", 2), dn = two && !memcmp(text + first, "dn", 2), tr = two && !memcmp(text + first, "tr", 2);
+    if ((xt && *hashed) || (dn && s->link.name.given) || (tr && s->link.address.given)) {
+        *at = first;
+        return false;
+    }
+    if (xt) return *hashed = true, passes_hash(text, count, at, s->hash);
+    if (dn) return s->link.name.given = 1, passes_value(text, count, at, s->name, &s->link.name.len);
+    if (tr) return s->link.address.given = 1, passes_value(text, count, at, s->address, &s->link.address.len);
+    return passes_value(text, count, at, skipped, &len);
+}
+
+static struct said said_by(const uint8_t *text, size_t count) {
+    struct said s = {.bad = false};
+    size_t at = 0;
+    bool hashed = false, more_pairs = true;
+    s.bad = !passes("magnet:?", text, count, &at);
+    while (!s.bad && more_pairs) {
+        s.bad = !passes_pair(text, count, &at, &s, &hashed);
+        more_pairs = !s.bad && at < count;
+        at += more_pairs;
+    }
+    if (!s.bad) s.bad = !hashed;
+    s.place = at;
+    return s;
+}
+
+/* A link into outputs of these lengths, by the rules: every byte of what is lent is as they say. */
+static void link_tried(const uint8_t *text, size_t count, size_t name_count, size_t address_count) {
+    struct said want = said_by(text, count), lent, got;
+    memset(&lent, FILL, sizeof lent);
+    memset(&got, FILL, sizeof got);
+    bool fits = want.link.name.len <= name_count && want.link.address.len <= address_count;
+    uint64_t wanted = want.bad ? WARDRAIL_LINK | want.place << 8 : fits ? 0 : WARDRAIL_ROOM;
+    uint64_t r = wardrail_link(text, count, got.hash, got.name, name_count, got.address, address_count, &got.link);
+    if (!wanted) {
+        memcpy(lent.hash, want.hash, sizeof lent.hash);
+        memcpy(lent.name, want.name, want.link.name.len);
+        memcpy(lent.address, want.address, want.link.address.len);
+        lent.link = want.link;
+    }
+    says("a link", r == wanted && !memcmp(&got, &lent, sizeof lent));
+}
+
+static size_t any_room(size_t count) { return any() % 4 ? any() % (count + 2) : any() % 4 ? 0 : MOST; }
+
+/* With rooms of any length, and with much room, so that a text that is in form is often taken. */
+static void link_any(const uint8_t *text, size_t count) {
+    link_tried(text, count, any_room(count), any_room(count));
+    link_tried(text, count, MOST, MOST);
+}
+
+/* The bytes with one of them changed, taken out or put in at a place. */
+static size_t damaged(uint8_t *text, size_t count, size_t at, uint8_t byte) {
+    switch (any() % 3) {
+    case 0:
+        if (at < count) text[at] = byte;
+        return count;
+    case 1:
+        if (at == count) return count;
+        memmove(text + at, text + at + 1, count - at - 1);
+        return count - 1;
+    default:
+        memmove(text + at + 1, text + at, count - at);
+        text[at] = byte;
+        return count + 1;
+    }
+}
+
+static void links_read(void) {
+    static const char link[] = "magnet:?xt=urn:btih:0123456789abcdefABCDEF99887766554433abcd&dn=week%207&tr=http%3A%2F%2Fyard%2fann&x.pe=1.2.3.4:5&dn.1=";
+    static const char bytes[] = "%&=#?.:/xtdnrXTDN0789afAFgG-_~ \t\x7f\x80\xff\x01";
+    static const char *const parts[] = {
+        "magnet:?", "xt=urn:btih:", "0123456789abcdefABCDEF99887766554433abcd", "&", "=", "dn=", "tr=", "dn", "xt=", "DN=", "x.pe=", "%41", "%4", "%", "a", "..", "#",
+    };
+    enum { COUNT = sizeof link - 1 };
+    uint8_t text[MOST];
+    for (size_t cut = 0; cut <= COUNT; cut++) link_any((const uint8_t *)link, cut);
+    for (size_t at = 0; at < COUNT; at++)
+        for (size_t k = 0; k < sizeof bytes; k++) {
+            memcpy(text, link, COUNT);
+            text[at] = (uint8_t)bytes[k];
+            link_any(text, COUNT);
+        }
+    for (int turn = 0; turn < 5000; turn++) {
+        size_t count = COUNT;
+        memcpy(text, link, COUNT);
+        for (uint32_t k = any() % 4; k; k--) count = damaged(text, count, any() % (count + 1), any() % 4 ? (uint8_t)bytes[any() % sizeof bytes] : (uint8_t)any());
+        link_any(text, count);
+    }
+    /* mostly one hash, so that the rest is looked at */
+    for (int turn = 0; turn < 10000; turn++) {
+        size_t count = any() % 8 ? 8 + 12 + 40 + 1 : 0;
+        memcpy(text, link, count);
+        if (count) text[count - 1] = '&';
+        for (uint32_t k = any() % 8; k; k--) {
+            const char *part = parts[any() % (sizeof parts / sizeof *parts)];
+            memcpy(text + count, part, strlen(part));
+            count += strlen(part);
+        }
+        link_any(text, count);
+    }
+}
+
+/* Writes the bytes as a link has them, and answers the place past them. */
+static size_t escaped(uint8_t *out, size_t at, const uint8_t *bytes, size_t count) {
+    for (size_t k = 0; k < count; k++) {
+        uint8_t b = bytes[k];
+        if (in_name(b) || b == '-' || b == '_' || b == '~') out[at++] = b;
+        else at += (size_t)sprintf((char *)out + at, "%%%02X", b);
+    }
+    return at;
+}
+
+/* The torrent's link, by the rules; its refusal if it has one. */
+static void link_written(const uint8_t *text, size_t count, size_t out_count) {
+    struct wardrail_torrent t;
+    uint8_t hash[20], want[MOST], got[MOST], lent[MOST];
+    size_t len = 0;
+    uint64_t wanted = wardrail_torrent(text, count, &t), detail = 7, size = 7;
+    memset(got, FILL, sizeof got);
+    memset(lent, FILL, sizeof lent);
+    if (!wanted) {
+        wardrail_info_hash(text, count, hash);
+        len = (size_t)sprintf((char *)want, "magnet:?xt=urn:btih:");
+        for (int k = 0; k < 20; k++) len += (size_t)sprintf((char *)want + len, "%02x", hash[k]);
+        len = escaped(want, len + (size_t)sprintf((char *)want + len, "&dn="), text + t.name.from, t.name.len);
+        len = escaped(want, len + (size_t)sprintf((char *)want + len, "&tr="), text + t.announce.from, t.announce.len);
+    }
+    uint64_t s = wardrail_link_size(text, count, &size);
+    says("a link's size", s == wanted && size == (wanted ? 7 : len));
+    if (!wanted && out_count < len) wanted = WARDRAIL_ROOM;
+    if (!wanted) memcpy(lent, want, len);
+    uint64_t r = wardrail_write_link(text, count, got, out_count, &detail);
+    says("a link written", r == wanted && detail == (wanted ? 7 : len) && !memcmp(got, lent, sizeof lent));
+}
+
+static void links_written(void) {
+    static const char bytes[] = "0129:abeild-x";
+    enum { NAME_AT = 40 };
+    uint8_t changed[sizeof torrent];
+    for (size_t cut = 0; cut <= TORRENT; cut++) link_written(torrent, cut, any_room(90));
+    for (size_t room = 0; room < MOST; room++) link_written(torrent, TORRENT, room);
+    for (size_t k = 0; k < sizeof bytes - 1; k++)
+        for (size_t at = 0; at < TORRENT; at++) {
+            memcpy(changed, torrent, sizeof torrent);
+            changed[at] = (uint8_t)bytes[k];
+            link_written(changed, TORRENT, any_room(90));
+        }
+    for (int byte = 0; byte < 256; byte++) {
+        memcpy(changed, torrent, sizeof torrent);
+        changed[ANNOUNCE_AT] = (uint8_t)byte;
+        link_written(changed, TORRENT, MOST);
+        changed[NAME_AT] = (uint8_t)byte;
+        link_written(changed, TORRENT, MOST);
+    }
+}
+
+static void links(void) {
+    struct wardrail_link link = {{7, 7}, {7, 7}};
+    uint8_t hash[20] = {7}, name[1] = {7}, address[1] = {7}, out[1] = {7};
+    uint64_t detail = 7;
+    bool long_ones = wardrail_link(more, sizeof more, hash, name, 1, address, 1, &link) == 8 && wardrail_write_link(more, sizeof more, out, 1, &detail) == 8;
+    says("a text too long", long_ones && hash[0] == 7 && name[0] == 7 && address[0] == 7 && out[0] == 7 && link.name.given == 7 && detail == 7);
+    links_read();
+    links_written();
+}
+
 int main(void) {
     looks();
     addresses();
+    links();
     any_bytes();
     tops();
     zeros();
     spares();
     sizes();
-    printf("%d calls on damaged tables, at any place and by two texts, %d wrong\n", tried, wrong);
+    printf("%d calls on damaged tables, at any place, by two texts and of links, %d wrong\n", tried, wrong);
     return wrong != 0;
 }
