@@ -1,13 +1,16 @@
-// Times the readers beside libtorrent's on one reply, one torrent and one sheet, and wardrail_check by the byte on the texts that cost it most. bench/run builds and
-// runs it.
+// Times the readers beside libtorrent's on one reply, one torrent, one sheet and two links, a link written beside its own, and wardrail_check by the byte on the texts
+// that cost it most. bench/run builds and runs it.
 #include "../host/wardrail.h"
 
+#include <libtorrent/add_torrent_params.hpp>
 #include <libtorrent/bdecode.hpp>
+#include <libtorrent/magnet_uri.hpp>
 #include <libtorrent/torrent_info.hpp>
 
 #include <malloc.h>
 
 #include <algorithm>
+#include <cctype>
 #include <chrono>
 #include <cstdint>
 #include <cstdio>
@@ -269,6 +272,85 @@ void sheets() {
 
 const size_t most_bytes = 1048576, most_values = 16384;
 
+// The bytes as a link has them.
+string escaped(const string &s) {
+    string out;
+    char three[4];
+    for (const char c : s) {
+        std::snprintf(three, sizeof three, "%%%02X", unsigned(uint8_t(c)));
+        out += std::isalnum(uint8_t(c)) || std::strchr("-._~", c) ? string(1, c) : string(three);
+    }
+    return out;
+}
+
+// A number that depends on a link's hash, name and address.
+uint64_t told(const void *hash, const char *name, size_t name_length, const char *address, size_t address_length) {
+    return (first_of(hash) + name_length * 31 + uint8_t(name[name_length - 1])) * 31 + address_length * 31 + uint8_t(address[address_length - 1]);
+}
+
+uint64_t link_by_wardrail(const string &text, string &name, string &address) {
+    struct wardrail_link link;
+    uint8_t hash[20];
+    uint8_t *const out = reinterpret_cast<uint8_t *>(&name[0]), *const other = reinterpret_cast<uint8_t *>(&address[0]);
+    if (wardrail_link(start_of(text), text.size(), hash, out, name.size(), other, address.size(), &link) != 0 || !link.name.len || !link.address.len) return 0;
+    return told(hash, name.data(), link.name.len, address.data(), link.address.len);
+}
+
+uint64_t link_by_libtorrent(const string &text) {
+    lt::error_code fault;
+    const lt::add_torrent_params link = lt::parse_magnet_uri(text, fault);
+    if (fault || link.name.empty() || link.trackers.size() != 1) return 0;
+    return told(link.info_hashes.v1.data(), link.name.data(), link.name.size(), link.trackers[0].data(), link.trackers[0].size());
+}
+
+// The same read or written so many times, since one time is too short for the clock.
+template <class Call> uint64_t repeated(int times, Call call) {
+    uint64_t sum = 0;
+    for (int k = 0; k < times; k++) sum += call();
+    return sum;
+}
+
+void link_read(const string &name, const string &address, int times, int rounds) {
+    const string text = "magnet:?xt=urn:btih:0123456789abcdef0123456789abcdef01234567&dn=" + escaped(name) + "&tr=" + escaped(address);
+    string out(name.size(), ' '), other(address.size(), ' ');
+    expect(text.size() <= most_bytes && link_by_wardrail(text, out, other) != 0 && out == name && other == address, "the link is not read");
+    expect(link_by_wardrail(text, out, other) == link_by_libtorrent(text), "the links are not the same");
+    std::printf("A link of %zu bytes, read %d times.\n\n", text.size(), times);
+    race({{"wardrail_link", [&] { return repeated(times, [&] { return link_by_wardrail(text, out, other); }); }},
+          {"parse_magnet_uri", [&] { return repeated(times, [&] { return link_by_libtorrent(text); }); }}}, rounds);
+}
+
+uint64_t write_by_wardrail(const string &torrent, string &out) {
+    uint64_t size;
+    return wardrail_write_link(start_of(torrent), torrent.size(), reinterpret_cast<uint8_t *>(&out[0]), out.size(), &size) == 0 ? size : 0;
+}
+
+uint64_t write_by_libtorrent(const string &torrent, string &out) {
+    lt::error_code fault;
+    const lt::torrent_info t(torrent, fault, lt::from_span);
+    if (!fault) out = lt::make_magnet_uri(t);
+    return fault ? 0 : out.size();
+}
+
+// libtorrent escapes with small digits, and not all that we do: the two links are the same by what they say.
+void link_written(const string &name, const string &address) {
+    const string torrent = "d8:announce" + written(address) + "4:infod6:lengthi16384e4:name" + written(name) + "12:piece lengthi16384e6:pieces" + written(bytes(20, 'A')) + "ee";
+    string ours(1000, ' '), theirs;
+    const uint64_t size = write_by_wardrail(torrent, ours);
+    expect(size != 0 && write_by_libtorrent(torrent, theirs) != 0, "the link is not written");
+    expect(link_by_libtorrent(ours.substr(0, size)) != 0 && link_by_libtorrent(ours.substr(0, size)) == link_by_libtorrent(theirs), "the links written are not the same");
+    std::printf("A written link of %u bytes, 1000 times.\n\n", unsigned(size));
+    race({{"wardrail_write_link", [&] { return repeated(1000, [&] { return write_by_wardrail(torrent, ours); }); }},
+          {"torrent_info, make_magnet_uri", [&] { return repeated(1000, [&] { return write_by_libtorrent(torrent, theirs); }); }}}, 200);
+}
+
+void links() {
+    const string name = "Route 7, Nord (Montag).map", address = "http://tracker.depot-7.yard:6969/announce?key=0123456789abcdef";
+    link_read(name, address, 1000, 400);
+    link_read(bytes(100000, 'n') + bytes(100000, ' '), "http://yard/" + bytes(300000, 'u'), 1, 1000);
+    link_written(name, address);
+}
+
 // A list of as many of one item as fit into `size` bytes, or into the values that a text may have, of which each item has `values`.
 string listed(size_t size, const string &item, size_t values = 1) {
     const size_t count = std::min((size - 2) / item.size(), (most_values - 1) / values);
@@ -382,5 +464,6 @@ int main() {
     replies();
     torrents();
     sheets();
+    links();
     by_the_byte();
 }

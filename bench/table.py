@@ -39,8 +39,10 @@ def shown(number):
 
 
 def readers(said):
-    """The least times of bench.cpp's four races, of which the first two have the same text."""
-    reply, walked, torrent, sheet = re.split(r"^The same, every peer|^A torrent of |^A sheet of ", said, flags=re.M)
+    """The least times of bench.cpp's seven races, of which the first two have the same text."""
+    reply, walked, torrent, sheet, link, long_link, written = re.split(
+        r"^The same, every peer|^A torrent of |^A sheet of |^A link of |^A written link of ", said, flags=re.M
+    )
 
     def row(what, text, part, name, peer, goal):
         return [what, int(found(r"(\d+) bytes", text)), "bytes", timed(part, name), peer, timed(part, peer), goal]
@@ -51,6 +53,9 @@ def readers(said):
         row("a torrent of 1,024 files read", torrent, torrent, "wardrail_torrent", "torrent_info, with its hash", 10),
         row("its info hash", torrent, torrent, "wardrail_info_hash", "torrent_info, with its hash", 1.7),
         row("an address in a sheet of 8,191 rows", sheet, sheet, "wardrail_address", "bdecode, with the look-up", 2),
+        row("a link read 1,000 times", link, link, "wardrail_link", "parse_magnet_uri", 2),
+        row("a long link read", long_link, long_link, "wardrail_link", "parse_magnet_uri", 2),
+        row("a link written 1,000 times", written, written, "wardrail_write_link", "torrent_info, make_magnet_uri", 2),
     ]
 
 
