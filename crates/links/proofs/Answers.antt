@@ -4,8 +4,7 @@ use mathlib.Core.Bool.{Bool, true, false, cond}
 use mathlib.Core.List.{List}
 use Prim.Native.Nat.{ℕ, _+_, _<_, _≤_}
 use native.Mathlib.Omega.{arith}
-use borrow.Author.Tests.{ltb-true, ltb-false, lt-ltb, le-ltb, le-leb, lt-leb}
-use lib.Dec.{ltb}
+use borrow.Author.Tests.{ne-eqb, lt-ltb, le-ltb, le-leb, lt-leb}
 use lib.ListN.{length}
 use lib.Seq.{length-sets}
 use Rattle.refusal.specs.Limits.{mostText}
@@ -26,7 +25,7 @@ use Rattle.torrent_metainfo.specs.Reading.{readOf as torrentIn}
 use Rattle.links.specs.Link.{Said, absent, said, Meaning}
 use Rattle.links.specs.Reading.{fed, finish, begun, readOf, sizeOf, storedIn, givenOf, sizesOf, Left, left, roomFor, decodedTo, leftOf, paper}
 use Rattle.links.specs.Writing.{escaped, textOf, linkText, unlessLong, writtenOf, puts, writeOf}
-use Rattle.links.specs.Places.{SpeltAt, HashAt, Holds, unheld, held, ScannedAs, found, unfound, givenIn, sizeIn}
+use Rattle.links.specs.Places.{SpeltAt, HashAt, Holds, unheld, held, ScannedAs, found, unfound, givenIn}
 use Rattle.links.specs.declared.Given.{Given}
 use Rattle.links.specs.declared.Given.the-variants.{Bytes as Some}
 use Rattle.links.specs.declared.Linked.{Linked}
@@ -38,13 +37,13 @@ use Rattle.links.proofs.Putting.{text-length}
 -- ---- reading
 
 module _ {R : ℕ → List ℕ → Type 0} where
-  pub held-size : {x : Spelt} {v : Said} → Holds R x v → sizeIn x ≡ sizeOf v
+  held-size : {x : Spelt} {v : Said} → Holds R x v → x .size ≡ sizeOf v
   held-size unheld = refl
-  held-size (held p k bs r e) = e
+  held-size (held p k bs h r e) = e
 
   held-given : {x : Spelt} {v : Said} → Holds R x v → givenIn x ≡ givenOf v
   held-given unheld = refl
-  held-given (held p k bs r e) = ap Some e
+  held-given (held p k bs h r e) = rw (ne-eqb p 0 (λ z. omega arith)) (ap Some e)
 
 pub stored-length : (v : Said) (d : List ℕ) → length (storedIn v d) ≡ length d
 stored-length absent d = refl
@@ -52,18 +51,18 @@ stored-length (said bs) d = length-sets d 0 bs
 
 -- what was found is stored, if there is room
 module _ (s : List ℕ) (m : Meaning) (x y : Spelt) (i : Holds (SpeltAt s) x (m .name)) (j : Holds (SpeltAt s) y (m .address)) (h d t : List ℕ) where
-  pub no-name-room : {b : Linked} → ltb (length d) (sizeIn x) ≡ true → b ≡ Refused (record { number = no.room; place = 0 }) → left (paper b) h d t ≡ decodedTo h d t (taken m)
-  no-name-room e f = rw (f, lt-leb (sizeOf (m .name)) (length d) (omega (arith, held-size i, ltb-true (length d) (sizeIn x) e)))
+  pub no-name-room : {b : Linked} → length d < x .size → b ≡ Refused (record { number = no.room; place = 0 }) → left (paper b) h d t ≡ decodedTo h d t (taken m)
+  no-name-room e f = rw (f, lt-leb (sizeOf (m .name)) (length d) (omega (arith, held-size i, e)))
 
-  module _ (e : ltb (length d) (sizeIn x) ≡ false) where
-    pub no-address-room : {b : Linked} → ltb (length t) (sizeIn y) ≡ true → b ≡ Refused (record { number = no.room; place = 0 }) → left (paper b) h d t ≡ decodedTo h d t (taken m)
+  module _ (e : x .size ≤ length d) where
+    pub no-address-room : {b : Linked} → length t < y .size → b ≡ Refused (record { number = no.room; place = 0 }) → left (paper b) h d t ≡ decodedTo h d t (taken m)
     no-address-room f g =
-        rw (g, le-leb (sizeOf (m .name)) (length d) (omega (arith, held-size i, ltb-false (length d) (sizeIn x) e)), lt-leb (sizeOf (m .address)) (length t) (omega (arith, held-size j, ltb-true (length t) (sizeIn y) f)))
+        rw (g, le-leb (sizeOf (m .name)) (length d) (omega (arith, held-size i, e)), lt-leb (sizeOf (m .address)) (length t) (omega (arith, held-size j, f)))
 
-    pub stored : ltb (length t) (sizeIn y) ≡ false → {b : Linked} {u v : Given} {h′ d′ t′ : List ℕ} → b ≡ Is u v → u ≡ givenIn x → v ≡ givenIn y
+    pub stored : y .size ≤ length t → {b : Linked} {u v : Given} {h′ d′ t′ : List ℕ} → b ≡ Is u v → u ≡ givenIn x → v ≡ givenIn y
         → h′ ≡ m .hash → d′ ≡ storedIn (m .name) d → t′ ≡ storedIn (m .address) t → left (paper b) h′ d′ t′ ≡ decodedTo h d t (taken m)
     stored f g a c p q r =
-        rw (g, a, c, p, q, r, held-given i, held-given j, le-leb (sizeOf (m .name)) (length d) (omega (arith, held-size i, ltb-false (length d) (sizeIn x) e)), le-leb (sizeOf (m .address)) (length t) (omega (arith, held-size j, ltb-false (length t) (sizeIn y) f)))
+        rw (g, a, c, p, q, r, held-given i, held-given j, le-leb (sizeOf (m .name)) (length d) (omega (arith, held-size i, e)), le-leb (sizeOf (m .address)) (length t) (omega (arith, held-size j, f)))
 
 -- what was found in a text that is not too long
 pub record FoundIn (s : List ℕ) (p : ℕ) (x y : Spelt) (o : Outcome Meaning) : Type 0 where

@@ -15,7 +15,6 @@ use Rattle.links.specs.Link.{Said, absent, said}
 use Rattle.links.specs.Reading.{nibble, isHex}
 use Rattle.links.specs.Places.{SpeltAt, HashAt, Holds, unheld, held}
 use Rattle.links.specs.declared.scan.Spelt.{Spelt}
-use Rattle.links.specs.declared.scan.Spelt.the-variants.{Absent, At}
 use Rattle.links.proofs.Lengths.{from-place}
 use Rattle.links.proofs.Spelling.{Front, itself, escaped, front, Digits, hash-digits}
 
@@ -29,11 +28,13 @@ pub record Bytes (R : ℕ → List ℕ → Type 0) (p k : ℕ) (v : Said) : Type
   pub count : k ≡ length bytes
 
 module _ {R : ℕ → List ℕ → Type 0} where
-  pub held-none : {v : Said} → Holds R Absent v → v ≡ absent
-  held-none unheld = refl
+  pub held-none : {x : Spelt} {v : Said} → Holds R x v → x .from ≡ 0 → v ≡ absent
+  held-none unheld e = refl
+  held-none (held p k bs h r f) e = absurd (omega (arith, h, e))
 
-  pub held-bytes : {p k : ℕ} {v : Said} → Holds R (At p k) v → Bytes R p k v
-  held-bytes (held p k bs r e) = record { bytes = bs; told = refl; there = r; count = e }
+  pub held-bytes : {x : Spelt} {v : Said} → Holds R x v → (x .from ≡ 0 → ⊥) → Bytes R (x .from) (x .size) v
+  held-bytes unheld n = absurd (n refl)
+  held-bytes (held p k bs h r e) n = record { bytes = bs; told = refl; there = r; count = e }
 
 -- ---- a value
 

@@ -1,12 +1,13 @@
 -- Hex digits and other kinds of bytes, by ranges. Assumes nothing.
-use mathlib.Core.Path.{_≡_, refl, sym, _∙_, subst}
+use mathlib.Core.Path.{_≡_, refl, sym, ap, _∙_, subst}
 use mathlib.Core.Logic.{_⊎_, inl, inr}
-use mathlib.Core.Bool.{Bool, true, false, not}
-use Prim.Native.Nat.{ℕ, _+_, _-_, _<_, _≤_}
+use mathlib.Core.Bool.{Bool, true, false, cond, _&&_, not}
+use Prim.Native.Nat.{ℕ, zero, suc, _+_, _*_, _-_, _/_, _%_, _^_, _<_, _≤_}
 use native.Mathlib.Omega.{arith}
-use borrow.Author.Tests.{ltb-true, leb-true, lt-ltb, le-ltb, le-leb, lt-leb}
+use borrow.Author.Tests.{ltb-true, leb-true, ne-eqb, not-true, lt-ltb, le-ltb, le-leb, lt-leb}
+use lib.Bits.{bitAnd}
 use lib.Dec.{leb, eqb}
-use Rattle.refusal.proofs.Cases.{less-or, both}
+use Rattle.refusal.proofs.Cases.{less-or, same-or, both}
 use Rattle.bencode_writer.specs.Escaped.{hexDigit}
 use Rattle.links.specs.Link.{between, letterOrDigit, nameByte, plainByte, smallDigit, Hex}
 use Rattle.links.specs.Reading.{nibble, isHex}
@@ -107,21 +108,24 @@ module _ (b : ℕ) where
   pub dot-or-none : letterOrDigit b ≡ false → eqb b 46 ≡ nameByte b
   dot-or-none e = rw e
 
-  pub below-plain : b < 33 → false ≡ plainByte b
-  below-plain h = rw (under 33 126 b h)
-
   pub above-plain : 126 < b → false ≡ plainByte b
   above-plain h = rw (over 33 126 b h)
 
-  module _ (l : 33 ≤ b) (h : b ≤ 126) where
+  pub most-plain : 38 < b → b ≤ 126 → true ≡ plainByte b
+  most-plain l h = rw (inside 33 126 b (omega arith) h, ne-eqb b 35 (λ e. omega arith), ne-eqb b 37 (λ e. omega arith), ne-eqb b 38 (λ e. omega arith))
+
+  pub below-plain : b < 33 → false ≡ plainByte b
+  below-plain h = rw (under 33 126 b h)
+
+  module _ (l : 33 ≤ b) (h : b ≤ 38) where
     pub plain-hash : eqb b 35 ≡ true → false ≡ plainByte b
-    plain-hash e = rw (inside 33 126 b l h, e)
+    plain-hash e = rw (inside 33 126 b l (omega arith), e)
 
     pub plain-percent : eqb b 35 ≡ false → eqb b 37 ≡ true → false ≡ plainByte b
-    plain-percent e f = rw (inside 33 126 b l h, e, f)
+    plain-percent e f = rw (inside 33 126 b l (omega arith), e, f)
 
     pub plain-and : eqb b 35 ≡ false → eqb b 37 ≡ false → not (eqb b 38) ≡ plainByte b
-    plain-and e f = rw (inside 33 126 b l h, e, f)
+    plain-and e f = rw (inside 33 126 b l (omega arith), e, f)
 
   pub kept-letter : letterOrDigit b ≡ true → true ≡ unreserved b
   kept-letter e = rw e
@@ -139,33 +143,60 @@ module _ (b : ℕ) where
     pub kept-tilde : eqb b 45 ≡ false → eqb b 46 ≡ false → eqb b 95 ≡ false → eqb b 126 ≡ unreserved b
     kept-tilde e f g = rw (n, e, f, g)
 
--- what is no digit counts 16
-module _ (b : ℕ) where
-  pub none-low : b < 48 → 16 ≡ nibble b
-  none-low h = rw (under 48 57 b h, under 65 70 b (omega arith), under 97 102 b (omega arith))
+-- ---- a digit by a bit of its own
 
-  pub none-middle : 57 < b → b < 65 → 16 ≡ nibble b
-  none-middle l h = rw (over 48 57 b l, under 65 70 b h, under 97 102 b (omega arith))
+-- below "0" and above "f" there is none
+pub hex-below : (b : ℕ) → b < 48 → false ≡ isHex b
+hex-below b h = rw (under 48 57 b h, under 65 70 b (omega arith), under 97 102 b (omega arith))
 
-  pub none-high : 70 < b → b < 97 → 16 ≡ nibble b
-  none-high l h = rw (over 48 57 b (omega arith), over 65 70 b l, under 97 102 b h)
+pub hex-above : (b : ℕ) → 102 < b → false ≡ isHex b
+hex-above b h = rw (over 48 57 b (omega arith), over 65 70 b (omega arith), over 97 102 b h)
 
-  pub none-over : 102 < b → 16 ≡ nibble b
-  none-over l = rw (over 48 57 b (omega arith), over 65 70 b (omega arith), over 97 102 b l)
+-- a bit for each byte from "0" on
+abbrev bit : ℕ → Bool
+bit k = eqb (bitAnd (35465847073801215 / 2 ^ k) 1) 1
 
--- a byte counts 16 where it is no digit, and less where it is one
-pub nibble-most : (b : ℕ) → nibble b ≤ 16
-nibble-most b =
-    less-or b 48 (λ h. omega (arith, none-low b h))
-    (λ l. less-or 57 b
-    (λ i. less-or b 65 (λ h. omega (arith, none-middle b i h))
-    (λ j. less-or 70 b
-    (λ k. less-or b 97 (λ h. omega (arith, none-high b k h)) (λ m. less-or 102 b (λ h. omega (arith, none-over b h)) (λ h. omega (arith, of-small b m h))))
-    (λ k. omega (arith, of-capital b j k))))
-    (λ i. omega (arith, of-decimal b l i)))
+abbrev right : ℕ → Bool
+right k = cond (isHex (48 + k)) (bit k) (not (bit k))
 
-pub no-hex : (b : ℕ) → nibble b ≡ 16 → isHex b ≡ false
-no-hex b e = le-ltb (nibble b) 16 (omega arith)
+allBelow : ℕ → (ℕ → Bool) → Bool
+allBelow zero f = true
+allBelow (suc n) f = f n && allBelow n f
 
-pub a-hex : (b : ℕ) → (nibble b ≡ 16 → ⊥) → isHex b ≡ true
-a-hex b h = lt-ltb (nibble b) 16 (omega (arith, nibble-most b))
+each-below : (n : ℕ) (f : ℕ → Bool) → allBelow n f ≡ true → (k : ℕ) → k < n → f k ≡ true
+unfolding allBelow
+each-below zero f e k h = absurd (omega (arith, h))
+each-below (suc n) f e k h =
+    let x = both (f n) (allBelow n f) e in
+    same-or k n (λ i. ap f i ∙ x .0) (λ i. each-below n f (x .1) k (omega (arith, h, i)))
+
+all-right : allBelow 55 right ≡ true
+unfolding allBelow
+all-right = refl
+
+pub hex-bit : (b : ℕ) → 48 ≤ b → b ≤ 102 → eqb (bitAnd (35465847073801215 / 2 ^ (b - 48)) 1) 1 ≡ isHex b
+hex-bit b l h = go (isHex (48 + (b - 48))) refl (each-below 55 right all-right (b - 48) (omega arith))
+  where
+    same : 48 + (b - 48) ≡ b
+    same = omega arith
+
+    go : (t : Bool) → isHex (48 + (b - 48)) ≡ t → cond t (bit (b - 48)) (not (bit (b - 48))) ≡ true → bit (b - 48) ≡ isHex b
+    go true e f = f ∙ sym e ∙ ap isHex same
+    go false e f = not-true (bit (b - 48)) f ∙ sym e ∙ ap isHex same
+
+-- ---- what a digit counts, by its two parts
+
+pub value-of : (b : ℕ) → nibble b < 16 → b % 16 + 9 * (b / 64) ≡ nibble b
+value-of b h = go (between 48 57 b) refl
+  where
+    small : (t : Bool) → between 97 102 b ≡ t → between 48 57 b ≡ false → between 65 70 b ≡ false → b % 16 + 9 * (b / 64) ≡ nibble b
+    small true f g k = let w = within 97 102 b f in omega (arith, w, of-small b (w .0) (w .1))
+    small false f g k = let z : nibble b ≡ 16 = rw (g, k, f) in absurd (omega (arith, z, h))
+
+    capital : (t : Bool) → between 65 70 b ≡ t → between 48 57 b ≡ false → b % 16 + 9 * (b / 64) ≡ nibble b
+    capital true f g = let w = within 65 70 b f in omega (arith, w, of-capital b (w .0) (w .1))
+    capital false f g = small (between 97 102 b) refl g f
+
+    go : (t : Bool) → between 48 57 b ≡ t → b % 16 + 9 * (b / 64) ≡ nibble b
+    go true f = let w = within 48 57 b f in omega (arith, w, of-decimal b (w .0) (w .1))
+    go false f = capital (between 65 70 b) refl f

@@ -52,6 +52,21 @@ module _ (f : ℕ → Bool) (s : List ℕ) (p : ℕ) where
     pub runs-most : (most : ℕ) → p ≤ length s → k ≡ min most (length s - p) → k ≡ min most (runs f (drop p s))
     runs-most most l g = less-or k most (λ h. omega (arith, e, runs-none f s (p + k) (omega arith))) (λ h. omega (arith, e))
 
+-- of the first two, how many are so
+module _ (f : ℕ → Bool) (s : List ℕ) (p : ℕ) where
+  pub none-of-two : (p < length s → f (getD s p 0) ≡ false) → 0 ≡ min 2 (runs f (drop p s))
+  none-of-two e = less-or p (length s) (λ h. omega (arith, runs-stop f s p h (e h))) (λ h. omega (arith, runs-none f s p h))
+
+  module _ (h : p < length s) (e : f (getD s p 0) ≡ true) where
+    pub one-of-two : (p + 1 < length s → f (getD s (p + 1) 0) ≡ false) → 1 ≡ min 2 (runs f (drop p s))
+    one-of-two g =
+        less-or (p + 1) (length s)
+        (λ i. omega (arith, runs-more f s p h e, runs-stop f s (p + 1) i (g i)))
+        (λ i. omega (arith, runs-more f s p h e, runs-none f s (p + 1) i))
+
+    pub two-of-two : p + 1 < length s → f (getD s (p + 1) 0) ≡ true → 2 ≡ min 2 (runs f (drop p s))
+    two-of-two i g = omega (arith, runs-more f s p h e, runs-more f s (p + 1) i g)
+
 -- ---- of a word
 
 common-none : (w : List ℕ) → common [] w ≡ 0

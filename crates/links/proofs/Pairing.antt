@@ -14,11 +14,10 @@ use Rattle.refusal.specs.Numbers as no
 use Rattle.refusal.proofs.Cases.{less-or}
 use Rattle.links.specs.Link.{Meaning, Said}
 use Rattle.links.specs.Reading.{isHex, fieldOf, Seen, unsaid, has, with, naming, prefixed, urned, digits, value, opening, going, fed, finish, told, begun}
-use Rattle.links.specs.Places.{answerAt, runs, common, SpeltTo, HashAt, Holds, unheld, held, Shows, Valued, TurnedAs, namedAt, keeps, kept, closedAt, wholeOf, ScannedAs, found, unfound}
+use Rattle.links.specs.Places.{answerAt, runs, common, SpeltTo, HashAt, Holds, unheld, held, nowhere, Shows, Valued, TurnedAs, namedAt, keeps, kept, closedAt, wholeOf, ScannedAs, found, unfound}
 use Rattle.links.specs.declared.scan.Field.{Field}
 use Rattle.links.specs.declared.scan.Field.the-variants.{Hash, Name, Address, Other}
 use Rattle.links.specs.declared.scan.Spelt.{Spelt}
-use Rattle.links.specs.declared.scan.Spelt.the-variants.{Absent, At}
 use Rattle.links.specs.declared.scan.Pass.{Pass}
 use Rattle.links.specs.declared.scan.Turn.{Turn}
 use Rattle.links.specs.declared.scan.Turn.the-variants.{More, Last, Broken}
@@ -112,12 +111,12 @@ module _ (s : List ℕ) (p : ℕ) (x : Pass) where
           ∙ ap (λ (j : ℕ). finish (fed (going j n (digits 0 (all .hash))) (all .rest))) i
           ∙ ap (λ (t : List ℕ). finish (fed (going (p + 49) n (digits 0 (all .hash))) t)) d
 
-      pub hash-closed : (n : Seen) → Shows s x n → TurnedAs s (answerAt s p n (opening Hash)) p (closedAt s (p + 49) (kept Hash (At (p + 9) 20) x))
+      pub hash-closed : (n : Seen) → Shows s x n → TurnedAs s (answerAt s p n (opening Hash)) p (closedAt s (p + 49) (kept Hash (record { from = p + 9; size = 20 }) x))
       hash-closed n w =
           let there : HashAt s (p + 9) (all .hash) = record { text = all .text; rest = all .rest; there = all .there; hex = all .hex; whole = all .whole } in
-          turned-from s (answerAt s p n (opening Hash)) p (answerAt s (p + 49) n (digits 0 (all .hash))) (closedAt s (p + 49) (kept Hash (At (p + 9) 20) x)) (hash-goes n)
-          (closes s p (p + 49) n (with Hash (all .hash) n) (digits 0 (all .hash)) (kept Hash (At (p + 9) 20) x) (closing-hash n (all .hash) (p + 49) (getD s (p + 49) 0))
-          (keep-hash s x n w (p + 9) (all .hash) there) (omega arith) hash-within)
+          turned-from s (answerAt s p n (opening Hash)) p (answerAt s (p + 49) n (digits 0 (all .hash))) (closedAt s (p + 49) (kept Hash (record { from = p + 9; size = 20 }) x)) (hash-goes n)
+          (closes s p (p + 49) n (with Hash (all .hash) n) (digits 0 (all .hash)) (kept Hash (record { from = p + 9; size = 20 }) x) (closing-hash n (all .hash) (p + 49) (getD s (p + 49) 0))
+          (keep-hash s x n w (p + 9) (all .hash) (omega arith) there) (omega arith) hash-within)
 
 -- ---- another value
 
@@ -125,15 +124,15 @@ module _ (s : List ℕ) (p : ℕ) (x : Pass) (f : Field) where
   pub value-within : (q k : ℕ) → Valued s p (To q k) → q ≤ length s
   value-within q k v = v .1 .end
 
-  pub value-closed : (q k : ℕ) → Valued s p (To q k) → (n : Seen) → Shows s x n → (f ≡ Hash → ⊥) → TurnedAs s (answerAt s p n (value f [])) p (closedAt s q (kept f (At p k) x))
-  value-closed q k (bs, t, e, stops) n w g =
-      turned-from s (answerAt s p n (value f [])) p (answerAt s q n (value f bs)) (closedAt s q (kept f (At p k) x)) (spelt-run s t n f [])
-      (closes-value (keep-value s x n w f p k bs g (spelt-at s t) e))
+  pub value-closed : 0 < p → (q k : ℕ) → Valued s p (To q k) → (n : Seen) → Shows s x n → (f ≡ Hash → ⊥) → TurnedAs s (answerAt s p n (value f [])) p (closedAt s q (kept f (record { from = p; size = k }) x))
+  value-closed z q k (bs, t, e, stops) n w g =
+      turned-from s (answerAt s p n (value f [])) p (answerAt s q n (value f bs)) (closedAt s q (kept f (record { from = p; size = k }) x)) (spelt-run s t n f [])
+      (closes-value (keep-value s x n w f p k bs g z (spelt-at s t) e))
     where
-      closes-value : Shows s (kept f (At p k) x) (with f bs n) → TurnedAs s (answerAt s q n (value f bs)) p (closedAt s q (kept f (At p k) x))
+      closes-value : Shows s (kept f (record { from = p; size = k }) x) (with f bs n) → TurnedAs s (answerAt s q n (value f bs)) p (closedAt s q (kept f (record { from = p; size = k }) x))
       closes-value y = less-or q (length s)
-          (λ h. closes s p q n (with f bs n) (value f bs) (kept f (At p k) x) (closing-value n f bs q (getD s q 0) (stops h .0) (stops h .1)) y (omega (arith, t .place)) (omega arith))
-          (λ h. closes s p q n (with f bs n) (value f bs) (kept f (At p k) x) (closing-end n f bs q (getD s q 0) (List·getD-eq-default s 0 h)) y (omega (arith, t .place)) (t .end))
+          (λ h. closes s p q n (with f bs n) (value f bs) (kept f (record { from = p; size = k }) x) (closing-value n f bs q (getD s q 0) (stops h .0) (stops h .1)) y (omega (arith, t .place)) (omega arith))
+          (λ h. closes s p q n (with f bs n) (value f bs) (kept f (record { from = p; size = k }) x) (closing-end n f bs q (getD s q 0) (List·getD-eq-default s 0 h)) y (omega (arith, t .place)) (t .end))
 
 -- ---- the whole text
 
@@ -150,7 +149,7 @@ module _ (s : List ℕ) where
       let f : finish (fed begun s) ≡ refused no.link k = prefix-off 0 unsaid s (bytes "magnet:?") (omega (arith, e)) ∙ ap (refused no.link) (omega (arith, e)) in
       subst (λ (t : Scanned). ScannedAs s t (finish (fed begun s))) (sym z) (subst (ScannedAs s (Unfound k)) (sym f) (unfound k))
 
-  pub passing-start : (x : Pass) → x ≡ record { hash = Absent; name = Absent; address = Absent } → 8 ≤ common (drop 0 s) (bytes "magnet:?") → Passing s x 8
+  pub passing-start : (x : Pass) → x ≡ record { hash = nowhere; name = nowhere; address = nowhere } → 8 ≤ common (drop 0 s) (bytes "magnet:?") → Passing s x 8
   passing-start x z i =
       let e : common s (bytes "magnet:?") ≡ 8 = omega (arith, i, common-within s (bytes "magnet:?")) in
       let t = common-there s (bytes "magnet:?") e in
@@ -168,12 +167,12 @@ module _ (s : List ℕ) where
     pub passing-further : (y : Pass) (q : ℕ) → TurnedAs s (answerAt s p (g .seen) (naming [])) p (More y q) → (p < q) × (q ≤ length s)
     passing-further y q (m, w, e, l, h) = (l, h)
 
-    pub passing-last : (y : Pass) (r : Scanned) → r ≡ wholeOf (y .hash) y (length s) → TurnedAs s (answerAt s p (g .seen) (naming [])) p (Last y) → ScannedAs s r (finish (fed begun s))
-    passing-last y r z (m, w, e) = subst (λ (t : Scanned). ScannedAs s t (finish (fed begun s))) (sym z) (subst (ScannedAs s (wholeOf (y .hash) y (length s))) (sym (g .same ∙ e)) (go (y .hash) (m .hash) (w .hash)))
+    pub passing-last : (y : Pass) (r : Scanned) → r ≡ wholeOf y (length s) → TurnedAs s (answerAt s p (g .seen) (naming [])) p (Last y) → ScannedAs s r (finish (fed begun s))
+    passing-last y r z (m, w, e) = subst (λ (t : Scanned). ScannedAs s t (finish (fed begun s))) (sym z) (subst (ScannedAs s (wholeOf y (length s))) (sym (g .same ∙ e)) (go (y .hash) (m .hash) (w .hash)))
       where
-        go : (v : Spelt) (u : Said) → Holds (HashAt s) v u → ScannedAs s (wholeOf v y (length s)) (told (length s) u m)
+        go : (v : Spelt) (u : Said) → Holds (HashAt s) v u → ScannedAs s (wholeOf (record { hash = v; name = y .name; address = y .address }) (length s)) (told (length s) u m)
         go v u unheld = unfound (length s)
-        go v u (held h k bs i j) = found h (y .name) (y .address) (record { hash = bs; name = m .name; address = m .address }) i (w .name) (w .address)
+        go v u (held h k bs z i j) = rw (ne-eqb h 0 (λ q. omega arith)) (found h (y .name) (y .address) (record { hash = bs; name = m .name; address = m .address }) i (w .name) (w .address))
 
     pub passing-broken : (q : ℕ) (r : Scanned) → r ≡ Unfound q → TurnedAs s (answerAt s p (g .seen) (naming [])) p (Broken q) → ScannedAs s r (finish (fed begun s))
     passing-broken q r z e = subst (λ (t : Scanned). ScannedAs s t (finish (fed begun s))) (sym z) (subst (ScannedAs s (Unfound q)) (sym (g .same ∙ e)) (unfound q))

@@ -14,7 +14,7 @@ use Rattle.refusal.specs.Numbers as no
 use Rattle.refusal.proofs.Cases.{by-bool, less-or, false-if, cannot, no-way}
 use Rattle.links.specs.Link.{plainByte, Hex, HexText, no-byte, a-byte, Spells, nothing, plain, escape, Meaning}
 use Rattle.links.specs.Reading.{nibble, isHex, Seen, Mode, digits, half, value, percent, digit, State, going, stopped, inMode, fed, finish}
-use Rattle.links.specs.Places.{answerAt, runs, SpeltTo, SpeltAt, HashAt, Holds, unheld, held, Valued, sizeIn}
+use Rattle.links.specs.Places.{answerAt, runs, SpeltTo, SpeltAt, HashAt, Valued}
 use Rattle.links.specs.declared.values.Value.the-variants.{To, Broken as Unspelt}
 use Rattle.links.specs.declared.scan.Field.{Field}
 use Rattle.links.proofs.Digits.{nibble-hex, hex-nibble}
@@ -135,11 +135,11 @@ percent-off p n f v (b ∷ c ∷ t) l =
     (λ e. by-bool (isHex c) (λ g. absurd (omega (arith, rw (e, g) at l))) (λ g. rw (e, g) (off (p + 1) t ∙ at-same (omega arith))))
     (λ e. rw e (off p (c ∷ t) ∙ at-same (omega arith)))
 
--- what is spelt from p to q has k bytes
-pub record Counted (s : List ℕ) (p q k : ℕ) : Type 0 where
+-- what is spelt from p to q has e escapes
+pub record Counted (s : List ℕ) (p q e : ℕ) : Type 0 where
   pub bytes : List ℕ
   pub spelt : SpeltTo s p q bytes
-  pub count : k ≡ length bytes
+  pub count : p + length bytes + 2 * e ≡ q
 
 -- at q, after what is spelt from p on
 pub escape-off : (s : List ℕ) (p q k : ℕ) (bs : List ℕ) → SpeltTo s p q bs → q < length s → eqb (getD s q 0) 37 ≡ true → k ≡ min 2 (runs isHex (drop (q + 1) s)) → k < 2
@@ -167,44 +167,35 @@ two-digits s q h =
 
 -- ---- one byte more
 
-spelt-most : {w bs : List ℕ} → Spells w bs → length bs ≤ length w
-spelt-most nothing = omega arith
-spelt-most (plain b w bs e x) = omega (arith, spelt-most x)
-spelt-most (escape h l i j w bs e f x) = omega (arith, spelt-most x)
-
 module _ (s : List ℕ) (p : ℕ) where
   pub counted-none : p ≤ length s → Counted s p p 0
-  counted-none h = record { bytes = []; spelt = spelt-none s p h; count = refl }
+  counted-none h = record { bytes = []; spelt = spelt-none s p h; count = omega arith }
 
-  module _ {q k : ℕ} (x : Counted s p q k) where
-    pub counted-plain : q < length s → plainByte (getD s q 0) ≡ true → Counted s p (q + 1) (k + 1)
-    counted-plain h e = record {
+  module _ {q e : ℕ} (x : Counted s p q e) where
+    pub counted-plain : q < length s → plainByte (getD s q 0) ≡ true → Counted s p (q + 1) e
+    counted-plain h i = record {
       bytes = x .bytes ++ (getD s q 0 ∷ []);
-      spelt = spelt-plain s (x .spelt) h e;
+      spelt = spelt-plain s (x .spelt) h i;
       count = omega (arith, x .count, length-append (x .bytes) (getD s q 0 ∷ []));
     }
 
-    module _ (h : q < length s) (e : getD s q 0 ≡ 37) where
-      pub counted-escape : 2 ≤ runs isHex (drop (q + 1) s) → Counted s p (q + 3) (k + 1)
+    module _ (h : q < length s) (i : getD s q 0 ≡ 37) where
+      pub counted-escape : 2 ≤ runs isHex (drop (q + 1) s) → Counted s p (q + 3) (e + 1)
       counted-escape l =
           let d = two-digits s (q + 1) l in
           let z : q + 1 + 1 ≡ q + 2 = omega arith in
           let b : List ℕ = (16 * nibble (getD s (q + 1) 0) + nibble (getD s (q + 2) 0)) ∷ [] in
           record {
             bytes = x .bytes ++ b;
-            spelt = spelt-escape s (x .spelt) (omega (arith, d .0)) (eq-eqb (getD s q 0) 37 e) (d .1) (subst (λ (j : ℕ). isHex (getD s j 0) ≡ true) z (d .2));
+            spelt = spelt-escape s (x .spelt) (omega (arith, d .0)) (eq-eqb (getD s q 0) 37 i) (d .1) (subst (λ (j : ℕ). isHex (getD s j 0) ≡ true) z (d .2));
             count = omega (arith, x .count, length-append (x .bytes) b);
           }
 
       pub counted-off : (j : ℕ) → j ≡ min 2 (runs isHex (drop (q + 1) s)) → j < 2 → Valued s p (Unspelt (q + 1 + j))
-      counted-off j f l = escape-off s p q j (x .bytes) (x .spelt) h (eq-eqb (getD s q 0) 37 e) f l
+      counted-off j f l = escape-off s p q j (x .bytes) (x .spelt) h (eq-eqb (getD s q 0) 37 i) f l
 
-    -- there are no more bytes than the text has
-    pub counted-size : k + p ≤ q
-    counted-size = omega (arith, x .count, x .spelt .place, spelt-most (x .spelt .spells))
-
-    pub counted-to : ((q < length s) → (plainByte (getD s q 0) ≡ false) × (eqb (getD s q 0) 37 ≡ false)) → Valued s p (To q k)
-    counted-to h = (x .bytes, x .spelt, x .count, h)
+    pub counted-to : ((q < length s) → (plainByte (getD s q 0) ≡ false) × (eqb (getD s q 0) 37 ≡ false)) → Valued s p (To q (q - p - 2 * e))
+    counted-to h = (x .bytes, x .spelt, omega (arith, x .count), h)
 
 -- ---- the bytes one by one
 

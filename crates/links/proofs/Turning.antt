@@ -22,7 +22,6 @@ use Rattle.links.specs.Places.{answerAt, runs, common, SpeltTo, SpeltAt,
 use Rattle.links.specs.declared.scan.Field.{Field}
 use Rattle.links.specs.declared.scan.Field.the-variants.{Hash, Name, Address, Other}
 use Rattle.links.specs.declared.scan.Spelt.{Spelt}
-use Rattle.links.specs.declared.scan.Spelt.the-variants.{Absent, At}
 use Rattle.links.specs.declared.scan.Pass.{Pass}
 use Rattle.links.specs.declared.scan.Turn.the-variants.{More, Last, Broken}
 use Rattle.links.proofs.Digits.{nibble-hex}
@@ -186,7 +185,7 @@ two-letters s p q h e = sym (ap (λ (k : ℕ). take k (drop p s)) e ∙ two-ther
 
 said-held : {R : ℕ → List ℕ → Type 0} {x : Spelt} {v : Said} → Holds R x v → isHeld x ≡ isSaid v
 said-held unheld = refl
-said-held (held p k bs r e) = refl
+said-held (held p k bs h r e) = rw (ne-eqb p 0 (λ z. omega arith))
 
 module _ (s : List ℕ) (x : Pass) (n : Seen) (w : Shows s x n) where
   pub keeps-has : (f : Field) → keeps f x ≡ has f n
@@ -195,14 +194,14 @@ module _ (s : List ℕ) (x : Pass) (n : Seen) (w : Shows s x n) where
   keeps-has Address = said-held (w .address)
   keeps-has Other = refl
 
-  pub keep-hash : (p : ℕ) (bs : List ℕ) → HashAt s p bs → Shows s (kept Hash (At p 20) x) (with Hash bs n)
-  keep-hash p bs h = record { hash = held p 20 bs h (sym (h .whole)); name = w .name; address = w .address }
+  pub keep-hash : (p : ℕ) (bs : List ℕ) → 0 < p → HashAt s p bs → Shows s (kept Hash (record { from = p; size = 20 }) x) (with Hash bs n)
+  keep-hash p bs i h = record { hash = held p 20 bs i h (sym (h .whole)); name = w .name; address = w .address }
 
-  pub keep-value : (f : Field) (p k : ℕ) (bs : List ℕ) → (f ≡ Hash → ⊥) → SpeltAt s p bs → k ≡ length bs → Shows s (kept f (At p k) x) (with f bs n)
-  keep-value Hash p k bs x h e = absurd (x refl)
-  keep-value Name p k bs x h e = record { hash = w .hash; name = held p k bs h e; address = w .address }
-  keep-value Address p k bs x h e = record { hash = w .hash; name = w .name; address = held p k bs h e }
-  keep-value Other p k bs x h e = w
+  pub keep-value : (f : Field) (p k : ℕ) (bs : List ℕ) → (f ≡ Hash → ⊥) → 0 < p → SpeltAt s p bs → k ≡ length bs → Shows s (kept f (record { from = p; size = k }) x) (with f bs n)
+  keep-value Hash p k bs y i h e = absurd (y refl)
+  keep-value Name p k bs y i h e = record { hash = w .hash; name = held p k bs i h e; address = w .address }
+  keep-value Address p k bs y i h e = record { hash = w .hash; name = w .name; address = held p k bs i h e }
+  keep-value Other p k bs y i h e = w
 
 -- ---- the end of a pair
 

@@ -1,7 +1,7 @@
 -- What stands at the places of a text that the pass over it keeps. Assumes nothing: these are definitions.
 -- They serve inner contracts alone and need not be believed: the contract of the reader speaks of Reading.antt.
 use mathlib.Core.Path.{_≡_}
-use mathlib.Core.Bool.{Bool, true, false, cond}
+use mathlib.Core.Bool.{Bool, false, cond, not}
 use mathlib.Core.List.{List, [], _∷_, _++_}
 use Prim.Native.Nat.{ℕ, suc, _+_, _-_, _<_, _≤_}
 use lib.Dec.{eqb, leb}
@@ -13,7 +13,6 @@ use Rattle.links.specs.Reading.{Seen, Mode, naming, value, going, valued
 use Rattle.links.specs.declared.scan.Field.{Field}
 use Rattle.links.specs.declared.scan.Field.the-variants.{Hash, Name, Address, Other}
 use Rattle.links.specs.declared.scan.Spelt.{Spelt}
-use Rattle.links.specs.declared.scan.Spelt.the-variants.{Absent, At}
 use Rattle.links.specs.declared.scan.Pass.{Pass}
 use Rattle.links.specs.declared.scan.Turn.{Turn}
 use Rattle.links.specs.declared.scan.Turn.the-variants.{More, Last, Broken}
@@ -61,10 +60,14 @@ pub record HashAt (s : List ℕ) (p : ℕ) (bs : List ℕ) : Type 0 where
   pub hex : HexText text bs
   pub whole : length bs ≡ 20
 
--- what the pass keeps of a value is what was said
+-- what the pass keeps of a value that is not there
+abbrev pub nowhere : Spelt
+nowhere = record { from = 0; size = 0 }
+
+-- what it keeps of a value is what was said
 pub data Holds (R : ℕ → List ℕ → Type 0) : Spelt → Said → Type 0 where
-  unheld : Holds R Absent absent
-  held : (p k : ℕ) (bs : List ℕ) → R p bs → k ≡ length bs → Holds R (At p k) (said bs)
+  unheld : Holds R nowhere absent
+  held : (p k : ℕ) (bs : List ℕ) → 0 < p → R p bs → k ≡ length bs → Holds R (record { from = p; size = k }) (said bs)
 
 pub record Shows (s : List ℕ) (x : Pass) (n : Seen) : Type 0 where
   pub hash : Holds (HashAt s) (x .hash) (n .hash)
@@ -88,8 +91,7 @@ namedAt s p q n = finish (fed (valued q n (take (q - p) (drop p s))) (drop (q + 
 
 -- what the pass keeps, by a field
 abbrev pub isHeld : Spelt → Bool
-isHeld Absent = false
-isHeld (At p k) = true
+isHeld v = not (eqb (v .from) 0)
 
 abbrev pub keeps : Field → Pass → Bool
 keeps Hash x = isHeld (x .hash)
@@ -108,20 +110,14 @@ abbrev pub closedAt : List ℕ → ℕ → Pass → Turn
 closedAt s p x = cond (leb (length s) p) (Last x) (cond (eqb (getD s p 0) 38) (More x (p + 1)) (Broken p))
 
 -- after the last pair, at the end of a text of c bytes
-abbrev pub wholeOf : Spelt → Pass → ℕ → Scanned
-wholeOf Absent x c = Unfound c
-wholeOf (At p k) x c = Found p (x .name) (x .address)
+abbrev pub wholeOf : Pass → ℕ → Scanned
+wholeOf x c = cond (eqb (x .hash .from) 0) (Unfound c) (Found (x .hash .from) (x .name) (x .address))
 
 -- the whole text
 pub data ScannedAs (s : List ℕ) : Scanned → Outcome Meaning → Type 0 where
   found : (h : ℕ) (x y : Spelt) (m : Meaning) → HashAt s h (m .hash) → Holds (SpeltAt s) x (m .name) → Holds (SpeltAt s) y (m .address) → ScannedAs s (Found h x y) (taken m)
   unfound : (p : ℕ) → ScannedAs s (Unfound p) (refused no.link p)
 
--- the answer's words for a value, and how many bytes it has
+-- the answer's words for a value
 abbrev pub givenIn : Spelt → Given
-givenIn Absent = Unsaid
-givenIn (At p k) = Bytes k
-
-abbrev pub sizeIn : Spelt → ℕ
-sizeIn Absent = 0
-sizeIn (At p k) = k
+givenIn v = cond (eqb (v .from) 0) Unsaid (Bytes (v .size))

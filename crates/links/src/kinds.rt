@@ -1,6 +1,6 @@
 // Kinds of bytes, and how far they go at a place of a text.
 ghost use mathlib.Core.Path.{_≡_};
-ghost use Prim.Native.Nat.{_+_, _≤_, min};
+ghost use Prim.Native.Nat.{_+_, _<_, _≤_, min};
 ghost use lib.ListN.{length, drop};
 ghost use Rattle.links.specs.Link.{letterOrDigit, nameByte, plainByte};
 ghost use Rattle.links.specs.Reading.{nibble, isHex};
@@ -30,12 +30,31 @@ pub fn digits(text: &[u8], from: usize, most: usize) -> usize
     let end = refusal::least(most, text.len() - from);
     let mut count = 0;
     while count < end {
-        if nibble(text[from + count]) == 16 {
+        if !is_hex(text[from + count]) {
             return count;
         }
         count += 1;
     }
     count
+}
+
+// How many of the two bytes after a "%" are hex digits, from the first on.
+pub fn escape_digits(text: &[u8], from: usize) -> usize
+    ensures { λ r. ⌜ r ≡ min 2 (runs isHex (drop from (now (text .entry)))) ⌝ }
+{
+    if text.len() <= from {
+        return 0;
+    }
+    if !is_hex(text[from]) {
+        return 0;
+    }
+    if text.len() <= from + 1 {
+        return 1;
+    }
+    if !is_hex(text[from + 1]) {
+        return 1;
+    }
+    2
 }
 
 // How many bytes of a word stand at a place.
@@ -54,14 +73,17 @@ pub fn word(text: &[u8], from: usize, word: &[u8]) -> usize
     count
 }
 
-// A byte that stands for itself in a value.
+// A byte that stands for itself in a value. Most do by the first two tests.
 pub fn is_plain(b: u8) -> bool
     ensures { λ r. ⌜ r ≡ plainByte b ⌝ }
 {
-    if b < 33 {
+    if 126 < b {
         return false;
     }
-    if 126 < b {
+    if b'&' < b {
+        return true;
+    }
+    if b < 33 {
         return false;
     }
     if b == b'#' {
@@ -92,29 +114,26 @@ pub fn is_unreserved(b: u8) -> bool
     b == b'~'
 }
 
-// What a hex digit counts, in either case; 16 where it is none.
-pub fn nibble(b: u8) -> u8
+// What a hex digit counts, in either case: a letter stands one past a multiple of 16, and counts 10.
+pub fn value(b: u8) -> u8
+    requires { ⌜ nibble b < 16 ⌝ }
     ensures { λ r. ⌜ r ≡ nibble b ⌝ }
 {
+    b % 16 + 9 * (b / 64)
+}
+
+// A hex digit in either case, by one bit for each byte from "0" to "f".
+fn is_hex(b: u8) -> bool
+    ensures { λ r. ⌜ r ≡ isHex b ⌝ }
+{
     if b < b'0' {
-        return 16;
+        return false;
     }
-    if b <= b'9' {
-        return b - b'0';
+    if b'f' < b {
+        return false;
     }
-    if b < b'A' {
-        return 16;
-    }
-    if b <= b'F' {
-        return b - 55;
-    }
-    if b < b'a' {
-        return 16;
-    }
-    if b <= b'f' {
-        return b - 87;
-    }
-    16
+    let digits: u64 = 35465847073801215;
+    (digits >> (b - b'0')) & 1 == 1
 }
 
 fn is_name(b: u8) -> bool

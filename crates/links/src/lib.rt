@@ -87,10 +87,10 @@ fn store(
     requires { ⌜ ((m : Meaning) × HashAt (now text) at (m .hash) × Holds (SpeltAt (now text)) dn (m .name) × Holds (SpeltAt (now text)) tr (m .address)) ⌝ }
     ensures { λ r. ⌜ ((m : Meaning) → HashAt (now (text .entry)) at (m .hash) → Holds (SpeltAt (now (text .entry))) dn (m .name) → Holds (SpeltAt (now (text .entry))) tr (m .address) → left (paper r) (now (hash .exit)) (now (name .exit)) (now (address .exit)) ≡ decodedTo (now (hash .entry)) (now (name .entry)) (now (address .entry)) (taken m)) ⌝ }
 {
-    if values::too_long(dn, name.len()) {
+    if name.len() < dn.size {
         return refused(number::ROOM, 0);
     }
-    if values::too_long(tr, address.len()) {
+    if address.len() < tr.size {
         return refused(number::ROOM, 0);
     }
     *hash = values::hash(text, at);
@@ -102,10 +102,10 @@ fn store(
 fn told(x: Spelt) -> Given
     ensures { λ r. ⌜ r ≡ givenIn x ⌝ }
 {
-    match x {
-        Spelt::Absent => Given::Absent,
-        Spelt::At(_, size) => Given::Bytes(size),
+    if x.from == 0 {
+        return Given::Absent;
     }
+    Given::Bytes(x.size)
 }
 
 fn said(name: Given, address: Given) -> Linked

@@ -7,7 +7,7 @@ ghost use lib.Dec.{eqb};
 ghost use lib.ListN.{length, take, drop};
 ghost use Rattle.links.specs.Link.{nameByte};
 ghost use Rattle.links.specs.Reading.{Seen, begun, naming, value, opening, fed, finish, fieldOf};
-ghost use Rattle.links.specs.Places.{ScannedAs, Shows, TurnedAs, answerAt, namedAt, runs, closedAt, keeps, kept, isHeld, wholeOf};
+ghost use Rattle.links.specs.Places.{ScannedAs, Shows, TurnedAs, answerAt, namedAt, runs, closedAt, keeps, kept, nowhere, wholeOf};
 use crate::kinds;
 use crate::values;
 use values::Value;
@@ -20,10 +20,10 @@ pub enum Field {
     Other,
 }
 
-// Where a value stands, and how many bytes it spells.
-pub enum Spelt {
-    Absent,
-    At(usize, usize),
+// Where a value stands, and how many bytes it spells. No value stands at 0, which says that there is none.
+pub struct Spelt {
+    pub from: usize,
+    pub size: usize,
 }
 
 // What the pairs so far have said; the hash by its first digit.
@@ -121,7 +121,7 @@ fn hash(text: &[u8], from: usize, pass: Pass) -> Turn
 
 // The value of any other name.
 fn value(text: &[u8], from: usize, field: Field, pass: Pass) -> Turn
-    requires { ⌜ from ≤ length (now text) ⌝ }
+    requires { ⌜ (0 < from) × (from ≤ length (now text)) ⌝ }
     ensures { λ r. ⌜ ((n : Seen) → Shows (now (text .entry)) pass n → (field ≡ Field.Hash → ⊥) → TurnedAs (now (text .entry)) (answerAt (now (text .entry)) from n (value field [])) from r) ⌝ }
 {
     match values::spelt(text, from) {
@@ -146,15 +146,15 @@ fn closed(text: &[u8], at: usize, pass: Pass) -> Turn
 
 // After the last pair, at the end of a text of `count` bytes.
 fn whole(pass: Pass, count: usize) -> Scanned
-    ensures { λ r. ⌜ r ≡ wholeOf (pass .hash) pass count ⌝ }
+    ensures { λ r. ⌜ r ≡ wholeOf pass count ⌝ }
 {
     let hash = pass.hash;
     let name = pass.name;
     let address = pass.address;
-    match hash {
-        Spelt::At(first, _) => Scanned::Found(first, name, address),
-        Spelt::Absent => broken(count),
+    if hash.from == 0 {
+        return broken(count);
     }
+    Scanned::Found(hash.from, name, address)
 }
 
 fn field_of(text: &[u8], at: usize, stop: usize) -> Field
@@ -196,31 +196,19 @@ fn if_ends(b: u8, last: u8, field: Field) -> Field
 fn has(field: Field, pass: Pass) -> bool
     ensures { λ r. ⌜ r ≡ keeps field pass ⌝ }
 {
-    let hash = pass.hash;
-    let name = pass.name;
-    let address = pass.address;
     match field {
-        Field::Hash => is_held(hash),
-        Field::Name => is_held(name),
-        Field::Address => is_held(address),
+        Field::Hash => pass.hash.from != 0,
+        Field::Name => pass.name.from != 0,
+        Field::Address => pass.address.from != 0,
         Field::Other => false,
-    }
-}
-
-fn is_held(x: Spelt) -> bool
-    ensures { λ r. ⌜ r ≡ isHeld x ⌝ }
-{
-    match x {
-        Spelt::Absent => false,
-        Spelt::At(_, _) => true,
     }
 }
 
 // What is said with one value more.
 fn with(field: Field, from: usize, size: usize, pass: Pass) -> Pass
-    ensures { λ r. ⌜ r ≡ kept field (Spelt.At from size) pass ⌝ }
+    ensures { λ r. ⌜ r ≡ kept field (record { from = from; size = size }) pass ⌝ }
 {
-    let value = Spelt::At(from, size);
+    let value = Spelt { from, size };
     let hash = pass.hash;
     let name = pass.name;
     let address = pass.address;
@@ -245,12 +233,13 @@ fn with(field: Field, from: usize, size: usize, pass: Pass) -> Pass
 }
 
 fn nothing() -> Pass
-    ensures { λ r. ⌜ r ≡ record { hash = Spelt.Absent; name = Spelt.Absent; address = Spelt.Absent } ⌝ }
+    ensures { λ r. ⌜ r ≡ record { hash = nowhere; name = nowhere; address = nowhere } ⌝ }
 {
+    let none = Spelt { from: 0, size: 0 };
     Pass {
-        hash: Spelt::Absent,
-        name: Spelt::Absent,
-        address: Spelt::Absent,
+        hash: none,
+        name: none,
+        address: none,
     }
 }
 

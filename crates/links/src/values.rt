@@ -2,12 +2,11 @@
 ghost use mathlib.Core.Path.{_≡_};
 ghost use mathlib.Core.List.{List};
 ghost use Prim.Native.Nat.{ℕ, _+_, _*_, _<_, _≤_};
-ghost use lib.Dec.{ltb};
 ghost use lib.ListN.{length, getD};
 ghost use lib.Seq.{sets};
 ghost use Rattle.links.specs.Link.{Said};
 ghost use Rattle.links.specs.Reading.{nibble, storedIn};
-ghost use Rattle.links.specs.Places.{Valued, SpeltAt, HashAt, Holds, sizeIn};
+ghost use Rattle.links.specs.Places.{Valued, SpeltAt, HashAt, Holds};
 use crate::kinds;
 use crate::scan::Spelt;
 
@@ -23,46 +22,34 @@ pub fn spelt(text: &[u8], from: usize) -> Value
     ensures { λ r. ⌜ Valued (now (text .entry)) from r ⌝ }
 {
     let mut at = from;
-    let mut size = 0;
+    let mut escapes = 0;
     while at < text.len() {
-        let b = text[at];
-        if b == b'%' {
-            let count = kinds::digits(text, at + 1, 2);
-            if count < 2 {
-                return broken(at + 1 + count);
-            }
-            at += 3;
-            size += 1;
+        if kinds::is_plain(text[at]) {
+            at += 1;
             continue;
         }
-        if !kinds::is_plain(b) {
-            return to(at, size);
+        if text[at] != b'%' {
+            return to(at, at - from - 2 * escapes);
         }
-        at += 1;
-        size += 1;
+        let count = kinds::escape_digits(text, at + 1);
+        if count < 2 {
+            return broken(at + 1 + count);
+        }
+        at += 3;
+        escapes += 1;
     }
-    to(at, size)
-}
-
-// Whether a value spells more bytes than there is room for.
-pub fn too_long(x: Spelt, room: usize) -> bool
-    ensures { λ r. ⌜ r ≡ ltb room (sizeIn x) ⌝ }
-{
-    match x {
-        Spelt::Absent => false,
-        Spelt::At(_, size) => room < size,
-    }
+    to(at, at - from - 2 * escapes)
 }
 
 // Stores the bytes that a value spells at the front of output that has room for them.
 pub fn put(text: &[u8], x: Spelt, out: &mut [u8])
-    requires { ⌜ ((v : Said) × Holds (SpeltAt (now text)) x v × (sizeIn x ≤ length (now out))) ⌝ }
+    requires { ⌜ ((v : Said) × Holds (SpeltAt (now text)) x v × (x .size ≤ length (now out))) ⌝ }
     ensures { λ _. ⌜ ((v : Said) → Holds (SpeltAt (now (text .entry))) x v → now (out .exit) ≡ storedIn v (now (out .entry))) ⌝ }
 {
-    match x {
-        Spelt::Absent => {}
-        Spelt::At(from, size) => decode(text, from, size, out),
+    if x.from == 0 {
+        return;
     }
+    decode(text, x.from, x.size, out);
 }
 
 // The bytes of a hash whose first digit stands at a place.
@@ -103,7 +90,7 @@ fn pair(text: &[u8], at: usize) -> u8
     requires { ⌜ (at + 1 < length (now text)) × (nibble (getD (now text) at 0) < 16) × (nibble (getD (now text) (at + 1) 0) < 16) ⌝ }
     ensures { λ r. ⌜ r ≡ 16 * nibble (getD (now (text .entry)) at 0) + nibble (getD (now (text .entry)) (at + 1) 0) ⌝ }
 {
-    16 * kinds::nibble(text[at]) + kinds::nibble(text[at + 1])
+    16 * kinds::value(text[at]) + kinds::value(text[at + 1])
 }
 
 fn to(at: usize, size: usize) -> Value

@@ -12,7 +12,7 @@ closed-requires : tie.Need-closed-requires
 closed-requires c κs = value-within (c .before .before .before .before .before .before .args .text .now) (c .before .before .before .before .before .before .args .from) (c .before .before .before .before .before .before .args .pass) (c .before .before .before .before .before .before .args .field) _ _ (subst (Valued (c .before .before .before .before .before .before .args .text .now) (c .before .before .before .before .before .before .args .from)) (c .before .before .to .given .1) (c .before .before .before .before .spelt .ensures))
 
 returns : tie.Need-returns
-returns c = λ n w g. turned-as (c .before .before .before .before .before .before .before .args .text .now) (answerAt (c .before .before .before .before .before .before .before .args .text .now) (c .before .before .before .before .before .before .before .args .from) n (value (c .before .before .before .before .before .before .before .args .field) [])) (c .before .before .before .before .before .before .before .args .from) _ (c .closed .ensures ∙ ap (closedAt (c .before .before .before .before .before .before .before .args .text .now) (c .before .before .before .to .given .0 .0)) (c .before .with .ensures)) (value-closed (c .before .before .before .before .before .before .before .args .text .now) (c .before .before .before .before .before .before .before .args .from) (c .before .before .before .before .before .before .before .args .pass) (c .before .before .before .before .before .before .before .args .field) _ _ (subst (Valued (c .before .before .before .before .before .before .before .args .text .now) (c .before .before .before .before .before .before .before .args .from)) (c .before .before .before .to .given .1) (c .before .before .before .before .before .spelt .ensures)) n w g)
+returns c = λ n w g. turned-as (c .before .before .before .before .before .before .before .args .text .now) (answerAt (c .before .before .before .before .before .before .before .args .text .now) (c .before .before .before .before .before .before .before .args .from) n (value (c .before .before .before .before .before .before .before .args .field) [])) (c .before .before .before .before .before .before .before .args .from) _ (c .closed .ensures ∙ ap (closedAt (c .before .before .before .before .before .before .before .args .text .now) (c .before .before .before .to .given .0 .0)) (c .before .with .ensures)) (value-closed (c .before .before .before .before .before .before .before .args .text .now) (c .before .before .before .before .before .before .before .args .from) (c .before .before .before .before .before .before .before .args .pass) (c .before .before .before .before .before .before .before .args .field) (c .before .before .before .before .before .before .before .pre .0) _ _ (subst (Valued (c .before .before .before .before .before .before .before .args .text .now) (c .before .before .before .before .before .before .before .args .from)) (c .before .before .before .to .given .1) (c .before .before .before .before .before .spelt .ensures)) n w g)
 
 returns-2 : tie.Need-returns-2
 returns-2 c = λ n w g. turned-as (c .before .before .before .before .before .before .args .text .now) (answerAt (c .before .before .before .before .before .before .args .text .now) (c .before .before .before .before .before .before .args .from) n (value (c .before .before .before .before .before .before .args .field) [])) (c .before .before .before .before .before .before .args .from) _ (c .off .ensures) ((subst (Valued (c .before .before .before .before .before .before .args .text .now) (c .before .before .before .before .before .before .args .from)) (c .before .before .place .given .1) (c .before .before .before .before .spelt .ensures)) n (c .before .before .before .before .before .before .args .field) [])

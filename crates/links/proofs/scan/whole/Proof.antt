@@ -1,16 +1,16 @@
 -- `links::scan::whole` meets its contract. Assumes nothing.
-use mathlib.Core.Path.{sym, ap, _∙_}
-use Rattle.links.specs.Places.{wholeOf}
-use Rattle.links.specs.declared.scan.Spelt.{Spelt}
+use mathlib.Core.Path.{refl}
+use borrow.Author.Tests.{eq-eqb, ne-eqb}
+use Rattle.refusal.proofs.Cases.{pick-yes, pick-no}
 use borrow.Author.Needs.{needs}
 use Rattle.links.proofs.scan.whole.Statement.{statement}
 use Rattle.links.proofs.scan.whole.Tie as tie
 
 returns : tie.Need-returns
-returns c = sym (ap (λ (v : Spelt). wholeOf v (c .before .before .before .args .pass) (c .before .before .before .args .count)) (c .before .hash .given .1))
+returns c = pick-yes _ _ (eq-eqb _ 0 (c .before .if1 .taken)) (c .broken .ensures)
 
 returns-2 : tie.Need-returns-2
-returns-2 c = c .broken .ensures ∙ sym (ap (λ (v : Spelt). wholeOf v (c .before .before .before .args .pass) (c .before .before .before .args .count)) (c .before .enum-told .given .1))
+returns-2 c = pick-no _ _ (ne-eqb _ 0 (c .if1 .left)) refl
 
 pub whole-spec : {M : Type 1} → statement M
-whole-spec = tie.close (tie.spec (λ c. search needs) (λ c. search needs) (λ c κs. search needs) returns returns-2)
+whole-spec = tie.close (tie.spec (λ c κs. search needs) returns returns-2)

@@ -2,22 +2,21 @@
 use mathlib.Core.Path.{sym, ap}
 use Rattle.links.specs.Places.{kept}
 use Rattle.links.specs.declared.scan.Field.{Field}
-use Rattle.links.specs.declared.scan.Spelt.the-variants.{At}
 use borrow.Author.Needs.{needs}
 use Rattle.links.proofs.scan.with.Statement.{statement}
 use Rattle.links.proofs.scan.with.Tie as tie
 
 returns : tie.Need-returns
-returns c = sym (ap (λ (f : Field). kept f (At (c .before .before .args .from) (c .before .before .args .size)) (c .before .before .args .pass)) (c .enum-told .given .1))
+returns c = sym (ap (λ (f : Field). kept f (record { from = c .before .before .before .before .before .args .from; size = c .before .before .before .before .before .args .size }) (c .before .before .before .before .before .args .pass)) (c .enum-told .given .1))
 
 returns-2 : tie.Need-returns-2
-returns-2 c = sym (ap (λ (f : Field). kept f (At (c .before .before .args .from) (c .before .before .args .size)) (c .before .before .args .pass)) (c .enum-told2 .given .1))
+returns-2 c = sym (ap (λ (f : Field). kept f (record { from = c .before .before .before .before .before .args .from; size = c .before .before .before .before .before .args .size }) (c .before .before .before .before .before .args .pass)) (c .enum-told2 .given .1))
 
 returns-3 : tie.Need-returns-3
-returns-3 c = sym (ap (λ (f : Field). kept f (At (c .before .before .args .from) (c .before .before .args .size)) (c .before .before .args .pass)) (c .enum-told3 .given .1))
+returns-3 c = sym (ap (λ (f : Field). kept f (record { from = c .before .before .before .before .before .args .from; size = c .before .before .before .before .before .args .size }) (c .before .before .before .before .before .args .pass)) (c .enum-told3 .given .1))
 
 returns-4 : tie.Need-returns-4
-returns-4 c = sym (ap (λ (f : Field). kept f (At (c .before .before .args .from) (c .before .before .args .size)) (c .before .before .args .pass)) (c .enum-told4 .given .1))
+returns-4 c = sym (ap (λ (f : Field). kept f (record { from = c .before .before .before .before .before .args .from; size = c .before .before .before .before .before .args .size }) (c .before .before .before .before .before .args .pass)) (c .enum-told4 .given .1))
 
 pub with-spec : {M : Type 1} → statement M
 with-spec = tie.close (tie.spec (λ c. search needs) (λ c. search needs) (λ c. search needs) (λ c. search needs) returns returns-2 returns-3 returns-4)
