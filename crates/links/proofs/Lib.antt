@@ -16,4 +16,5 @@ pub mod Parting
 pub mod Stopping
 pub mod Faults
 pub mod Back
+pub mod Laws
 pub mod Example
