@@ -15,6 +15,7 @@ pub mod Files
 pub mod Places
 pub mod Paths
 pub mod Sheets
+pub mod Links
 pub mod Rewriting
 pub mod Keeping
 pub mod Reasons

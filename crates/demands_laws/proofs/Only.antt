@@ -4,6 +4,7 @@ use mathlib.Core.Logic.{_⊎_, inl, inr, ⊎-elim}
 use mathlib.Core.List.{List, [], _∷_, _++_, List·Memᴰ·head, List·Memᴰ·tail, Memᴰ·append-left, Memᴰ·append-right, List·Memᴰ as In}
 use Prim.Native.Nat.{ℕ, zero, suc, _+_, _≤_, _<_}
 use native.Mathlib.Omega.{arith}
+use lib.ListN.{length}
 use Rattle.refusal.specs.Paper.{taken, refused, map, then}
 use Rattle.bencode.specs.Value as value
 use Rattle.bencode.specs.Decode.{decode}
@@ -24,12 +25,16 @@ use Rattle.torrent_contents.specs.Pieces.{hashIn, hashOf, checkOf as pieceOf}
 use Rattle.torrent_contents.specs.Files as file
 use Rattle.sheets.specs.Reading.{of, findOf}
 use Rattle.sheets.specs.declared.Source.the-variants.{Torrent as OfTorrent, Sheet as OfSheet}
+use Rattle.links.specs.Reading.{leftOf}
+use Rattle.links.specs.Writing.{writtenOf, writeOf}
+use Rattle.links.proofs.Laws.{Unread, left-refused}
 use Rattle.refusal.proofs.Cases.{same-or}
 use Rattle.demands_laws.proofs.Refusals.{map-refused, then-refused}
 use Rattle.demands_laws.specs.Causes.{NoReplyText, Unchecked, no-such-piece, long-piece, wrong-length, Unsized, broken, over}
 use Rattle.demands_laws.proofs.Contents.{in-hash, check-exactly, file-alike}
 use Rattle.demands_laws.proofs.Replies.{peer-alike, reply-law, reply-ours}
 use Rattle.demands_laws.proofs.Sheets.{of-torrent, sheet-only}
+use Rattle.demands_laws.proofs.Links.{Over, NoRoom, written-refused, write-refused, size-refused}
 
 abbrev ofBencode : List ℕ
 ofBencode = 1 ∷ 2 ∷ 3 ∷ 4 ∷ 5 ∷ 6 ∷ 7 ∷ 8 ∷ []
@@ -81,6 +86,30 @@ sheet t s k p e = ⊎-elim
     (λ (h : (1 ≤ k) × (k ≤ 8)). Memᴰ·append-left (10 ∷ 15 ∷ []) (among-bencode k (h .0) (h .1)))
     (λ (h : (k ≡ 10) ⊎ (k ≡ 15)). Memᴰ·append-right ofBencode (⊎-elim (λ (f : k ≡ 10). List·Memᴰ·head f) (λ (f : k ≡ 15). List·Memᴰ·tail (List·Memᴰ·head f)) h))
     (sheet-only t s k p e)
+
+-- of a link that is read, and of a torrent whose link is written
+unread : (s h d t : List ℕ) (k p : ℕ) → Unread s h d t k p → In k (8 ∷ 19 ∷ 37 ∷ [])
+unread s h d t k p (inl x) = List·Memᴰ·head (x .0)
+unread s h d t k p (inr (inl x)) = List·Memᴰ·tail (List·Memᴰ·head (x .0))
+unread s h d t k p (inr (inr x)) = List·Memᴰ·tail (List·Memᴰ·tail (List·Memᴰ·head (x .0)))
+
+pub link : (s h d t : List ℕ) (k p : ℕ) → leftOf s h d t .answer ≡ refused k p → In k (8 ∷ 19 ∷ 37 ∷ [])
+link s h d t k p e = unread s h d t k p (left-refused s h d t k p .0 e)
+
+link-text : (s : List ℕ) (k p : ℕ) → writtenOf s ≡ refused k p → In k ofTorrent
+link-text s k p e = ⊎-elim
+    (λ (h : readOf s ≡ refused k p). torrent s k p h)
+    (λ (h : (k ≡ 8) × Over s × (p ≡ 0)). Memᴰ·append-left (10 ∷ 11 ∷ 12 ∷ 13 ∷ []) (among-bencode k (omega (arith, h .0)) (omega (arith, h .0))))
+    (written-refused s k p .0 e)
+
+pub link-writer : (s o : List ℕ) (k p : ℕ) → writeOf s o .answer ≡ refused k p → In k (37 ∷ ofTorrent)
+link-writer s o k p e = ⊎-elim
+    (λ (h : writtenOf s ≡ refused k p). List·Memᴰ·tail (link-text s k p h))
+    (λ (h : NoRoom o (writtenOf s) k p). List·Memᴰ·head (h .0))
+    (write-refused s o k p .0 e)
+
+pub link-size : (s : List ℕ) (k p : ℕ) → map length (writtenOf s) ≡ refused k p → In k ofTorrent
+link-size s k p e = link-text s k p (size-refused s k p .0 e)
 
 -- as another call, or 31
 beyond-or : (ns : List ℕ) (k : ℕ) → ((k ≡ 31 → ⊥) → In k ns) → In k (31 ∷ ns)
