@@ -30,7 +30,7 @@ use Rattle.bencode_walk.proofs.Standing as standing
 use Rattle.bencode_walk.proofs.Standing.{fine-stands}
 use Rattle.bencode_walk.specs.Has.{Has}
 use Rattle.bencode_walk.specs.Lookup.{under, lookup}
-use Rattle.bencode_writer.specs.Put.{left, putOf, paper as putPaper}
+use Rattle.bencode_writer.specs.Put.{Left as Putting, left, putOf, paper as putPaper}
 use Rattle.bencode_writer.specs.declared.Put.{Put}
 use Rattle.hash_sha1.specs.Sha1.{sha1}
 use Rattle.hash_sha1.specs.Digest.{paper as hashPaper, Left as Hashing}
@@ -93,9 +93,16 @@ use Rattle.sheets.specs.Sheet.{IsSheet, addressOf}
 use Rattle.sheets.specs.Reading.{Answered, of, told, sourceIn, chosen, partIn, findOf, paper as addressPaper}
 use Rattle.sheets.specs.declared.Found as address
 use Rattle.sheets.specs.declared.Source.the-variants.{Torrent as OfTorrent, Sheet as OfSheet}
-use Rattle.demands_laws.specs.Texts.{Encodes, noFile, IsPiece, Agrees}
+use Rattle.links.specs.Link.{Meaning, IsLink}
+use Rattle.links.specs.Reading.{Sizes, sizeOf, givenOf, leftOf, Left as Linking, paper as linkPaper}
+use Rattle.links.specs.Writing.{textOf, writeOf, sizePaper as linkSizePaper}
+use Rattle.links.specs.declared.Given.the-variants as given
+use Rattle.links.specs.declared.Linked.{Linked}
+use Rattle.links.specs.declared.Sized as link-size
+use Rattle.links.proofs.Laws as link-laws
+use Rattle.demands_laws.specs.Texts.{Encodes, noFile, IsPiece, Agrees, linkOf, bytesIn}
 use Rattle.demands_laws.specs.Places.{PartUnder, FilesPlaced, ReplyPlaced}
-use Rattle.demands_laws.proofs.Refusals.{same-answer, some-answer}
+use Rattle.demands_laws.proofs.Refusals.{same-answer, left-answer, some-answer}
 use Rattle.demands_laws.proofs.Texts as texts
 use Rattle.demands_laws.proofs.Texts.{fine}
 use Rattle.demands_laws.proofs.Places as places
@@ -106,6 +113,7 @@ use Rattle.demands_laws.proofs.Pieces as pieces
 use Rattle.demands_laws.proofs.Blocks as blocks-laws
 use Rattle.demands_laws.proofs.Paths as paths
 use Rattle.demands_laws.proofs.Sheets as sheets-laws
+use Rattle.demands_laws.proofs.Links as links-laws
 use Rattle.demands.specs.One.{Lent, Ref, now, before, after}
 use Rattle.demands.specs.One.Alike.{Frames, as-framed, asked}
 use Rattle.demands.specs.One.Doors.Bencode as bencode
@@ -116,6 +124,7 @@ use Rattle.demands.specs.One.Doors.Authoring as authoring
 use Rattle.demands.specs.One.Doors.Tracker as tracker
 use Rattle.demands.specs.One.Doors.TrackerWriting as replies
 use Rattle.demands.specs.One.Doors.Sheets as sheets
+use Rattle.demands.specs.One.Doors.Links as links
 use Rattle.demands.specs.One.Doors.Blocks as blocks
 use Rattle.demands.specs.One.Doors.Wire as wire
 use Rattle.demands.specs.One.Doors.WireWriting as writing
@@ -315,6 +324,68 @@ pub address-said : (torrent sheet : Lent (List ℕ)) (r : Ref (List ℕ)) → sh
 address-said torrent sheet r c v t e i w n j =
     let (p, bs, a, h, b) = sheets-laws.right (before torrent) (before sheet) v t e i w n j in
     (bs, a, c .0 ∙ ap (λ o. bytesAt (chosen (findOf (before torrent) (before sheet) .source) (before torrent) (before sheet)) (partIn o)) h ∙ b)
+
+-- ---- Change request 4: "Read links with these parameters in any order: exactly one xt (`urn:btih:` and the hash), at most one dn and one tr, hex in either case, unknown names skipped. After
+-- `magnet:?` come name=value pairs parted by &; names are one or more letters, digits or dots; values hold bytes 33 to 126 but & and #, and after % come two hex digits. dn and tr are decoded into
+-- lent outputs."
+
+-- of links::read
+module _ (text : Lent (List ℕ)) (r : Linked) (hash name address : Lent (List ℕ)) (c : links.read-ensures text r hash name address) where
+  -- taken exactly when the text, of at most 1,048,576 bytes, is a link that says m, and both outputs have room for what it says
+  pub link-exact : ((x : Sizes) × (linkPaper r ≡ taken x))
+      ↔ ((m : Meaning) × (length (before text) ≤ mostText) × IsLink (before text) m × (sizeOf (m .name) ≤ length (before name)) × (sizeOf (m .address) ≤ length (before address)))
+  link-exact = Iff·trans (some-answer (ap (λ (x : Linking). x .answer) c)) (links-laws.exact (before text) (before hash) (before name) (before address))
+
+  -- and what is handed back is what the link says: the hash; of name and address that they are absent or how many bytes they have, and those at the front of their
+  -- outputs, which past them stay
+  pub link-fields : (x : Sizes) → linkPaper r ≡ taken x → (m : Meaning) → IsLink (before text) m
+      → (x .name ≡ givenOf (m .name)) × (x .address ≡ givenOf (m .address))
+      × (after hash ≡ m .hash)
+      × (after name ≡ bytesIn (m .name) ++ drop (sizeOf (m .name)) (before name))
+      × (after address ≡ bytesIn (m .address) ++ drop (sizeOf (m .address)) (before address))
+  link-fields x e m i = links-laws.fields (before text) (before hash) (before name) (before address) c x e m i
+
+-- a text says one thing as a link
+pub link-says-one : (s : List ℕ) (m n : Meaning) → IsLink s m → IsLink s n → m ≡ n
+link-says-one = link-laws.one-meaning
+
+-- "Write one from a torrent by BEP 9: xt with 40 lower-case hex digits of the hash, then dn, then tr; bytes outside RFC 3986's unreserved set become % and two capital hex digits."
+-- `linkOf t` is that link, of the torrent that says t
+
+-- of links::write
+module _ (torrent : Lent (List ℕ)) (r : Put) (out : Lent (List ℕ)) (c : links.write-ensures torrent r out) where
+  -- taken exactly when the text is the encoding of a torrent and keeps the limits, the torrent's link has at most 1,048,576 bytes, and there is room for it
+  pub link-write-exact : (q : ℕ) → putPaper r ≡ taken q
+      ↔ ((v : Value) × (t : TorrentSays) × Encodes (before torrent) v × IsTorrent v t × (length (linkOf t) ≤ mostText) × (length (linkOf t) ≤ length (before out)) × (q ≡ length (linkOf t)))
+  link-write-exact q = Iff·trans (left-answer c) (links-laws.write-exact (before torrent) (before out) q)
+
+  module _ (q : ℕ) (e : putPaper r ≡ taken q) (v : Value) (t : TorrentSays) (n : Encodes (before torrent) v) (i : IsTorrent v t) where
+    -- and then the output begins with the link, and past it stays
+    pub link-written : after out ≡ textOf (sha1 (encode (dict (t .info)))) (t .name) (t .announce) ++ drop q (before out)
+    link-written = ap (λ (x : Putting). x .out) c ∙ links-laws.write-left (before torrent) (before out) q (left-answer c .0 e) v t n i .1
+
+    -- "A written link reads back as hash, name and address": of links::read on what links::write wrote of numbers that are bytes, into outputs with room
+    pub link-reads-back : Bytes (before torrent) → (text : Lent (List ℕ)) (l : Linked) (hash name address : Lent (List ℕ)) → links.read-ensures text l hash name address → before text ≡ take q (after out)
+        → length (t .name) ≤ length (before name) → length (t .announce) ≤ length (before address)
+        → (linkPaper l ≡ taken (record { name = given.Bytes (length (t .name)); address = given.Bytes (length (t .announce)) }))
+        × (after hash ≡ sha1 (encode (dict (t .info))))
+        × (after name ≡ t .name ++ drop (length (t .name)) (before name))
+        × (after address ≡ t .announce ++ drop (length (t .announce)) (before address))
+    link-reads-back b text l hash name address d w f g =
+        let o : after out ≡ writeOf (before torrent) (before out) .out = ap (λ (x : Putting). x .out) c in
+        let z = links-laws.reads-back (before torrent) (before out) q (left-answer c .0 e) v t n i b (before hash) (before name) (before address) f g in
+        let y = d ∙ ap (λ (s : List ℕ). leftOf s (before hash) (before name) (before address)) (w ∙ ap (take q) o) ∙ z in
+        (ap (λ (x : Linking). x .answer) y, ap (λ (x : Linking). x .hash) y, ap (λ (x : Linking). x .name) y, ap (λ (x : Linking). x .address) y)
+
+-- of links::size: taken exactly when the text is the encoding of a torrent and keeps the limits, and the torrent's link has at most 1,048,576 bytes
+module _ (torrent : Lent (List ℕ)) (r : link-size.Sized) (c : links.size-ensures torrent r) where
+  pub link-size-exact : (q : ℕ) → linkSizePaper r ≡ taken q
+      ↔ ((v : Value) × (t : TorrentSays) × Encodes (before torrent) v × IsTorrent v t × (length (linkOf t) ≤ mostText) × (q ≡ length (linkOf t)))
+  link-size-exact q = Iff·trans (same-answer c) (links-laws.size-exact (before torrent) q)
+
+  -- and links::write writes so many bytes exactly where there is room for them
+  pub link-sized : (p : Put) (out : Lent (List ℕ)) → links.write-ensures torrent p out → (q : ℕ) → putPaper p ≡ taken q ↔ ((linkSizePaper r ≡ taken q) × (q ≤ length (before out)))
+  link-sized p out d q = rw c (Iff·trans (left-answer d) (links-laws.sized (before torrent) (before out) q))
 
 -- ---- 7. "What is written reads back": "Reading gives the fields back; rewriting a read text that has only those keys [..] gives its bytes."
 

@@ -36,18 +36,22 @@ use Rattle.tracker.specs.declared.Found as peer
 use Rattle.sheets.specs.declared.Found as address
 use Rattle.sheets.specs.declared.Source.the-variants.{Torrent as OfTorrent, Sheet as OfSheet}
 use Rattle.sheets.specs.Reading.{told, about}
+use Rattle.links.specs.Writing.{sizePaper as linkSizePaper}
+use Rattle.links.specs.declared.Sized as link-size
 use Rattle.peer_wire.specs.Frames.{writeOf}
 use Rattle.peer_wire.specs.Handshake.{handshake, zeros}
 use Rattle.peer_wire.specs.Message.{body, encode, keepalive, have, bitfield, request, piece, cancel}
 use Rattle.demands_laws.proofs.Refusals.{same-answer, left-answer}
 use Rattle.demands_laws.proofs.Readers as readers
 use Rattle.demands_laws.proofs.Sheets as sheets-laws
+use Rattle.demands_laws.proofs.Links as links-laws
 use Rattle.demands.specs.One.{Lent, before, after}
 use Rattle.demands.specs.One.Doors.Bencode as bencode
 use Rattle.demands.specs.One.Doors.Metainfo as metainfo
 use Rattle.demands.specs.One.Doors.Contents as contents
 use Rattle.demands.specs.One.Doors.Tracker as tracker
 use Rattle.demands.specs.One.Doors.Sheets as sheets
+use Rattle.demands.specs.One.Doors.Links as links
 use Rattle.demands.specs.One.Doors.Lines as lines
 use Rattle.demands.specs.One.Doors.WireWriting as writing
 use Rattle.demands.specs.One.Inner.Writer as writer
@@ -71,6 +75,9 @@ pub data Reader (text : Lent (List ℕ)) : Type 0 where
   -- the torrent of a sheet's call, and the sheet, which is read once the torrent is taken
   beside-a-sheet : (sheet : Lent (List ℕ)) (r : address.Found) → sheets.find-ensures text sheet r → Reader text
   a-sheet : (torrent : Lent (List ℕ)) (q : Reading) (t : Torrent) → metainfo.read-ensures torrent q → torrentPaper q ≡ taken t → (r : address.Found) → sheets.find-ensures torrent text r → Reader text
+  -- the torrent of a link
+  a-link-written : (r : Put) (out : Lent (List ℕ)) → links.write-ensures text r out → Reader text
+  a-link-sized : (r : link-size.Sized) → links.size-ensures text r → Reader text
 
 -- what each hands back
 abbrev pub Handed : {text : Lent (List ℕ)} → Reader text → Type 0
@@ -84,6 +91,8 @@ Handed (reply r c) = Answer ℕ
 Handed (a-peer n r c) = PeerEntry
 Handed (beside-a-sheet other r c) = Unit {0}
 Handed (a-sheet other q t d e r c) = Unit {0}
+Handed (a-link-written r out c) = ℕ
+Handed (a-link-sized r c) = ℕ
 
 -- its answer; of two texts what it says of this one
 abbrev pub answerOf : {text : Lent (List ℕ)} → (r : Reader text) → Outcome (Handed r)
@@ -97,6 +106,8 @@ answerOf (reply r c) = replyPaper r
 answerOf (a-peer n r c) = peerPaper r
 answerOf (beside-a-sheet other r c) = about OfTorrent (told r)
 answerOf (a-sheet other q t d e r c) = about OfSheet (told r)
+answerOf (a-link-written r out c) = putPaper r
+answerOf (a-link-sized r c) = linkSizePaper r
 
 -- they refuse by 1 to 7 as bencode does
 pub as-decoded : (text : Lent (List ℕ)) (r : Reader text) (k p : ℕ) → k ≤ 7 → answerOf r ≡ refused k p ↔ decode (before text) ≡ refused k p
@@ -110,6 +121,8 @@ as-decoded text (reply r c) k p l = Iff·trans (same-answer c) (readers.reply (b
 as-decoded text (a-peer n r c) k p l = Iff·trans (same-answer c) (readers.peer n (before text) k p l)
 as-decoded text (beside-a-sheet other r c) k p l = Iff·trans (same-answer (ap (about OfTorrent) c)) (sheets-laws.torrent-read (before text) (before other) k p l)
 as-decoded text (a-sheet other q t d e r c) k p l = Iff·trans (same-answer (ap (about OfSheet) c)) (sheets-laws.sheet-read (before other) (before text) t (sym d ∙ e) k p l)
+as-decoded text (a-link-written r out c) k p l = Iff·trans (left-answer c) (links-laws.write-read (before text) (before out) k p l)
+as-decoded text (a-link-sized r c) k p l = Iff·trans (same-answer c) (links-laws.size-read (before text) k p l)
 
 -- ---- calls that write a frame
 

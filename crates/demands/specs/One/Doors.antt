@@ -8,6 +8,7 @@ pub mod Lines
 pub mod Tracker
 pub mod TrackerWriting
 pub mod Sheets
+pub mod Links
 pub mod Blocks
 pub mod Wire
 pub mod WireWriting

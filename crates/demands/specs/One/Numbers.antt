@@ -1,8 +1,8 @@
 -- Statement 4 of demand 1: "Given exactly when". Each number of document 01's table in its order: under the table's line, call by call, that the number
 -- is given at a place exactly when its cause holds there, by every answer r that the contract of the call permits. A cause says that the checks before it are
 -- passed. The causes: bencode_laws/specs/Causes (1 to 7), torrent_laws/specs/Causes and tracker/specs/Causes (10 to 15), torrent_blocks/specs/Covers,
--- sheets/specs/Causes (10 and 15 of a sheet), peer_wire/specs/Causes (20 to 23, wait), torrent_authoring/specs/Rules and tracker/specs/Faults (the writers), yard_laws/specs/Causes and Damage (the yard's
--- words), and demands_laws/specs/Causes. Of the yard r is the number that C gets: `Permits t c r z` is the contract of the call c on the tables t, and `Made lent h
+-- sheets/specs/Causes (10 and 15 of a sheet), links/specs/Causes (19), peer_wire/specs/Causes (20 to 23, wait), torrent_authoring/specs/Rules and tracker/specs/Faults (the writers),
+-- yard_laws/specs/Causes and Damage (the yard's words), and demands_laws/specs/Causes. Of the yard r is the number that C gets: `Permits t c r z` is the contract of the call c on the tables t, and `Made lent h
 -- (found t)` says that the tables `lent`, started and then called any way, have become these, and h is what happened (Program.antt). Assumes nothing.
 use mathlib.Core.Path.{_≡_, sym, _∙_}
 use mathlib.Core.Logic.{_⊎_, _↔_, Iff·trans}
@@ -16,6 +16,7 @@ use Rattle.refusal.specs.Limits.{mostText, longestPiece, longestFrame}
 use Rattle.bencode_writer.specs.Put.{paper as putPaper}
 use Rattle.bencode_writer.specs.declared.Put.{Put}
 use Rattle.bencode.specs.Value as value
+use Rattle.bencode.specs.Value.{Value}
 use Rattle.bencode.specs.Decode.{decode}
 use Rattle.bencode.specs.Answers.{paper as countPaper}
 use Rattle.bencode.specs.declared.Checked.{Checked}
@@ -52,12 +53,19 @@ use Rattle.sheets.specs.Causes.{NoSheetText}
 use Rattle.sheets.specs.Reading.{of, told}
 use Rattle.sheets.specs.declared.Source.the-variants.{Torrent as OfTorrent, Sheet as OfSheet}
 use Rattle.sheets.specs.declared.Found as address
+use Rattle.links.specs.Link.{Meaning, IsLink}
+use Rattle.links.specs.Causes.{Fault}
+use Rattle.links.specs.Reading.{sizeOf, paper as linkPaper}
+use Rattle.links.specs.Writing.{sizePaper as linkSizePaper}
+use Rattle.links.specs.declared.Linked.{Linked}
+use Rattle.links.specs.declared.Sized as link-size
 use Rattle.torrent_metainfo.specs.Reading.{paper as torrentPaper}
 use Rattle.torrent_metainfo.specs.declared.Reading.{Reading}
 use Rattle.torrent_metainfo.specs.declared.Torrent.{Torrent}
 use Rattle.torrent_authoring.specs.Writing.{paper as sizedPaper}
 use Rattle.torrent_authoring.specs.Rules as rules
 use Rattle.torrent_authoring.specs.declared.Sized.{Sized}
+use Rattle.torrent_laws.specs.Torrent.{TorrentSays, IsTorrent}
 use Rattle.torrent_laws.specs.Causes.{NoTorrentText}
 use Rattle.torrent_laws.proofs.Laws as torrents
 use Rattle.torrent_contents.specs.Files.{foundPaper}
@@ -75,6 +83,7 @@ use Rattle.yard_laws.specs.Run.{fixedBy}
 use Rattle.yard_laws.specs.Damage.{Unfit, Damaged}
 use Rattle.yard_laws.proofs.Damage as damage
 use Rattle.yard_laws.proofs.Keepalive as keepalive
+use Rattle.demands_laws.specs.Texts.{Encodes, linkOf}
 use Rattle.demands_laws.specs.Causes.{Unchecked, Unsized, NoReplyText}
 use Rattle.demands_laws.proofs.Refusals.{given, map-refused, same-answer, left-answer}
 use Rattle.demands_laws.proofs.Readers.{decode-8}
@@ -82,6 +91,7 @@ use Rattle.demands_laws.proofs.Numbered.{number-given, number-never, number-wai
 use Rattle.demands_laws.proofs.Reasons.{At}
 use Rattle.demands_laws.proofs.Replies as replies-laws
 use Rattle.demands_laws.proofs.Sheets as sheets-laws
+use Rattle.demands_laws.proofs.Links as links-laws
 use Rattle.demands_laws.proofs.Contents as contents-laws
 use Rattle.demands_laws.proofs.Digests as digests
 use Rattle.demands_laws.proofs.Frames as framing
@@ -99,6 +109,7 @@ use Rattle.demands.specs.One.Doors.Authoring as authoring
 use Rattle.demands.specs.One.Doors.Tracker as tracker
 use Rattle.demands.specs.One.Doors.TrackerWriting as replies
 use Rattle.demands.specs.One.Doors.Sheets as sheets
+use Rattle.demands.specs.One.Doors.Links as links
 use Rattle.demands.specs.One.Doors.Blocks as blocks
 use Rattle.demands.specs.One.Doors.Wire as wire
 use Rattle.demands.specs.One.Doors.Sha1 as sha1
@@ -110,8 +121,8 @@ yard-given lent h t m c r z e number a b = number-given (permits-step t c r z e 
 
 -- ---- calls that refuse as another does: each number below is then given as by that one
 -- 1 to 7 are said of all of them at once: `answerOf r` is the answer of any call r that reads the text as bencode first (Alike.antt): bencode::check,
--- torrent_metainfo::read and info_hash, torrent_contents::file, piece_hash and check_piece, tracker::read and peer, and sheets::find of each of its texts, of the
--- sheet once the torrent is taken
+-- torrent_metainfo::read and info_hash, torrent_contents::file, piece_hash and check_piece, tracker::read and peer, sheets::find of each of its texts, of the
+-- sheet once the torrent is taken, and links::write and links::size
 
 -- `torrent_metainfo::info_hash` as `torrent_metainfo::read`
 pub info-hash-alike : (text : Lent (List ℕ)) (r : Hashed) (out : Lent (List ℕ)) → metainfo.info-hash-ensures text r out → (q : Reading) → metainfo.read-ensures text q → (k p : ℕ) → hashPaper r ≡ refused k p ↔ torrentPaper q ≡ refused k p
@@ -140,6 +151,14 @@ find-alike torrent sheet r e q f k p = Iff·trans (same-answer e) (Iff·trans (s
 -- and of the sheet only where that takes the torrent
 pub sheet-after : (torrent sheet : Lent (List ℕ)) (r : address.Found) → sheets.find-ensures torrent sheet r → (q : Reading) → metainfo.read-ensures torrent q → (k p : ℕ) → told r ≡ of OfSheet (refused k p) → (t : Torrent) × (torrentPaper q ≡ taken t)
 sheet-after torrent sheet r e q f k p x = let (t, h) = sheets-laws.sheet-after (before torrent) (before sheet) k p (sym e ∙ x) in (t, f ∙ h)
+
+-- `links::write`, of the torrent, as `torrent_metainfo::read`, but for 8 and 37
+pub write-link-alike : (torrent : Lent (List ℕ)) (r : Put) (out : Lent (List ℕ)) → links.write-ensures torrent r out → (q : Reading) → metainfo.read-ensures torrent q → (k p : ℕ) → (k ≡ 8 → ⊥) → (k ≡ 37 → ⊥) → putPaper r ≡ refused k p ↔ torrentPaper q ≡ refused k p
+write-link-alike torrent r out e q f k p h l = Iff·trans (left-answer e) (Iff·trans (links-laws.write-alike (before torrent) (before out) k p h l) (same-answer (sym f)))
+
+-- `links::size` as `torrent_metainfo::read`, but for 8
+pub link-size-alike : (torrent : Lent (List ℕ)) (r : link-size.Sized) → links.size-ensures torrent r → (q : Reading) → metainfo.read-ensures torrent q → (k p : ℕ) → (k ≡ 8 → ⊥) → linkSizePaper r ≡ refused k p ↔ torrentPaper q ≡ refused k p
+link-size-alike torrent r e q f k p h = Iff·trans (same-answer e) (Iff·trans (links-laws.size-alike (before torrent) k p h) (same-answer (sym f)))
 
 -- ---- 1: "the text ends where a byte is needed, or a string's length exceeds the bytes left after its colon; place: the text's length"
 
@@ -228,6 +247,18 @@ torrent-writer-8 announce name pl pieces len r out e p = Iff·trans (left-answer
 -- given by torrent_authoring::size
 pub torrent-size-8 : (announce name : Lent (List ℕ)) (pl : ℕ) (pieces : Lent (List ℕ)) (len : ℕ) (r : Sized) → authoring.size-ensures announce name pl pieces len r → (p : ℕ) → sizedPaper r ≡ refused 8 p ↔ (Unsized (asked announce name pl pieces len) 8 × (p ≡ 0))
 torrent-size-8 announce name pl pieces len r e p = Iff·trans (same-answer e) (writers.torrent-sized (asked announce name pl pieces len) 8 p)
+
+-- given by links::read
+pub link-8 : (text : Lent (List ℕ)) (r : Linked) (hash name address : Lent (List ℕ)) → links.read-ensures text r hash name address → (p : ℕ) → linkPaper r ≡ refused 8 p ↔ ((mostText < length (before text)) × (p ≡ 0))
+link-8 text r hash name address e p = Iff·trans (links-laws.read-answer e) (links-laws.read-8 (before text) (before hash) (before name) (before address) p)
+
+-- given by links::write: the torrent's text is too long, or its link would be
+pub write-link-8 : (torrent : Lent (List ℕ)) (r : Put) (out : Lent (List ℕ)) → links.write-ensures torrent r out → (p : ℕ) → putPaper r ≡ refused 8 p ↔ (((mostText < length (before torrent)) ⊎ ((v : Value) × (t : TorrentSays) × Encodes (before torrent) v × IsTorrent v t × (mostText < length (linkOf t)))) × (p ≡ 0))
+write-link-8 torrent r out e p = Iff·trans (left-answer e) (links-laws.write-8 (before torrent) (before out) p)
+
+-- given by links::size: the same
+pub link-size-8 : (torrent : Lent (List ℕ)) (r : link-size.Sized) → links.size-ensures torrent r → (p : ℕ) → linkSizePaper r ≡ refused 8 p ↔ (((mostText < length (before torrent)) ⊎ ((v : Value) × (t : TorrentSays) × Encodes (before torrent) v × IsTorrent v t × (mostText < length (linkOf t)))) × (p ≡ 0))
+link-size-8 torrent r e p = Iff·trans (same-answer e) (links-laws.size-8 (before torrent) p)
 
 -- ---- 10: "key missing (offset of its dictionary), value of the wrong kind (its offset)"
 
@@ -318,6 +349,12 @@ reply-writer-15 interval peers r out e p = Iff·trans (left-answer e) (writers.r
 -- given by sheets::find, of the sheet, once the torrent is taken
 pub sheet-15 : (torrent sheet : Lent (List ℕ)) (r : address.Found) → sheets.find-ensures torrent sheet r → (q : Reading) → metainfo.read-ensures torrent q → (t : Torrent) → torrentPaper q ≡ taken t → (p : ℕ) → told r ≡ of OfSheet (refused 15 p) ↔ NoSheetText (before sheet) 15 p
 sheet-15 torrent sheet r e q f t h p = Iff·trans (same-answer e) (sheets-laws.sheet-15 (before torrent) (before sheet) t (sym f ∙ h) p)
+
+-- ---- 19: "at the offset of the first byte that breaks the form, at the first letter of a name that comes once too often, or at the text's end if it stops short or xt is missing" (document 02)
+
+-- given by links::read
+pub link-19 : (text : Lent (List ℕ)) (r : Linked) (hash name address : Lent (List ℕ)) → links.read-ensures text r hash name address → (p : ℕ) → linkPaper r ≡ refused 19 p ↔ ((length (before text) ≤ mostText) × Fault (before text) p)
+link-19 text r hash name address e p = Iff·trans (links-laws.read-answer e) (links-laws.read-19 (before text) (before hash) (before name) (before address) p)
 
 -- ---- 20: "frame length over 16,393"
 
@@ -482,6 +519,14 @@ reply-writer-37 interval peers r out e p = Iff·trans (left-answer e) (writers.r
 -- given by torrent_authoring::write
 pub torrent-writer-37 : (announce name : Lent (List ℕ)) (pl : ℕ) (pieces : Lent (List ℕ)) (len : ℕ) (r : Put) (out : Lent (List ℕ)) → authoring.write-ensures announce name pl pieces len r out → (p : ℕ) → putPaper r ≡ refused 37 p ↔ (rules.NotWritten (asked announce name pl pieces len) (before out) 37 × (p ≡ 0))
 torrent-writer-37 announce name pl pieces len r out e p = Iff·trans (left-answer e) (writers.torrent-written (asked announce name pl pieces len) (before out) 37 p)
+
+-- given by links::read: dn has more bytes than the output for the name, or tr than that for the address
+pub link-37 : (text : Lent (List ℕ)) (r : Linked) (hash name address : Lent (List ℕ)) → links.read-ensures text r hash name address → (p : ℕ) → linkPaper r ≡ refused 37 p ↔ (((m : Meaning) × (length (before text) ≤ mostText) × IsLink (before text) m × ((length (before name) < sizeOf (m .name)) ⊎ (length (before address) < sizeOf (m .address)))) × (p ≡ 0))
+link-37 text r hash name address e p = Iff·trans (links-laws.read-answer e) (links-laws.read-37 (before text) (before hash) (before name) (before address) p)
+
+-- given by links::write
+pub write-link-37 : (torrent : Lent (List ℕ)) (r : Put) (out : Lent (List ℕ)) → links.write-ensures torrent r out → (p : ℕ) → putPaper r ≡ refused 37 p ↔ (((v : Value) × (t : TorrentSays) × Encodes (before torrent) v × IsTorrent v t × (length (linkOf t) ≤ mostText) × (length (before out) < length (linkOf t))) × (p ≡ 0))
+write-link-37 torrent r out e p = Iff·trans (left-answer e) (links-laws.write-37 (before torrent) (before out) p)
 
 -- ---- 38: "yard sizes don't fit"
 

@@ -34,6 +34,10 @@ use Rattle.tracker.specs.declared.Found as peer
 use Rattle.sheets.specs.Reading.{of, told}
 use Rattle.sheets.specs.declared.Source.the-variants.{Torrent as OfTorrent, Sheet as OfSheet}
 use Rattle.sheets.specs.declared.Found as address
+use Rattle.links.specs.Reading.{paper as linkPaper}
+use Rattle.links.specs.Writing.{sizePaper as linkSizePaper}
+use Rattle.links.specs.declared.Linked.{Linked}
+use Rattle.links.specs.declared.Sized as link-size
 use Rattle.torrent_metainfo.specs.Reading.{paper as torrentPaper}
 use Rattle.torrent_metainfo.specs.declared.Reading.{Reading}
 use Rattle.torrent_authoring.specs.Writing.{paper as sizedPaper}
@@ -51,6 +55,7 @@ use Rattle.demands_laws.proofs.Numbered.{number-refuses}
 use Rattle.demands_laws.proofs.Contents as contents-laws
 use Rattle.demands_laws.proofs.Writers as writers
 use Rattle.demands_laws.proofs.Digests as digests
+use Rattle.demands_laws.proofs.Links as links-laws
 use Rattle.demands_laws.proofs.Only as only
 use Rattle.demands_laws.proofs.Runs as runs
 use Rattle.demands.specs.Program.{Tables, found, Permits, Made, permits-step, made-run}
@@ -63,6 +68,7 @@ use Rattle.demands.specs.One.Doors.Authoring as authoring
 use Rattle.demands.specs.One.Doors.Tracker as tracker
 use Rattle.demands.specs.One.Doors.TrackerWriting as replies
 use Rattle.demands.specs.One.Doors.Sheets as sheets
+use Rattle.demands.specs.One.Doors.Links as links
 use Rattle.demands.specs.One.Doors.Blocks as blocks
 use Rattle.demands.specs.One.Doors.Wire as wire
 use Rattle.demands.specs.One.Doors.Sha1 as sha1
@@ -126,6 +132,20 @@ pub find-no-other : (torrent sheet : Lent (List ℕ)) (r : address.Found) → sh
     → (told r ≡ of OfTorrent (refused k p) → In k (1 ∷ 2 ∷ 3 ∷ 4 ∷ 5 ∷ 6 ∷ 7 ∷ 8 ∷ 10 ∷ 11 ∷ 12 ∷ 13 ∷ []))
     × (told r ≡ of OfSheet (refused k p) → In k (1 ∷ 2 ∷ 3 ∷ 4 ∷ 5 ∷ 6 ∷ 7 ∷ 8 ∷ 10 ∷ 15 ∷ []))
 find-no-other torrent sheet r e k p = (λ x. only.torrent-beside (before torrent) (before sheet) k p (sym e ∙ x), λ x. only.sheet (before torrent) (before sheet) k p (sym e ∙ x))
+
+-- ---- links: "8, then 19 [..]; then 37, reading or writing", and of a torrent whose link is written the torrent's own
+
+-- of links::read
+pub link-no-other : (text : Lent (List ℕ)) (r : Linked) (hash name address : Lent (List ℕ)) → links.read-ensures text r hash name address → (k p : ℕ) → linkPaper r ≡ refused k p → In k (8 ∷ 19 ∷ 37 ∷ [])
+link-no-other text r hash name address e k p x = only.link (before text) (before hash) (before name) (before address) k p (links-laws.read-answer e .0 x)
+
+-- of links::write
+pub write-link-no-other : (torrent : Lent (List ℕ)) (r : Put) (out : Lent (List ℕ)) → links.write-ensures torrent r out → (k p : ℕ) → putPaper r ≡ refused k p → In k (37 ∷ 1 ∷ 2 ∷ 3 ∷ 4 ∷ 5 ∷ 6 ∷ 7 ∷ 8 ∷ 10 ∷ 11 ∷ 12 ∷ 13 ∷ [])
+write-link-no-other torrent r out e k p x = only.link-writer (before torrent) (before out) k p (left-answer e .0 x)
+
+-- of links::size
+pub link-size-no-other : (torrent : Lent (List ℕ)) (r : link-size.Sized) → links.size-ensures torrent r → (k p : ℕ) → linkSizePaper r ≡ refused k p → In k (1 ∷ 2 ∷ 3 ∷ 4 ∷ 5 ∷ 6 ∷ 7 ∷ 8 ∷ 10 ∷ 11 ∷ 12 ∷ 13 ∷ [])
+link-size-no-other torrent r e k p x = only.link-size (before torrent) k p (sym e ∙ x)
 
 -- ---- digests: "piece to hash over 16,777,216"
 
