@@ -14,7 +14,7 @@ ROOT = Path(__file__).parents[2]
 sys.path.insert(0, str(ROOT / "second"))
 
 import replay  # noqa: E402
-from notation import LONGEST_SHOWN, to_hex  # noqa: E402
+from notation import LONGEST_SHOWN, show, to_hex  # noqa: E402
 
 ANSWERS = replay.Replay()
 
@@ -306,6 +306,42 @@ def sheets():
     return found + [(word, f"{asked} 78") for word, asked in calls_of("address", NO_TORRENTS)]
 
 
+# ---- links, as they stand: ^ is a space, @X@ the hash's pair, @A@ 39 digits
+
+HASHED = "xt=urn:btih:0123456789abcdefABCDEF99887766554433abcd"
+LINKS = [
+    # the pairs in any order, empty values, escapes of both cases, other names
+    "magnet:?@X@ magnet:?@X@&dn=week%207&tr=http%3A%2F%2Fyard%2fann magnet:?tr=u&a=b&dn=n&@X@&a=%41 magnet:?dn=&@X@&tr= magnet:?@X@&dn=a=b?c+d",
+    "magnet:?@X@&dn=%00%7f%80%fF%Ff&tr=%25%26 magnet:?DN=a&xt.1=b&@X@&..=&..=&dnx=c&x.pe=1.2.3.4:5",
+    # the prefix, a name, a value, an escape and the hash cut short or with another byte
+    "magnet magnet:? magnet:@X@ Magnet:?@X@ magnet:?& magnet:?@X@& magnet:?@X@&&dn=a magnet:?=a magnet:?a magnet:?a&@X@ magnet:?@X@&a-b=c",
+    "magnet:?@X@&dn=a^b magnet:?@X@&dn=a# magnet:?@X@&tr=\x7f magnet:?@X@&tr=\x80 magnet:?@X@&dn=% magnet:?@X@&dn=%4 magnet:?@X@&dn=%4&tr=b magnet:?@X@&tr=%zz magnet:?@X@&a=%4g",
+    "magnet:?xt= magnet:?xt=urn:btih magnet:?xt=urn:btih:0123 magnet:?xt=urn:btih:0123&dn=a magnet:?xt=urn:btmh:1220 magnet:?@X@0 magnet:?xt=urn:btih:@A@g",
+    # a name once too often, and no hash
+    "magnet:?@X@&@X@ magnet:?dn=a&dn=b magnet:?tr=&@X@&tr= magnet:?dn=a&dn magnet:?dn=a&dn.=b magnet:?dn=a&tr=b",
+]
+ROOMS = [(3, 5), (2, 5), (3, 4), (0, 0), (255, 255)]
+LINKED = [
+    (FILE, (68 + 2, 68 + 1, 0, 255)),
+    ("d8:announce0:" + FILE[14:], (68 + 1, 68)),
+    (U + "5:filesld6:lengthi1e4:pathl1:aeee" + NAMED, (200,)),
+    ("d8:announce16:http://yard/ann?4:infod6:lengthi1e4:name6:a-._~z12:piece%20lengthi16384e6:pieces20:(20*A)ee", (100, 99)),
+    ("d8:announce5:%00%20%7F%80%FF4:infod6:lengthi1e4:name4:%C3%A4%25%2B12:piece%20lengthi16384e6:pieces20:(20*A)ee", (95, 94)),
+]
+NOT_LINKED = [*NO_TORRENTS, "d8:announce400000:(400000*%FF)" + FILE[14:]]
+
+
+def links():
+    found = [call("link", word, 20, 20) for word in ("-", "78*1048577")]
+    for word in " ".join(LINKS).replace("@X@", HASHED).replace("@A@", "a" * 39).split(" "):
+        text = word.replace("^", " ").encode("latin-1")
+        found.append((show(text), f"link {text.hex()} 20 20"))
+    sized = f"magnet:?{HASHED}&dn=abc&tr=%41%42%43%44%45".encode()
+    found += [call("link", sized.hex(), *lent) for lent in ROOMS]
+    found += [(text, f"write-link {bytes_of(text)} {room}") for text, rooms in LINKED for room in rooms]
+    return found + [(word, f"{asked} 0") for word, asked in calls_of("write-link", NOT_LINKED)]
+
+
 # ---- blocks
 
 class Asked(list):
@@ -533,7 +569,7 @@ def digests():
 
 def calls():
     """Each call, with what the script says of it before it."""
-    return bencode() + replies() + torrents() + sheets() + blocks() + frames() + writers() + handshakes() + written() + digests()
+    return bencode() + replies() + torrents() + sheets() + links() + blocks() + frames() + writers() + handshakes() + written() + digests()
 
 
 def script():
