@@ -8,6 +8,7 @@ pub mod Pairing
 pub mod Decoding
 pub mod Putting
 pub mod Answers
+pub mod Lining
 pub mod Saying
 pub mod Reached
 pub mod Exact

@@ -3,4 +3,5 @@ pub mod Link
 pub mod Causes
 pub mod Reading
 pub mod Writing
+pub mod Line
 pub mod Places

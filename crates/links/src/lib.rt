@@ -6,21 +6,28 @@ mod values;
 mod writing;
 
 ghost use mathlib.Core.Path.{_≡_};
+ghost use Prim.Native.Nat.{_≤_};
 ghost use lib.ListN.{length};
 ghost use Rattle.refusal.specs.Paper.{taken, map};
-ghost use Rattle.bencode_writer.specs.Put.{left as putLeft};
+ghost use Rattle.bencode_writer.specs.Put.{left as putLeft, Ran};
 ghost use Rattle.bencode_writer.specs.Put.{paper as putPaper};
+ghost use Rattle.torrent_metainfo.specs.Reading.{readOf};
+ghost use Rattle.torrent_lines.specs.Lines.{mostListed};
 ghost use Rattle.links.specs.Link.{Meaning};
 ghost use Rattle.links.specs.Reading.{leftOf, left, paper, decodedTo};
 ghost use Rattle.links.specs.Writing.{writtenOf, writeOf, sizePaper};
+ghost use Rattle.links.specs.Line.{lineOf, mostLine};
 ghost use Rattle.links.specs.Places.{HashAt, SpeltAt, Holds, givenIn};
 use bencode_writer::Put;
+use bencode_writer::end;
+use bencode_writer::literal;
 use refusal::Refusal;
 use refusal::limit;
 use refusal::number;
 use scan::Scanned;
 use scan::Spelt;
 use torrent_metainfo::Reading;
+use torrent_metainfo::Torrent;
 
 // What a link says of a thing: nothing, or some bytes, of which there may be none.
 pub enum Given {
@@ -74,6 +81,15 @@ pub fn size(torrent: &[u8]) -> Sized
     }
 }
 
+// Writes the line that is printed for a text to the front of `out`, which has room for every line: the link of the
+// torrent that the text is, or the refusal. Tells how many bytes it has.
+pub fn line(torrent: &[u8], out: &mut [u8; 393285]) -> usize
+    ensures { λ r. ⌜ Ran (lineOf (now (torrent .entry))) 0 (now (out .entry)) r (now (out .exit)) ⌝ }
+    ensures most { λ r. ⌜ r ≤ mostLine ⌝ }
+{
+    put_line(torrent, out)
+}
+
 // Decodes into the outputs, if both have room.
 fn store(
     text: &[u8],
@@ -118,4 +134,29 @@ fn refused(number: u8, place: usize) -> Linked
     ensures { λ r. ⌜ r ≡ Linked.Refused (record { number = number; place = place }) ⌝ }
 {
     Linked::Refused(refusal::refuse(number, place))
+}
+
+// The same, where the length of `out` is known as a slice's.
+fn put_line(torrent: &[u8], out: &mut [u8]) -> usize
+    requires { ⌜ mostLine ≤ length (now out) ⌝ }
+    ensures { λ r. ⌜ Ran (lineOf (now (torrent .entry))) 0 (now (out .entry)) r (now (out .exit)) ⌝ }
+    ensures most { λ r. ⌜ r ≤ mostLine ⌝ }
+{
+    if torrent_lines::TEXT < torrent.len() {
+        return torrent_lines::refused(number::LONG, 0, out);
+    }
+    match torrent_metainfo::read(torrent) {
+        Reading::Read(t) => put_link(torrent, t, out),
+        Reading::Refused(r) => torrent_lines::refused(r.number, r.place, out),
+    }
+}
+
+// The link of the torrent that a text is, and a line feed.
+fn put_link(torrent: &[u8], t: Torrent, out: &mut [u8]) -> usize
+    requires { ⌜ (readOf (now torrent) ≡ taken t) × (length (now torrent) ≤ mostListed) × (mostLine ≤ length (now out)) ⌝ }
+    ensures { λ r. ⌜ Ran (lineOf (now (torrent .entry))) 0 (now (out .entry)) r (now (out .exit)) ⌝ }
+    ensures most { λ r. ⌜ r ≤ mostLine ⌝ }
+{
+    let at = end(writing::written(torrent, t, out));
+    end(literal(out, at, b"\n"))
 }

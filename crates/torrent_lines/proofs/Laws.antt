@@ -6,7 +6,7 @@ use native.Mathlib.Omega.{arith}
 use lib.ListN.{length}
 use Rattle.refusal.specs.Paper.{taken, refused}
 use Rattle.refusal.specs.Numbers.{room}
-use Rattle.bencode_writer.specs.Put.{paper, left, putOf}
+use Rattle.bencode_writer.specs.Put.{paper, left, putOf, Ran}
 use Rattle.bencode_writer.specs.declared.Put.{Put}
 use Rattle.bencode_writer.proofs.Laws.{Standing}
 use Rattle.bencode_writer.proofs.Laws as put
@@ -27,3 +27,7 @@ module _ (s o : List ℕ) (r : Put) {out : List ℕ} (e : left (paper r) out ≡
 -- what `size` permits
 pub size-determined : (s : List ℕ) (m n : ℕ) → m ≡ length (listingOf s) → n ≡ length (listingOf s) → m ≡ n
 size-determined s m n e f = e ∙ sym f
+
+-- what bytes put as far as the output goes permit, as the line of a refusal is
+pub ran-determined : (w : List ℕ) (at : ℕ) (o : List ℕ) {r q : ℕ} {out out′ : List ℕ} → Ran w at o r out → Ran w at o q out′ → (r ≡ q) × (out ≡ out′)
+ran-determined w at o x y = (x .place ∙ sym (y .place), x .out ∙ sym (y .out))

@@ -46,6 +46,16 @@ pub fn size(text: &[u8]) -> usize
     write(text, &mut scratch)
 }
 
+// Writes the line of a refusal as far as `out` goes, and tells how many bytes it has.
+pub fn refused(number: u8, place: usize, out: &mut [u8]) -> usize
+    ensures { λ r. ⌜ Ran (refusedLine number place) 0 (now (out .entry)) r (now (out .exit)) ⌝ }
+    ensures most { λ r. ⌜ r ≤ mostPrinted ⌝ }
+{
+    let at = ink::literal(out, 0, b"refused ");
+    let to = ink::numbered(out, at, number as u64, b" at ");
+    ink::numbered(out, to, place as u64, b"\n")
+}
+
 // Writes the listing as far as `out` goes, and tells how many bytes it has.
 fn write(text: &[u8], out: &mut [u8]) -> usize
     ensures { λ r. ⌜ Ran (listingOf (now (text .entry))) 0 (now (out .entry)) r (now (out .exit)) ⌝ }
@@ -58,15 +68,6 @@ fn write(text: &[u8], out: &mut [u8]) -> usize
         Reading::Read(t) => torrent(text, t, out),
         Reading::Refused(r) => refused(r.number, r.place, out),
     }
-}
-
-fn refused(number: u8, place: usize, out: &mut [u8]) -> usize
-    ensures { λ r. ⌜ Ran (refusedLine number place) 0 (now (out .entry)) r (now (out .exit)) ⌝ }
-    ensures most { λ r. ⌜ r ≤ mostPrinted ⌝ }
-{
-    let at = ink::literal(out, 0, b"refused ");
-    let to = ink::numbered(out, at, number as u64, b" at ");
-    ink::numbered(out, to, place as u64, b"\n")
 }
 
 // The lines of the torrent that a text is.
