@@ -5,6 +5,7 @@ use crate::addresses;
 use crate::blocks;
 use crate::bytes::write_word;
 use crate::hashes;
+use crate::magnets;
 use crate::replies;
 use crate::report;
 use crate::texts;
@@ -30,7 +31,11 @@ pub const WRITE_FRAME: usize = 21;
 
 const ADDRESS: usize = 22;
 
-const NO_CALL: usize = 23;
+const LINK: usize = 23;
+
+pub const WRITE_LINK: usize = 24;
+
+const NO_CALL: usize = 25;
 
 pub fn each(script: &[u8], space: &mut [u8]) {
     let mut from = 0;
@@ -94,7 +99,7 @@ fn share(call: usize, line: &[u8], brief: bool, space: &[u8], ends: Ends)
 // The number of a call.
 fn number_of(name: &[u8]) -> usize {
     words::which(
-        b"bencode|walk|torrent|file|places|piece|reply|peer|entries|frame|frame-cuts|handshake|handshake-cuts|sha1|sha1-parts|block|byte|size|write-torrent|write-reply|write-handshake|write-frame|address|",
+        b"bencode|walk|torrent|file|places|piece|reply|peer|entries|frame|frame-cuts|handshake|handshake-cuts|sha1|sha1-parts|block|byte|size|write-torrent|write-reply|write-handshake|write-frame|address|link|write-link|",
         name,
     )
 }
@@ -116,6 +121,7 @@ fn answer<'a>(call: usize, line: &[u8], brief: bool, x: &'a [u8], y: &'a [u8], z
         7 => replies::peer(x, words::number(line, 2) as usize),
         8 => replies::entries(x),
         ADDRESS => addresses::address(x, y),
+        LINK => magnets::link(line, x),
         _ => other(call, line, brief, x, y, z),
     }
 }

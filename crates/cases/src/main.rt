@@ -7,6 +7,7 @@ mod blocks;
 mod bytes;
 mod calls;
 mod hashes;
+mod magnets;
 mod replies;
 mod report;
 mod texts;

@@ -40,6 +40,7 @@ pub fn peer(text: &[u8], n: usize) {
 fn packed(x: Packed) {
     let a = x.address;
     report::name(report::NOBODY);
+    report::name(report::SPACE);
     report::digits(a.0);
     report::digits(a.1);
     report::digits(a.2);

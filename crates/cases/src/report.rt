@@ -62,7 +62,7 @@ pub const IN_SHEET: usize = 26;
 // Word k. One text has them all, since each literal costs the check.
 pub fn name(k: usize) {
     nth(
-        b"refused | at |taken | |-|:|\n|/|yes|no|failure |none |wait| keepalive| single | files |compact |list | output changed|s|n|l|d|e|no call|torrent |sheet |",
+        b"refused | at |taken | |-|:|\n|/|yes|no|failure |none|wait| keepalive| single | files |compact |list | output changed|s|n|l|d|e|no call|torrent |sheet |",
         k,
     );
 }

@@ -14,7 +14,7 @@ use torrent_blocks::PieceNumber;
 use torrent_blocks::PieceOffset;
 
 // What the lent output holds before each call.
-const MARK: u8 = 255;
+pub const MARK: u8 = 255;
 
 pub fn ask(call: usize, line: &[u8], brief: bool, x: &[u8], y: &[u8], z: &[u8]) {
     let mut out = [MARK; 1048577];
@@ -42,10 +42,14 @@ fn within(out: &mut [u8], call: usize, line: &[u8], brief: bool, x: &[u8], y: &[
 
 // The word that is the room.
 fn room_at(call: usize) -> usize {
-    if call == calls::WRITE_TORRENT { 6 } else { 3 }
+    match call {
+        calls::WRITE_TORRENT => 6,
+        calls::WRITE_LINK => 2,
+        _ => 3,
+    }
 }
 
-fn least(n: u64, most: usize) -> usize
+pub fn least(n: u64, most: usize) -> usize
     ensures { λ r. ⌜ r ≤ most ⌝ }
 {
     if n < most as u64 { n as usize } else { most }
@@ -56,6 +60,7 @@ fn put(call: usize, line: &[u8], out: &mut [u8], x: &[u8], y: &[u8], z: &[u8]) -
         calls::WRITE_TORRENT => torrent(line, out, x, y, z),
         calls::WRITE_REPLY => tracker::writing::write(out, words::number(line, 1), y),
         calls::WRITE_HANDSHAKE => write::handshake(out, &twenty(x), &twenty(y)),
+        calls::WRITE_LINK => links::write(x, out),
         _ => frame(out, words::word(line, 1, b' '), y),
     }
 }
@@ -92,7 +97,7 @@ fn show(r: Put, out: &[u8], brief: bool) {
     }
 }
 
-fn written(out: &[u8], n: usize, brief: bool) {
+pub fn written(out: &[u8], n: usize, brief: bool) {
     if out.len() < n {
         return;
     }
@@ -104,12 +109,12 @@ fn written(out: &[u8], n: usize, brief: bool) {
     marks(n, out);
 }
 
-fn refused(r: Refusal, out: &[u8]) {
+pub fn refused(r: Refusal, out: &[u8]) {
     report::refused(r);
     marks(0, out);
 }
 
-fn marks(from: usize, out: &[u8]) {
+pub fn marks(from: usize, out: &[u8]) {
     let mut i = from;
     while i < out.len() {
         if out[i] != MARK {
