@@ -17,6 +17,7 @@ WINGS = {
     "torrent": "#2b8a3e",
     "tracker": "#0b8a8a",
     "sheets": "#6f8f1a",
+    "links": "#b4881f",
     "peer": "#a03a8a",
     "yard": "#c0541c",
     "wardrail": "#5b4bb4",
