@@ -13,10 +13,10 @@ use Rattle.refusal.specs.Numbers as no
 use Rattle.refusal.specs.declared.Refusal.{Refusal}
 use Rattle.refusal.specs.Parts.{bytesAt}
 use Rattle.refusal.specs.BigEndian.{bytesOf}
-use Rattle.bencode_writer.specs.Put.{placePast, Ran}
+use Rattle.bencode_writer.specs.Put.{Ran}
 use Rattle.bencode_writer.specs.Put.{Left as PutLeft, left as putLeft, paper as putPaper}
 use Rattle.bencode_writer.specs.declared.Put.{Put}
-use Rattle.bencode_writer.specs.declared.Put.the-variants.{To, Refused as Unput}
+use Rattle.bencode_writer.specs.declared.Put.the-variants.{Refused as Unput}
 use Rattle.bencode_writer.proofs.Laws.{put-done, put-nothing, refusal-keeps}
 use Rattle.refusal.proofs.Cases.{no-way}
 use Rattle.hash_sha1.specs.Sha1.{sha1}

@@ -1,7 +1,6 @@
 -- Values and hashes stored byte by byte. Assumes nothing.
 use mathlib.Core.Path.{_≡_, refl, sym, ap, _∙_, subst}
-use mathlib.Core.Bool.{true, false, cond}
-use mathlib.Core.List.{List, [], _∷_, _++_, append-nil}
+use mathlib.Core.List.{List, _++_, append-nil}
 use Prim.Native.Nat.{ℕ, _+_, _*_, _<_, _≤_}
 use native.Mathlib.Omega.{arith}
 use native.Mathlib.Nat.{zero-add}
@@ -12,11 +11,11 @@ use lib.Seq.{sets, sets-eq, length-sets}
 use Rattle.refusal.proofs.Cases.{cannot}
 use Rattle.bencode_writer.proofs.Stores.{Storing, storing-start, storing-more, storing-end}
 use Rattle.links.specs.Link.{Said, absent, said}
-use Rattle.links.specs.Reading.{nibble, isHex}
+use Rattle.links.specs.Reading.{nibble}
 use Rattle.links.specs.Places.{SpeltAt, HashAt, Holds, unheld, held}
 use Rattle.links.specs.declared.scan.Spelt.{Spelt}
 use Rattle.links.proofs.Lengths.{from-place}
-use Rattle.links.proofs.Spelling.{Front, itself, escaped, front, Digits, hash-digits}
+use Rattle.links.proofs.Spelling.{Front, itself, escaped, front, hash-digits}
 
 -- ---- what the pass holds of a value
 

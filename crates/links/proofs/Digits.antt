@@ -152,6 +152,44 @@ hex-below b h = rw (under 48 57 b h, under 65 70 b (omega arith), under 97 102 b
 pub hex-above : (b : ℕ) → 102 < b → false ≡ isHex b
 hex-above b h = rw (over 48 57 b (omega arith), over 65 70 b (omega arith), over 97 102 b h)
 
+-- 0 for a digit, and 1 for another byte
+abbrev Counts : ℕ → ℕ → Type 0
+Counts b r = (r ≡ cond (isHex b) 0 1) × (r ≤ 1)
+
+-- between and at the digits and letters
+module _ (b : ℕ) where
+  a-hex : nibble b < 16 → Counts b 0
+  a-hex h = (rw (lt-ltb (nibble b) 16 h), omega arith)
+
+  no-hex : 16 ≡ nibble b → Counts b 1
+  no-hex e = (rw (le-ltb (nibble b) 16 (omega (arith, e))), omega arith)
+
+  pub other-below : b < 48 → Counts b 1
+  other-below h = no-hex (rw (under 48 57 b h, under 65 70 b (omega arith), under 97 102 b (omega arith)))
+
+  pub hex-decimal : 48 ≤ b → b ≤ 57 → Counts b 0
+  hex-decimal l h = a-hex (omega (arith, of-decimal b l h))
+
+  pub other-middle : 57 < b → b < 65 → Counts b 1
+  other-middle l h = no-hex (rw (over 48 57 b l, under 65 70 b h, under 97 102 b (omega arith)))
+
+  pub hex-capital : 65 ≤ b → b ≤ 70 → Counts b 0
+  hex-capital l h = a-hex (omega (arith, of-capital b l h))
+
+  pub other-high : 70 < b → b < 97 → Counts b 1
+  other-high l h = no-hex (rw (over 48 57 b (omega arith), over 65 70 b l, under 97 102 b h))
+
+  pub hex-small : 97 ≤ b → b ≤ 102 → Counts b 0
+  hex-small l h = a-hex (omega (arith, of-small b l h))
+
+  pub other-above : 102 < b → Counts b 1
+  other-above h = no-hex (rw (over 48 57 b (omega arith), over 65 70 b (omega arith), over 97 102 b h))
+
+-- what counts 0 is one
+pub counts-none : (t : Bool) {r : ℕ} → r ≡ cond t 0 1 → r ≡ 0 → t ≡ true
+counts-none true e z = refl
+counts-none false e z = absurd (omega (arith, e, z))
+
 -- a bit for each byte from "0" on
 abbrev bit : ℕ → Bool
 bit k = eqb (bitAnd (35465847073801215 / 2 ^ k) 1) 1

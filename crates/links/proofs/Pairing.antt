@@ -1,20 +1,19 @@
 -- A pair as the code goes through it: what each of its steps comes to. Assumes nothing.
 use mathlib.Core.Path.{_≡_, refl, sym, ap, _∙_, subst}
-use mathlib.Core.Bool.{true, false, cond}
-use mathlib.Core.List.{List, [], _∷_, _++_}
+use mathlib.Core.Bool.{true, false}
+use mathlib.Core.List.{List, [], _++_}
 use Prim.Native.Nat.{ℕ, _+_, _-_, _<_, _≤_, min}
 use native.Mathlib.Omega.{arith}
-use borrow.Author.Tests.{le-leb, lt-leb, ne-eqb, eq-eqb}
-use lib.Dec.{eqb}
+use borrow.Author.Tests.{ne-eqb}
 use lib.ListN.{length, getD, take, drop, length-append, length-drop, List·getD-eq-default}
-use lib.Seq.{drop-drop, drop-at, length-take-le}
+use lib.Seq.{drop-drop, drop-at}
 use Rattle.refusal.specs.Texts.{bytes}
-use Rattle.refusal.specs.Paper.{Outcome, taken, refused}
+use Rattle.refusal.specs.Paper.{Outcome, refused}
 use Rattle.refusal.specs.Numbers as no
 use Rattle.refusal.proofs.Cases.{less-or}
 use Rattle.links.specs.Link.{Meaning, Said}
-use Rattle.links.specs.Reading.{isHex, fieldOf, Seen, unsaid, has, with, naming, prefixed, urned, digits, value, opening, going, fed, finish, told, begun}
-use Rattle.links.specs.Places.{answerAt, runs, common, SpeltTo, HashAt, Holds, unheld, held, nowhere, Shows, Valued, TurnedAs, namedAt, keeps, kept, closedAt, wholeOf, ScannedAs, found, unfound}
+use Rattle.links.specs.Reading.{isHex, fieldOf, Seen, unsaid, with, naming, digits, value, opening, going, fed, finish, told, begun}
+use Rattle.links.specs.Places.{answerAt, runs, common, HashAt, Holds, unheld, held, nowhere, Shows, Valued, TurnedAs, namedAt, keeps, kept, closedAt, wholeOf, ScannedAs, found, unfound}
 use Rattle.links.specs.declared.scan.Field.{Field}
 use Rattle.links.specs.declared.scan.Field.the-variants.{Hash, Name, Address, Other}
 use Rattle.links.specs.declared.scan.Spelt.{Spelt}
@@ -22,9 +21,8 @@ use Rattle.links.specs.declared.scan.Pass.{Pass}
 use Rattle.links.specs.declared.scan.Turn.{Turn}
 use Rattle.links.specs.declared.scan.Turn.the-variants.{More, Last, Broken}
 use Rattle.links.specs.declared.scan.Scanned.{Scanned}
-use Rattle.links.specs.declared.scan.Scanned.the-variants.{Found, Broken as Unfound}
-use Rattle.links.specs.declared.values.Value.{Value}
-use Rattle.links.specs.declared.values.Value.the-variants.{To, Broken as Unspelt}
+use Rattle.links.specs.declared.scan.Scanned.the-variants.{Broken as Unfound}
+use Rattle.links.specs.declared.values.Value.the-variants.{To}
 use Rattle.links.proofs.Running.{prefix-run, urn-run, hex-run}
 use Rattle.links.proofs.Lengths.{common-within, common-there}
 use Rattle.links.proofs.Turning.{prefix-off, urn-off, keeps-has, keep-hash, keep-value, named-again, named-first, closes, closing-hash, closing-value, closing-end}

@@ -1,35 +1,22 @@
 -- The bytes of a link put into output one after the other, and how many there are. Assumes nothing.
-use mathlib.Core.Path.{_≡_, refl, sym, ap, _∙_, subst}
+use mathlib.Core.Path.{_≡_, refl, sym, ap, _∙_}
 use mathlib.Core.Bool.{true, false}
 use mathlib.Core.List.{List, [], _∷_, _++_, append-assoc}
 use Prim.Native.Nat.{ℕ, _+_, _*_, _/_, _%_, _<_, _≤_}
 use native.Mathlib.Omega.{arith}
 use native.Mathlib.Numerals.{add-one}
 use borrow.Author.Tests.{lt-ltb, le-ltb}
-use lib.ListN.{length, getD, drop, set, length-append, length-take, length-drop, drop-of-length-le}
-use lib.Seq.{sets, length-sets}
+use lib.ListN.{length, getD, drop, set, length-append, drop-of-length-le}
+use lib.Seq.{length-sets}
 use Rattle.refusal.specs.Texts.{bytes}
-use Rattle.refusal.specs.Limits.{mostText, longestPiece}
-use Rattle.refusal.specs.Paper.{Outcome, taken, refused, map}
-use Rattle.refusal.specs.Numbers.{long, room}
-use Rattle.refusal.specs.Parts.{bytesAt}
-use Rattle.refusal.specs.declared.Part.{Part}
-use Rattle.bencode_writer.specs.Escaped.{escapedByte, escapedBy, percent}
-use Rattle.bencode_writer.specs.Put.{Left, left, paper, putOf, placePast, Ran}
-use Rattle.bencode_writer.specs.declared.Put.{Put}
-use Rattle.bencode_writer.specs.declared.Put.the-variants.{To, Refused}
-use Rattle.bencode_writer.proofs.Escapes.{escape-plain, escape-other, escaped-more, escaped-none}
-use Rattle.bencode_writer.proofs.Laws.{put-whole, put-none}
+use Rattle.refusal.specs.Paper.{Outcome}
+use Rattle.bencode_writer.specs.Escaped.{escapedByte}
+use Rattle.bencode_writer.specs.Put.{left, putOf, placePast, Ran}
+use Rattle.bencode_writer.proofs.Escapes.{escape-plain, escape-other, escaped-more}
 use Rattle.bencode_writer.proofs.Runs.{ran-length, ran-then, ran-as, put-ran}
-use Rattle.hash_sha1.specs.Sha1.{sha1}
-use Rattle.torrent_metainfo.specs.declared.Torrent.{Torrent}
-use Rattle.torrent_metainfo.specs.Reading.{readOf}
-use Rattle.torrent_metainfo.proofs.Exact.{torrent-exact}
-use Rattle.torrent_lines.proofs.Running.{Going, going-start, going-more}
+use Rattle.torrent_lines.proofs.Running.{Going}
 use Rattle.links.specs.Link.{smallDigit}
-use Rattle.links.specs.Writing.{unreserved, escaped, smallHex, textOf, linkText, unlessLong, writtenOf, puts, writeOf, sizePaper}
-use Rattle.links.specs.declared.Sized.{Sized}
-use Rattle.links.specs.declared.Sized.the-variants.{Bytes, Refused as Unsized}
+use Rattle.links.specs.Writing.{unreserved, escaped, smallHex, textOf}
 use Rattle.links.proofs.Lengths.{from-place}
 
 -- ---- a digit, and a byte of a value

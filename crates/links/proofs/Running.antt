@@ -1,16 +1,14 @@
 -- The reader fed with whole words, names, hashes and values. Assumes nothing.
 use mathlib.Core.Path.{_≡_, refl, sym, ap, _∙_}
-use mathlib.Core.Bool.{Bool, true, false, cond, _&&_, _||_, not}
+use mathlib.Core.Bool.{false}
 use mathlib.Core.List.{List, [], _∷_, _++_, append-assoc, append-nil}
-use Prim.Native.Nat.{ℕ, suc, _+_, _*_, _<_, _≤_}
+use Prim.Native.Nat.{ℕ, _+_, _*_}
 use native.Mathlib.Omega.{arith}
-use native.Mathlib.Nat.{suc-add, add-zero}
-use native.Mathlib.Numerals.{add-one}
+use native.Mathlib.Nat.{suc-add}
 use borrow.Author.Tests.{eq-eqb}
-use lib.Dec.{eqb}
 use lib.ListN.{length}
-use Rattle.links.specs.Link.{nameByte, plainByte, Hex, HexText, no-byte, a-byte, Spells, nothing, plain, escape, NameBytes, no-more, one-more}
-use Rattle.links.specs.Reading.{nibble, isHex, Seen, Mode, naming, prefixed, prefix, urned, urn, digits, half, value, percent, digit, State, going, stopped, inMode, step, fed}
+use Rattle.links.specs.Link.{plainByte, HexText, no-byte, a-byte, Spells, nothing, plain, escape, NameBytes, no-more, one-more}
+use Rattle.links.specs.Reading.{Seen, Mode, naming, prefixed, urned, digits, value, State, going, stopped, inMode, step, fed}
 use Rattle.links.specs.declared.scan.Field.{Field}
 use Rattle.links.proofs.Digits.{hex-nibble}
 

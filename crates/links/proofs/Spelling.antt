@@ -1,24 +1,23 @@
 -- Hashes and values at places of a text: how they go on, how they break off, and their bytes one by one. Assumes nothing.
 use mathlib.Core.Path.{_≡_, refl, sym, ap, _∙_, subst}
-use mathlib.Core.Bool.{Bool, true, false, true≢false, cond, not, _&&_, _||_}
+use mathlib.Core.Bool.{true, false, true≢false}
 use mathlib.Core.List.{List, [], _∷_, _++_, append-assoc, head-eq-of-cons-eq, tail-eq-of-cons-eq}
 use Prim.Native.Nat.{ℕ, zero, suc, _+_, _*_, _-_, _<_, _≤_, min}
 use native.Mathlib.Omega.{arith}
-use native.Mathlib.Numerals.{add-one}
-use borrow.Author.Tests.{eqb-true, eq-eqb, ltb-true}
-use lib.Dec.{eqb, ltb}
-use lib.ListN.{length, getD, take, drop, length-append, length-drop, drop-of-length-le, take-append-drop, List·getD-append}
-use lib.Seq.{drop-drop, getD-drop, drop-at, length-take-le}
-use Rattle.refusal.specs.Paper.{Outcome, taken, refused}
+use borrow.Author.Tests.{eqb-true, eq-eqb}
+use lib.Dec.{eqb}
+use lib.ListN.{length, getD, drop, length-append, length-drop, List·getD-append}
+use lib.Seq.{drop-drop, getD-drop, drop-at}
+use Rattle.refusal.specs.Paper.{Outcome, refused}
 use Rattle.refusal.specs.Numbers as no
-use Rattle.refusal.proofs.Cases.{by-bool, less-or, false-if, cannot, no-way}
-use Rattle.links.specs.Link.{plainByte, Hex, HexText, no-byte, a-byte, Spells, nothing, plain, escape, Meaning}
-use Rattle.links.specs.Reading.{nibble, isHex, Seen, Mode, digits, half, value, percent, digit, State, going, stopped, inMode, fed, finish}
+use Rattle.refusal.proofs.Cases.{by-bool, less-or, false-if, no-way}
+use Rattle.links.specs.Link.{plainByte, HexText, no-byte, a-byte, Spells, nothing, plain, escape, Meaning}
+use Rattle.links.specs.Reading.{nibble, isHex, Seen, digits, value, percent, going, inMode, fed, finish}
 use Rattle.links.specs.Places.{answerAt, runs, SpeltTo, SpeltAt, HashAt, Valued}
 use Rattle.links.specs.declared.values.Value.the-variants.{To, Broken as Unspelt}
 use Rattle.links.specs.declared.scan.Field.{Field}
 use Rattle.links.proofs.Digits.{nibble-hex, hex-nibble}
-use Rattle.links.proofs.Running.{value-run, fed-stopped, hex-run}
+use Rattle.links.proofs.Running.{value-run}
 use Rattle.links.proofs.Lengths.{from-place, runs-more, runs-stop, runs-none}
 use Rattle.links.proofs.Turning.{off}
 

@@ -1,32 +1,30 @@
 -- The pass over a link: names, hashes, values and what ends them, as the reader takes them. Assumes nothing.
-use mathlib.Core.Path.{_≡_, refl, sym, ap, _∙_, subst}
-use mathlib.Core.Bool.{Bool, true, false, cond, not, _&&_, _||_}
+use mathlib.Core.Path.{_≡_, refl, sym, ap, _∙_}
+use mathlib.Core.Bool.{Bool, true, false, cond}
 use mathlib.Core.List.{List, [], _∷_, _++_, append-assoc, append-nil}
-use Prim.Native.Nat.{ℕ, zero, suc, _+_, _*_, _-_, _<_, _≤_, min}
+use Prim.Native.Nat.{ℕ, zero, suc, _+_, _-_, _<_, _≤_}
 use native.Mathlib.Omega.{arith}
-use native.Mathlib.Numerals.{add-one}
-use borrow.Author.Tests.{eqb-true, eqb-false, eq-eqb, ne-eqb, le-leb, lt-leb, ltb-true, ltb-false}
-use lib.Dec.{eqb, ltb, leb}
-use lib.ListN.{length, getD, take, drop, length-append, length-take, length-drop, drop-of-length-le, take-append-drop}
+use borrow.Author.Tests.{eqb-true, eq-eqb, ne-eqb, le-leb, lt-leb}
+use lib.Dec.{eqb}
+use lib.ListN.{length, getD, take, drop, length-drop, drop-of-length-le}
 use lib.Seq.{drop-drop, getD-drop, length-take-le}
 use Rattle.refusal.specs.Texts.{bytes}
 use Rattle.bencode_walk.specs.Lookup.{sameKey}
 use Rattle.bencode_walk.proofs.Finding.{same-true}
-use Rattle.refusal.specs.Paper.{Outcome, taken, refused}
+use Rattle.refusal.specs.Paper.{Outcome, refused}
 use Rattle.refusal.specs.Numbers as no
 use Rattle.refusal.proofs.Places.{two-there}
-use Rattle.refusal.proofs.Cases.{by-bool, less-or, false-if, cannot, no-way}
-use Rattle.links.specs.Link.{nameByte, plainByte, Hex, HexText, no-byte, a-byte, Spells, nothing, plain, escape, Said, absent, said, Meaning}
-use Rattle.links.specs.Reading.{nibble, isHex, fieldOf, Seen, unsaid, has, isSaid, with, Mode, naming, prefixed, prefix, urned, urn, digits, half, value, percent, digit, State, going, stopped, opening, valued, inMode, step, fed, meant, finish, begun}
-use Rattle.links.specs.Places.{answerAt, runs, common, SpeltTo, SpeltAt, HashAt, Holds, unheld, held, Shows, TurnedAs, namedAt, isHeld, keeps, kept, closedAt, wholeOf, ScannedAs, found, unfound}
+use Rattle.refusal.proofs.Cases.{by-bool, less-or, false-if}
+use Rattle.links.specs.Link.{nameByte, plainByte, Said, Meaning}
+use Rattle.links.specs.Reading.{fieldOf, Seen, has, isSaid, with, Mode, naming, prefixed, urned, digits, value, State, going, stopped, opening, valued, inMode, fed, meant, finish}
+use Rattle.links.specs.Places.{answerAt, runs, common, SpeltAt, HashAt, Holds, unheld, held, Shows, TurnedAs, namedAt, isHeld, keeps, kept, closedAt}
 use Rattle.links.specs.declared.scan.Field.{Field}
 use Rattle.links.specs.declared.scan.Field.the-variants.{Hash, Name, Address, Other}
 use Rattle.links.specs.declared.scan.Spelt.{Spelt}
 use Rattle.links.specs.declared.scan.Pass.{Pass}
 use Rattle.links.specs.declared.scan.Turn.the-variants.{More, Last, Broken}
-use Rattle.links.proofs.Digits.{nibble-hex}
-use Rattle.links.proofs.Running.{prefix-run, urn-run, name-run, hex-run, value-run, fed-stopped}
-use Rattle.links.proofs.Lengths.{from-place, runs-none, runs-within, common-there}
+use Rattle.links.proofs.Running.{fed-stopped}
+use Rattle.links.proofs.Lengths.{from-place}
 
 -- a fault is the answer whatever comes after it
 pub off : (p : ℕ) (s : List ℕ) → finish (fed (stopped p) s) ≡ refused no.link p

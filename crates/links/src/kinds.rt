@@ -1,5 +1,6 @@
 // Kinds of bytes, and how far they go at a place of a text.
 ghost use mathlib.Core.Path.{_≡_};
+ghost use mathlib.Core.Bool.{true, cond};
 ghost use Prim.Native.Nat.{_+_, _<_, _≤_, min};
 ghost use lib.ListN.{length, drop};
 ghost use Rattle.links.specs.Link.{letterOrDigit, nameByte, plainByte};
@@ -22,8 +23,19 @@ pub fn name_end(text: &[u8], from: usize) -> usize
     at
 }
 
+// How many of the 40 bytes of a hash at a place are hex digits, from the first on.
+pub fn hash_digits(text: &[u8], from: usize) -> usize
+    requires { ⌜ from ≤ length (now text) ⌝ }
+    ensures { λ r. ⌜ r ≡ min 40 (runs isHex (drop from (now (text .entry)))) ⌝ }
+{
+    if all_hex(text, from) {
+        return 40;
+    }
+    digits(text, from, 40)
+}
+
 // How many hex digits stand at a place, `most` of them at most.
-pub fn digits(text: &[u8], from: usize, most: usize) -> usize
+fn digits(text: &[u8], from: usize, most: usize) -> usize
     requires { ⌜ from ≤ length (now text) ⌝ }
     ensures { λ r. ⌜ r ≡ min most (runs isHex (drop from (now (text .entry)))) ⌝ }
 {
@@ -134,6 +146,55 @@ fn is_hex(b: u8) -> bool
     }
     let digits: u64 = 35465847073801215;
     (digits >> (b - b'0')) & 1 == 1
+}
+
+// Whether 40 hex digits stand at a place. Without a stop at the first other byte, so that LLVM looks at 16 of them at once.
+fn all_hex(text: &[u8], from: usize) -> bool
+    requires { ⌜ from ≤ length (now text) ⌝ }
+    ensures { λ r. ⌜ (r ≡ true → 40 ≤ runs isHex (drop from (now (text .entry)))) ⌝ }
+{
+    if text.len() - from < 40 {
+        return false;
+    }
+    others(text, from) == 0
+}
+
+fn others(text: &[u8], from: usize) -> u8
+    requires { ⌜ from + 40 ≤ length (now text) ⌝ }
+    ensures { λ r. ⌜ (r ≡ 0 → 40 ≤ runs isHex (drop from (now (text .entry)))) ⌝ }
+{
+    let mut count: u8 = 0;
+    let mut i = 0;
+    while i < 40 {
+        count += other(text[from + i]);
+        i += 1;
+    }
+    count
+}
+
+// 0 for a hex digit, and 1 for another byte.
+fn other(b: u8) -> u8
+    ensures { λ r. ⌜ (r ≡ cond (isHex b) 0 1) × (r ≤ 1) ⌝ }
+{
+    if b < b'0' {
+        return 1;
+    }
+    if b <= b'9' {
+        return 0;
+    }
+    if b < b'A' {
+        return 1;
+    }
+    if b <= b'F' {
+        return 0;
+    }
+    if b < b'a' {
+        return 1;
+    }
+    if b <= b'f' {
+        return 0;
+    }
+    1
 }
 
 fn is_name(b: u8) -> bool

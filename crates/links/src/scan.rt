@@ -5,9 +5,8 @@ ghost use mathlib.Core.List.{[], _∷_};
 ghost use Prim.Native.Nat.{_+_, _-_, _<_, _≤_};
 ghost use lib.Dec.{eqb};
 ghost use lib.ListN.{length, take, drop};
-ghost use Rattle.links.specs.Link.{nameByte};
 ghost use Rattle.links.specs.Reading.{Seen, begun, naming, value, opening, fed, finish, fieldOf};
-ghost use Rattle.links.specs.Places.{ScannedAs, Shows, TurnedAs, answerAt, namedAt, runs, closedAt, keeps, kept, nowhere, wholeOf};
+ghost use Rattle.links.specs.Places.{ScannedAs, Shows, TurnedAs, answerAt, namedAt, closedAt, keeps, kept, nowhere, wholeOf};
 use crate::kinds;
 use crate::values;
 use values::Value;
@@ -112,7 +111,7 @@ fn hash(text: &[u8], from: usize, pass: Pass) -> Turn
     if lead < 9 {
         return off(from + lead);
     }
-    let count = kinds::digits(text, from + 9, 40);
+    let count = kinds::hash_digits(text, from + 9);
     if count < 40 {
         return off(from + 9 + count);
     }

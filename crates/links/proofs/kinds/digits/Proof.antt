@@ -1,7 +1,7 @@
 -- `links::kinds::digits` meets its contract. Assumes nothing.
 use mathlib.Core.Path.{_≡_, sym, _∙_}
 use Prim.Native.Nat.{_+_, _-_, _≤_}
-use lib.ListN.{length, drop}
+use lib.ListN.{drop}
 use borrow.Author.Tests.{not-true, not-false}
 use Rattle.links.proofs.Lengths.{runs-stop, runs-from, runs-on, runs-most}
 use Rattle.links.specs.Reading.{isHex}

@@ -1,8 +1,8 @@
 -- `links::kinds::word` meets its contract. Assumes nothing.
 use mathlib.Core.Path.{_≡_}
 use Prim.Native.Nat.{_+_, _-_, _≤_}
-use lib.ListN.{length, drop}
-use borrow.Author.Tests.{ne-eqb, not-false}
+use lib.ListN.{drop}
+use borrow.Author.Tests.{ne-eqb}
 use Rattle.links.proofs.Lengths.{common-stop, common-from, common-on, common-most}
 use Rattle.links.specs.Places.{common}
 use borrow.Author.Needs.{needs}

@@ -1,5 +1,4 @@
 -- `links::scan::pair` meets its contract. Assumes nothing.
-use mathlib.Core.Path.{sym}
 use mathlib.Core.List.{[]}
 use lib.ListN.{length-drop}
 use borrow.Author.Tests.{eq-eqb, ne-eqb}

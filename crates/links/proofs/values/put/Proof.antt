@@ -1,8 +1,5 @@
 -- `links::values::put` meets its contract. Assumes nothing.
 use mathlib.Core.Path.{sym, ap, _∙_}
-use mathlib.Core.List.{List}
-use Prim.Native.Nat.{ℕ}
-use lib.ListN.{length}
 use Rattle.links.specs.Link.{Said}
 use Rattle.links.specs.Reading.{storedIn}
 use Rattle.links.proofs.Decoding.{held-none, held-bytes}

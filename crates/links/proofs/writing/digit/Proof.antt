@@ -1,5 +1,4 @@
 -- `links::writing::digit` meets its contract. Assumes nothing.
-use mathlib.Core.Path.{_∙_}
 use Rattle.links.proofs.Putting.{digit-low, digit-high}
 use borrow.Author.Needs.{needs}
 use native.Mathlib.Omega.{arith}

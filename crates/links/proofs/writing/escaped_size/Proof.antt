@@ -1,6 +1,5 @@
 -- `links::writing::escaped_size` meets its contract. Assumes nothing.
 use mathlib.Core.Path.{_≡_, ap}
-use mathlib.Core.List.{List}
 use Prim.Native.Nat.{ℕ, _+_, _*_, _-_, _≤_}
 use lib.ListN.{length, drop}
 use Rattle.links.specs.Writing.{unreserved, escaped}
