@@ -93,13 +93,14 @@ use Rattle.sheets.specs.Sheet.{IsSheet, addressOf}
 use Rattle.sheets.specs.Reading.{Answered, of, told, sourceIn, chosen, partIn, findOf, paper as addressPaper}
 use Rattle.sheets.specs.declared.Found as address
 use Rattle.sheets.specs.declared.Source.the-variants.{Torrent as OfTorrent, Sheet as OfSheet}
-use Rattle.links.specs.Link.{Meaning, IsLink}
+use Rattle.links.specs.Link.{Meaning}
+use Rattle.links_laws.specs.Form.{IsLink}
 use Rattle.links.specs.Reading.{Sizes, sizeOf, givenOf, leftOf, Left as Linking, paper as linkPaper}
 use Rattle.links.specs.Writing.{textOf, writeOf, sizePaper as linkSizePaper}
 use Rattle.links.specs.declared.Given.the-variants as given
 use Rattle.links.specs.declared.Linked.{Linked}
 use Rattle.links.specs.declared.Sized as link-size
-use Rattle.links.proofs.Laws as link-laws
+use Rattle.links_laws.proofs.Laws as link-laws
 use Rattle.demands_laws.specs.Texts.{Encodes, noFile, IsPiece, Agrees, linkOf, bytesIn}
 use Rattle.demands_laws.specs.Places.{PartUnder, FilesPlaced, ReplyPlaced}
 use Rattle.demands_laws.proofs.Refusals.{same-answer, left-answer, some-answer}

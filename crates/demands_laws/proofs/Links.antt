@@ -25,14 +25,15 @@ use Rattle.torrent_metainfo.specs.Reading.{readOf}
 use Rattle.torrent_metainfo.specs.declared.Torrent.{Torrent}
 use Rattle.torrent_laws.specs.Torrent.{TorrentSays, IsTorrent}
 use Rattle.torrent_laws.proofs.Laws as torrents
-use Rattle.links.specs.Link.{Said, absent, said, Meaning, IsLink}
-use Rattle.links.specs.Causes.{Fault}
+use Rattle.links.specs.Link.{Said, absent, said, Meaning}
+use Rattle.links_laws.specs.Form.{IsLink}
+use Rattle.links_laws.specs.Causes.{Fault}
 use Rattle.links.specs.Reading.{sizeOf, storedIn, givenOf, Sizes, sizesOf, Left, left, leftOf}
 use Rattle.links.specs.Writing.{linkText, unlessLong, writtenOf, puts, writeOf}
 use Rattle.links.proofs.Answers.{digest-length}
 use Rattle.links.proofs.Answers as answers
-use Rattle.links.proofs.Back.{written-is-link}
-use Rattle.links.proofs.Laws as links
+use Rattle.links_laws.proofs.Back.{written-is-link}
+use Rattle.links_laws.proofs.Laws as links
 use Rattle.demands_laws.specs.Texts.{Encodes, linkOf, bytesIn}
 use Rattle.demands_laws.proofs.Refusals.{first-of, second-of, given, same-answer, refusal-is, map-refused, then-refused}
 use Rattle.demands_laws.proofs.Texts.{torrent-exact, torrent-shown}

@@ -27,7 +27,7 @@ use Rattle.sheets.specs.Reading.{of, findOf}
 use Rattle.sheets.specs.declared.Source.the-variants.{Torrent as OfTorrent, Sheet as OfSheet}
 use Rattle.links.specs.Reading.{leftOf}
 use Rattle.links.specs.Writing.{writtenOf, writeOf}
-use Rattle.links.proofs.Laws.{Unread, left-refused}
+use Rattle.links_laws.proofs.Laws.{Unread, left-refused}
 use Rattle.refusal.proofs.Cases.{same-or}
 use Rattle.demands_laws.proofs.Refusals.{map-refused, then-refused}
 use Rattle.demands_laws.specs.Causes.{NoReplyText, Unchecked, no-such-piece, long-piece, wrong-length, Unsized, broken, over}

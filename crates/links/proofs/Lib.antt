@@ -9,13 +9,3 @@ pub mod Decoding
 pub mod Putting
 pub mod Answers
 pub mod Lining
-pub mod Saying
-pub mod Reached
-pub mod Exact
-pub mod Opening
-pub mod Parting
-pub mod Stopping
-pub mod Faults
-pub mod Back
-pub mod Laws
-pub mod Example

@@ -1,6 +1,5 @@
 -- The definitions, a file for each subject.
 pub mod Link
-pub mod Causes
 pub mod Reading
 pub mod Writing
 pub mod Line

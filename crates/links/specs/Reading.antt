@@ -1,5 +1,5 @@
 -- What the reader answers for a text and two lent outputs. Assumes nothing: these are definitions.
--- The steps from byte to byte need not be believed: `link-exact` and `link-19` of the book tie `readOf` to Link.antt and Causes.antt.
+-- The steps from byte to byte need not be believed: `link-exact` and `link-19` of the book tie `readOf` to Form.antt and Causes.antt of links_laws/specs.
 use mathlib.Core.Bool.{Bool, true, false, cond, _&&_}
 use mathlib.Core.List.{List, [], _∷_, _++_}
 use Prim.Native.Nat.{ℕ, zero, suc, _+_, _*_, _-_}

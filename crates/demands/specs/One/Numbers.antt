@@ -53,8 +53,9 @@ use Rattle.sheets.specs.Causes.{NoSheetText}
 use Rattle.sheets.specs.Reading.{of, told}
 use Rattle.sheets.specs.declared.Source.the-variants.{Torrent as OfTorrent, Sheet as OfSheet}
 use Rattle.sheets.specs.declared.Found as address
-use Rattle.links.specs.Link.{Meaning, IsLink}
-use Rattle.links.specs.Causes.{Fault}
+use Rattle.links.specs.Link.{Meaning}
+use Rattle.links_laws.specs.Form.{IsLink}
+use Rattle.links_laws.specs.Causes.{Fault}
 use Rattle.links.specs.Reading.{sizeOf, paper as linkPaper}
 use Rattle.links.specs.Writing.{sizePaper as linkSizePaper}
 use Rattle.links.specs.declared.Linked.{Linked}

@@ -4,9 +4,9 @@ use mathlib.Core.Path.{_≡_, sym, _∙_}
 use Prim.Native.Nat.{ℕ, _≤_}
 use lib.ListN.{length}
 use Rattle.refusal.specs.Paper.{taken}
-use Rattle.bencode_writer.specs.Put.{paper as putPaper, left, putOf}
+use Rattle.bencode_writer.specs.Put.{paper as putPaper, left, putOf, Ran}
 use Rattle.bencode_writer.specs.declared.Put.{Put}
-use Rattle.torrent_lines.specs.Lines.{mostPrinted, listingOf}
+use Rattle.torrent_lines.specs.Lines.{mostPrinted, refusedLine, listingOf}
 use Rattle.torrent_lines.proofs.Laws as laws
 use Rattle.demands.specs.One.{Lent, now, Determined1, Keeps1, Refused, Determined}
 
@@ -28,3 +28,10 @@ size-ensures text r = r ≡ length (listingOf (now (text .entry)))
 
 pub size-determined : (text : Lent (List ℕ)) → Determined (size-ensures text)
 size-determined text r r′ e f = e ∙ sym f
+
+-- torrent_lines::refused
+abbrev pub refused-ensures : (number place : ℕ) → ℕ → Lent (List ℕ) → Type 0
+refused-ensures number place r out = Ran (refusedLine number place) 0 (now (out .entry)) r (now (out .exit)) × (r ≤ mostPrinted)
+
+pub refused-determined : (number place : ℕ) → Determined1 (refused-ensures number place)
+refused-determined number place out r r′ out₁ out₂ e f = laws.ran-determined _ 0 _ (e .0) (f .0)

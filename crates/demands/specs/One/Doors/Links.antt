@@ -1,17 +1,19 @@
 -- Demand 1 of `links`: magnet links, read and written. Assumes nothing.
 use mathlib.Core.List.{List}
 use mathlib.Core.Path.{_≡_}
-use Prim.Native.Nat.{ℕ}
+use Prim.Native.Nat.{ℕ, _≤_}
 use lib.ListN.{length}
 use Rattle.refusal.specs.Paper.{map}
-use Rattle.bencode_writer.specs.Put.{left as putLeft, paper as putPaper}
+use Rattle.bencode_writer.specs.Put.{left as putLeft, paper as putPaper, Ran}
 use Rattle.bencode_writer.specs.declared.Put.{Put}
 use Rattle.links.specs.Reading.{leftOf, left, paper}
 use Rattle.links.specs.Writing.{writtenOf, writeOf, sizePaper}
+use Rattle.links.specs.Line.{lineOf, mostLine}
 use Rattle.links.specs.declared.Linked.{Linked}
 use Rattle.links.specs.declared.Sized.{Sized}
+use Rattle.torrent_lines.proofs.Laws.{ran-determined}
 use Rattle.links.proofs.Answers as answers
-use Rattle.links.proofs.Laws as laws
+use Rattle.links_laws.proofs.Laws as laws
 use Rattle.demands.specs.One.{Lent, now, Determined, Determined1, Determined3, Keeps1, Keeps3, Refused}
 
 -- links::read
@@ -41,3 +43,10 @@ size-ensures torrent r = sizePaper r ≡ map length (writtenOf (now (torrent .en
 
 pub size-determined : (torrent : Lent (List ℕ)) → Determined (size-ensures torrent)
 size-determined torrent r r′ e f = laws.size-determined (now (torrent .entry)) r r′ e f
+
+-- links::line
+abbrev pub line-ensures : (torrent : Lent (List ℕ)) → ℕ → Lent (List ℕ) → Type 0
+line-ensures torrent r out = Ran (lineOf (now (torrent .entry))) 0 (now (out .entry)) r (now (out .exit)) × (r ≤ mostLine)
+
+pub line-determined : (torrent : Lent (List ℕ)) → Determined1 (line-ensures torrent)
+line-determined torrent out r r′ out₁ out₂ e f = ran-determined _ 0 _ (e .0) (f .0)

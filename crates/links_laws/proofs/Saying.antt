@@ -11,12 +11,13 @@ use Rattle.refusal.specs.Texts.{bytes}
 use Rattle.refusal.proofs.Cases.{less-or, by-bool, both, no-way, cannot}
 use Rattle.bencode_walk.specs.Lookup.{sameKey}
 use Rattle.bencode_walk.proofs.Finding.{same-true}
-use Rattle.links.specs.Link.{plainByte, Hex, HexText, no-byte, a-byte, Spells, nothing, plain, escape, NamesHash, Pair, NameBytes, InForm, AllInForm, no-pair, a-pair, pairText, parted, valuesOf, Said, absent, said, AtMostOne, none, one}
-use Rattle.links.specs.Causes.{ended}
+use Rattle.links.specs.Link.{plainByte, Hex, HexText, no-byte, a-byte, Spells, nothing, plain, escape, NameBytes, Said, absent, said}
+use Rattle.links_laws.specs.Form.{NamesHash, Pair, InForm, AllInForm, no-pair, a-pair, pairText, parted, valuesOf, AtMostOne, none, one}
+use Rattle.links_laws.specs.Causes.{ended}
 use Rattle.links.specs.Reading.{fieldOf, Seen, isSaid, has, with}
 use Rattle.links.specs.declared.scan.Field.{Field}
 use Rattle.links.specs.declared.scan.Field.the-variants.{Hash, Name, Address, Other}
 use Rattle.links.proofs.Digits.{inside}
 
 -- ---- names, and what they are names of
 

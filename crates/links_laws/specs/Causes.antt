@@ -4,7 +4,8 @@ use mathlib.Core.List.{List, [], _∷_, _++_}
 use Prim.Native.Nat.{ℕ, _<_}
 use lib.ListN.{length}
 use Rattle.refusal.specs.Texts.{bytes}
-use Rattle.links.specs.Link.{Pair, AllInForm, pairText, valuesOf, Meaning, IsLink}
+use Rattle.links.specs.Link.{Meaning}
+use Rattle.links_laws.specs.Form.{Pair, AllInForm, pairText, valuesOf, IsLink}
 
 -- some link begins with q
 abbrev pub Opens : List ℕ → Type 0

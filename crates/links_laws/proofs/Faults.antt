@@ -13,18 +13,19 @@ use Rattle.refusal.proofs.Cases.{cannot}
 use Rattle.refusal.proofs.Outcomes.{not-refused, same-refusal}
 use Rattle.bencode_walk.specs.Lookup.{sameKey}
 use Rattle.bencode_walk.proofs.Finding.{same-true}
-use Rattle.links.specs.Link.{NameBytes, no-more, one-more, Pair, parted, valuesOf, Said, absent, said, AtMostOne, none, one, Meaning, IsLink}
-use Rattle.links.specs.Causes.{Opens, Breaks, ended, Known, hash, name, address, Again, Fault, again, breaks, short}
+use Rattle.links.specs.Link.{NameBytes, no-more, one-more, Said, absent, said, Meaning}
+use Rattle.links_laws.specs.Form.{Pair, parted, valuesOf, AtMostOne, none, one, IsLink}
+use Rattle.links_laws.specs.Causes.{Opens, Breaks, ended, Known, hash, name, address, Again, Fault, again, breaks, short}
 use Rattle.links.specs.Reading.{fieldOf, Seen, unsaid, isSaid, has, with, Mode, prefix, naming, urn, digits, half, value, percent, digit, State, going, stopped, prefixed, inMode, fed, told, meant, finish, begun}
 use Rattle.links.specs.declared.scan.Field.{Field}
 use Rattle.links.specs.declared.scan.Field.the-variants.{Hash, Name, Address, Other}
 use Rattle.links.proofs.Running.{fed-append, prefix-run, name-run}
-use Rattle.links.proofs.Saying.{isHash, isName, isAddress, kinds, Says, says-split, says-form, says-through}
-use Rattle.links.proofs.Reached.{Reached, reached}
-use Rattle.links.proofs.Exact.{ended-run, seenIn, link-says, link-sound, link-complete}
-use Rattle.links.proofs.Opening.{going-opens, stopped-shut, opens-going}
-use Rattle.links.proofs.Parting.{pairs-first}
-use Rattle.links.proofs.Stopping.{Stops, stopped-same, stop-point, stops-fed, stop-same, Twice, stop-kind}
+use Rattle.links_laws.proofs.Saying.{isHash, isName, isAddress, kinds, Says, says-split, says-form, says-through}
+use Rattle.links_laws.proofs.Reached.{Reached, reached}
+use Rattle.links_laws.proofs.Exact.{ended-run, seenIn, link-says, link-sound, link-complete}
+use Rattle.links_laws.proofs.Opening.{going-opens, stopped-shut, opens-going}
+use Rattle.links_laws.proofs.Parting.{pairs-first}
+use Rattle.links_laws.proofs.Stopping.{Stops, stopped-same, stop-point, stops-fed, stop-same, Twice, stop-kind}
 
 -- ---- at the end of a text
 

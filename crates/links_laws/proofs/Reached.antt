@@ -11,14 +11,15 @@ use Rattle.refusal.specs.Texts.{bytes}
 use Rattle.refusal.proofs.Cases.{by-test, cannot}
 use Rattle.bencode_walk.specs.Lookup.{sameKey}
 use Rattle.bencode_walk.proofs.Finding.{same-true}
-use Rattle.links.specs.Link.{nameByte, plainByte, Hex, HexText, no-byte, a-byte, Spells, nothing, plain, escape, Pair, NameBytes, no-more, one-more, pairText}
-use Rattle.links.specs.Causes.{ended}
+use Rattle.links.specs.Link.{nameByte, plainByte, Hex, HexText, no-byte, a-byte, Spells, nothing, plain, escape, NameBytes, no-more, one-more}
+use Rattle.links_laws.specs.Form.{Pair, pairText}
+use Rattle.links_laws.specs.Causes.{ended}
 use Rattle.links.specs.Reading.{nibble, isHex, fieldOf, Seen, unsaid, has, with, Mode, prefix, naming, urn, digits, half, value, percent, digit, State, going, stopped, prefixed, urned, opening, valued, inMode, fed, begun}
 use Rattle.links.specs.declared.scan.Field.{Field}
 use Rattle.links.specs.declared.scan.Field.the-variants.{Hash, Name, Address, Other}
 use Rattle.links.proofs.Digits.{nibble-hex}
 use Rattle.links.proofs.Running.{fed-stopped}
-use Rattle.links.proofs.Saying.{isHash, kinds, Gives, Adds, Says, says-more, spells-join, ended-more}
+use Rattle.links_laws.proofs.Saying.{isHash, kinds, Gives, Adds, Says, says-more, spells-join, ended-more}
 
 -- ---- texts
 

@@ -11,14 +11,15 @@ use Rattle.refusal.proofs.Cases.{no-way, false-if}
 use Rattle.refusal.proofs.Outcomes.{not-taken}
 use Rattle.bencode_walk.specs.Lookup.{sameKey}
 use Rattle.bencode_walk.proofs.Finding.{same-true}
-use Rattle.links.specs.Link.{Hex, HexText, no-byte, a-byte, pairText, Said, absent, said, Meaning}
-use Rattle.links.specs.Causes.{Opens}
+use Rattle.links.specs.Link.{Hex, HexText, no-byte, a-byte, Said, absent, said, Meaning}
+use Rattle.links_laws.specs.Form.{pairText}
+use Rattle.links_laws.specs.Causes.{Opens}
 use Rattle.links.specs.Reading.{nibble, fieldOf, Seen, isSaid, has, with, Mode, prefix, naming, urn, digits, half, value, percent, digit, State, going, stopped, opening, inMode, fed, told, meant, finish, begun}
 use Rattle.links.specs.declared.scan.Field.{Field}
 use Rattle.links.specs.declared.scan.Field.the-variants.{Hash, Other}
 use Rattle.links.proofs.Running.{fed-append, fed-stopped, prefix-run, urn-run, hex-run}
-use Rattle.links.proofs.Reached.{hashPair, hash-adds}
-use Rattle.links.proofs.Exact.{whole-end, equals-run, pair-run, link-sound, link-complete}
+use Rattle.links_laws.proofs.Reached.{hashPair, hash-adds}
+use Rattle.links_laws.proofs.Exact.{whole-end, equals-run, pair-run, link-sound, link-complete}
 
 -- some text comes to a link
 abbrev Ends : State → Type 0

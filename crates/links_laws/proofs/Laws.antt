@@ -20,17 +20,18 @@ use Rattle.bencode_writer.proofs.Laws.{paper-apart}
 use Rattle.hash_digest.specs.Message.{pad, hashed}
 use Rattle.hash_sha1.specs.Sha1.{initial, compress, output, sha1}
 use Rattle.hash_sha1.specs.declared.block.Hash.{Hash}
-use Rattle.links.specs.Link.{Meaning, IsLink}
-use Rattle.links.specs.Causes.{Fault}
+use Rattle.links.specs.Link.{Meaning}
+use Rattle.links_laws.specs.Form.{IsLink}
+use Rattle.links_laws.specs.Causes.{Fault}
 use Rattle.links.specs.Reading.{fed, finish, begun, readOf, sizeOf, storedIn, Sizes, sizesOf, Left, left, decodedTo, leftOf, paper}
 use Rattle.links.specs.Writing.{writtenOf, writeOf, sizePaper}
 use Rattle.links.specs.declared.Linked.{Linked}
 use Rattle.links.specs.declared.Linked.the-variants.{Is, Refused}
 use Rattle.links.specs.declared.Sized.{Sized}
 use Rattle.links.specs.declared.Sized.the-variants as sized
 use Rattle.links.proofs.Answers.{reading-keeps}
-use Rattle.links.proofs.Exact.{link-sound, link-complete}
-use Rattle.links.proofs.Faults.{fault-sound, fault-complete}
+use Rattle.links_laws.proofs.Exact.{link-sound, link-complete}
+use Rattle.links_laws.proofs.Faults.{fault-sound, fault-complete}
 
 refusal-is : {A : Type 0} {m q n p : ℕ} → m ≡ n → q ≡ p → _≡_ {A = Outcome A} (refused m q) (refused n p)
 refusal-is a b = rw (a, b)

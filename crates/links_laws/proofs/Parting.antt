@@ -5,9 +5,10 @@ use mathlib.Core.List.{List, [], _∷_, _++_, append-assoc}
 use Prim.Native.Nat.{ℕ}
 use native.Mathlib.Omega.{arith}
 use Rattle.refusal.proofs.Cases.{no-way, cannot}
-use Rattle.links.specs.Link.{nameByte, plainByte, Spells, nothing, plain, escape, NameBytes, no-more, one-more, Pair, InForm, AllInForm, pairText, parted}
-use Rattle.links.specs.Causes.{ended}
-use Rattle.links.proofs.Saying.{hex-plain, first-form}
+use Rattle.links.specs.Link.{nameByte, plainByte, Spells, nothing, plain, escape, NameBytes, no-more, one-more}
+use Rattle.links_laws.specs.Form.{Pair, InForm, AllInForm, pairText, parted}
+use Rattle.links_laws.specs.Causes.{ended}
+use Rattle.links_laws.proofs.Saying.{hex-plain, first-form}
 
 -- ---- a byte that does not stand in a text
 

@@ -13,14 +13,15 @@ use Rattle.refusal.specs.BigEndian.{Bytes}
 use Rattle.refusal.proofs.Cases.{by-bool, or-cases}
 use Rattle.bencode_walk.specs.Lookup.{sameKey}
 use Rattle.bencode_writer.specs.Escaped.{hexDigit, escapedBy}
-use Rattle.links.specs.Link.{between, letterOrDigit, plainByte, smallDigit, HexText, no-byte, a-byte, Spells, nothing, plain, escape, NameBytes, no-more, one-more, parted, said, IsLink}
+use Rattle.links.specs.Link.{between, letterOrDigit, plainByte, smallDigit, HexText, no-byte, a-byte, Spells, nothing, plain, escape, NameBytes, no-more, one-more, said}
+use Rattle.links_laws.specs.Form.{parted, IsLink}
 use Rattle.links.specs.Reading.{fieldOf, unsaid}
 use Rattle.links.specs.Writing.{unreserved, escaped, smallHex, textOf}
 use Rattle.links.specs.declared.scan.Field.the-variants.{Name, Address}
 use Rattle.links.proofs.Digits.{within}
-use Rattle.links.proofs.Saying.{plain-high}
-use Rattle.links.proofs.Reached.{pair, hashPair, hash-adds, value-adds}
-use Rattle.links.proofs.Exact.{link-of}
+use Rattle.links_laws.proofs.Saying.{plain-high}
+use Rattle.links_laws.proofs.Reached.{pair, hashPair, hash-adds, value-adds}
+use Rattle.links_laws.proofs.Exact.{link-of}
 
 -- ---- a byte by its two digits
 

@@ -10,14 +10,15 @@ use Rattle.refusal.specs.Paper.{taken}
 use Rattle.refusal.proofs.Cases.{no-way}
 use Rattle.refusal.proofs.Outcomes.{not-taken}
 use Rattle.bencode_walk.specs.Lookup.{sameKey}
-use Rattle.links.specs.Link.{NamesHash, Spells, Pair, pairText, parted, valuesOf, Said, absent, said, AtMostOne, Meaning, IsLink}
-use Rattle.links.specs.Causes.{ended}
+use Rattle.links.specs.Link.{Spells, Said, absent, said, Meaning}
+use Rattle.links_laws.specs.Form.{NamesHash, Pair, pairText, parted, valuesOf, AtMostOne, IsLink}
+use Rattle.links_laws.specs.Causes.{ended}
 use Rattle.links.specs.Reading.{fieldOf, Seen, unsaid, has, with, Mode, prefix, naming, urn, digits, half, value, percent, digit, State, going, stopped, opening, inMode, fed, told, meant, finish, begun}
 use Rattle.links.specs.declared.scan.Field.{Field}
 use Rattle.links.specs.declared.scan.Field.the-variants.{Hash, Name, Address, Other}
 use Rattle.links.proofs.Running.{prefix-run, urn-run, name-run, hex-run, value-run}
-use Rattle.links.proofs.Saying.{Gives, Adds, Says, says-more, says-form, says-through, through-says, parted-more}
-use Rattle.links.proofs.Reached.{In, pair, hashPair, hash-adds, value-adds, Reached, reached}
+use Rattle.links_laws.proofs.Saying.{Gives, Adds, Says, says-more, says-form, says-through, through-says, parted-more}
+use Rattle.links_laws.proofs.Reached.{In, pair, hashPair, hash-adds, value-adds, Reached, reached}
 
 -- ---- what is taken is a link
 

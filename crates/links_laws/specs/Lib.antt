@@ -1,0 +1,3 @@
+-- The definitions, a file for each subject.
+pub mod Form
+pub mod Causes
