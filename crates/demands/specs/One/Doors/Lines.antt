@@ -8,7 +8,8 @@ use Rattle.bencode_writer.specs.Put.{paper as putPaper, left, putOf, Ran}
 use Rattle.bencode_writer.specs.declared.Put.{Put}
 use Rattle.torrent_lines.specs.Lines.{mostPrinted, refusedLine, listingOf}
 use Rattle.torrent_lines.proofs.Laws as laws
-use Rattle.demands.specs.One.{Lent, now, Determined1, Keeps1, Refused, Determined}
+use Rattle.refusal.proofs.Outcomes.{not-refused}
+use Rattle.demands.specs.One.{Lent, now, Determined1, Keeps1, Takes1, Refused, Determined}
 
 -- torrent_lines::listing
 abbrev pub listing-ensures : (text : Lent (List ℕ)) → Put → Lent (List ℕ) → Type 0
@@ -31,7 +32,10 @@ size-determined text r r′ e f = e ∙ sym f
 
 -- torrent_lines::refused
 abbrev pub refused-ensures : (number place : ℕ) → ℕ → Lent (List ℕ) → Type 0
-refused-ensures number place r out = Ran (refusedLine number place) 0 (now (out .entry)) r (now (out .exit)) × (r ≤ mostPrinted)
+refused-ensures number place r out = (Ran (refusedLine number place) 0 (now (out .entry)) r (now (out .exit))) × (r ≤ mostPrinted)
 
 pub refused-determined : (number place : ℕ) → Determined1 (refused-ensures number place)
 refused-determined number place out r r′ out₁ out₂ e f = laws.ran-determined _ 0 _ (e .0) (f .0)
+
+pub refused-takes : (number place : ℕ) → Takes1 (refused-ensures number place) (λ (r : ℕ). taken r)
+refused-takes number place r out e k = not-refused (k .2)

@@ -3,7 +3,7 @@ use mathlib.Core.List.{List}
 use mathlib.Core.Path.{_≡_}
 use Prim.Native.Nat.{ℕ, _≤_}
 use lib.ListN.{length}
-use Rattle.refusal.specs.Paper.{map}
+use Rattle.refusal.specs.Paper.{taken, map}
 use Rattle.bencode_writer.specs.Put.{left as putLeft, paper as putPaper, Ran}
 use Rattle.bencode_writer.specs.declared.Put.{Put}
 use Rattle.links.specs.Reading.{leftOf, left, paper}
@@ -14,7 +14,8 @@ use Rattle.links.specs.declared.Sized.{Sized}
 use Rattle.torrent_lines.proofs.Laws.{ran-determined}
 use Rattle.links.proofs.Answers as answers
 use Rattle.links_laws.proofs.Laws as laws
-use Rattle.demands.specs.One.{Lent, now, Determined, Determined1, Determined3, Keeps1, Keeps3, Refused}
+use Rattle.refusal.proofs.Outcomes.{not-refused}
+use Rattle.demands.specs.One.{Lent, now, Determined, Determined1, Determined3, Keeps1, Keeps3, Takes1, Refused}
 
 -- links::read
 abbrev pub read-ensures : (text : Lent (List ℕ)) → Linked → (hash name address : Lent (List ℕ)) → Type 0
@@ -46,7 +47,10 @@ size-determined torrent r r′ e f = laws.size-determined (now (torrent .entry))
 
 -- links::line
 abbrev pub line-ensures : (torrent : Lent (List ℕ)) → ℕ → Lent (List ℕ) → Type 0
-line-ensures torrent r out = Ran (lineOf (now (torrent .entry))) 0 (now (out .entry)) r (now (out .exit)) × (r ≤ mostLine)
+line-ensures torrent r out = (Ran (lineOf (now (torrent .entry))) 0 (now (out .entry)) r (now (out .exit))) × (r ≤ mostLine)
 
 pub line-determined : (torrent : Lent (List ℕ)) → Determined1 (line-ensures torrent)
 line-determined torrent out r r′ out₁ out₂ e f = ran-determined _ 0 _ (e .0) (f .0)
+
+pub line-takes : (torrent : Lent (List ℕ)) → Takes1 (line-ensures torrent) (λ (r : ℕ). taken r)
+line-takes torrent r out e k = not-refused (k .2)
