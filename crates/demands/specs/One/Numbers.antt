@@ -1,7 +1,7 @@
 -- Statement 4 of demand 1: "Given exactly when". Each number of document 01's table in its order: under the table's line, call by call, that the number
 -- is given at a place exactly when its cause holds there, by every answer r that the contract of the call permits. A cause says that the checks before it are
 -- passed. The causes: bencode_laws/specs/Causes (1 to 7), torrent_laws/specs/Causes and tracker/specs/Causes (10 to 15), torrent_blocks/specs/Covers,
--- sheets/specs/Causes (10 and 15 of a sheet), links/specs/Causes (19), peer_wire/specs/Causes (20 to 23, wait), torrent_authoring/specs/Rules and tracker/specs/Faults (the writers),
+-- sheets/specs/Causes (10 and 15 of a sheet), links_laws/specs/Causes (19), peer_wire/specs/Causes (20 to 23, wait), torrent_authoring/specs/Rules and tracker/specs/Faults (the writers),
 -- yard_laws/specs/Causes and Damage (the yard's words), and demands_laws/specs/Causes. Of the yard r is the number that C gets: `Permits t c r z` is the contract of the call c on the tables t, and `Made lent h
 -- (found t)` says that the tables `lent`, started and then called any way, have become these, and h is what happened (Program.antt). Assumes nothing.
 use mathlib.Core.Path.{_≡_, sym, _∙_}
