@@ -32,6 +32,7 @@ use Rattle.links.specs.Reading.{sizeOf, storedIn, givenOf, Sizes, sizesOf, Left
 use Rattle.links.specs.Writing.{linkText, unlessLong, writtenOf, puts, writeOf}
 use Rattle.links.proofs.Answers.{digest-length}
 use Rattle.links.proofs.Answers as answers
+use Rattle.links.proofs.Decoding.{put-front}
 use Rattle.links_laws.proofs.Back.{written-is-link}
 use Rattle.links_laws.proofs.Laws as links
 use Rattle.demands_laws.specs.Texts.{Encodes, linkOf, bytesIn}
@@ -62,7 +63,7 @@ read-answer c = same-answer (ap (λ (y : Left). y .answer) c)
 -- what an output holds: the bytes that are said, and the rest as it was
 stored : (v : Said) (o : List ℕ) → sizeOf v ≤ length o → storedIn v o ≡ bytesIn v ++ drop (sizeOf v) o
 stored absent o l = refl
-stored (said bs) o l = links.front bs o l
+stored (said bs) o l = put-front bs o l
 
 module _ (s h d t : List ℕ) where
   pub exact : ((x : Sizes) × (leftOf s h d t .answer ≡ taken x)) ↔ ((m : Meaning) × (length s ≤ mostText) × IsLink s m × (sizeOf (m .name) ≤ length d) × (sizeOf (m .address) ≤ length t))
@@ -104,7 +105,7 @@ module _ (w o : List ℕ) where
   )
 
   put-out : length w ≤ length o → putOf w 0 o .out ≡ w ++ drop (length w) o
-  put-out l = let g : 0 + length w ≤ length o = omega arith in ap (λ (x : PutLeft). x .out) (put-whole w 0 o g) ∙ links.front w o l
+  put-out l = let g : 0 + length w ≤ length o = omega arith in ap (λ (x : PutLeft). x .out) (put-whole w 0 o g) ∙ put-front w o l
 
 -- 37 of what is to be put, or the refusal of what is not
 abbrev pub NoRoom : List ℕ → Outcome (List ℕ) → ℕ → ℕ → Type 0
@@ -262,8 +263,8 @@ module _ (s : List ℕ) where
             let r = links.read-exact (linkOf t) (meaning t) .1 (write-short, j) in
             ap (λ (y : List ℕ). leftOf y h d a) write-front
             ∙ links.left-stored (linkOf t) h d a (meaning t) r l m
-            ∙ ap (λ (y : List ℕ). left (taken (sizesOf (meaning t))) (meaning t .hash) y (sets a 0 (t .announce))) (links.front (t .name) d l)
-            ∙ ap (left (taken (sizesOf (meaning t))) (meaning t .hash) (t .name ++ drop (length (t .name)) d)) (links.front (t .announce) a m)
+            ∙ ap (λ (y : List ℕ). left (taken (sizesOf (meaning t))) (meaning t .hash) y (sets a 0 (t .announce))) (put-front (t .name) d l)
+            ∙ ap (left (taken (sizesOf (meaning t))) (meaning t .hash) (t .name ++ drop (length (t .name)) d)) (put-front (t .announce) a m)
 
   -- ---- how many bytes
 

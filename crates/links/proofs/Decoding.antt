@@ -10,11 +10,11 @@ use lib.ListN.{length, getD, drop, set, drop-of-length-le}
 use lib.Seq.{sets, sets-eq, length-sets}
 use Rattle.refusal.proofs.Cases.{cannot}
 use Rattle.bencode_writer.proofs.Stores.{Storing, storing-start, storing-more, storing-end}
+use Rattle.torrent_lines.proofs.Running.{one-more as from-place}
 use Rattle.links.specs.Link.{Said, absent, said}
 use Rattle.links.specs.Reading.{nibble}
 use Rattle.links.specs.Places.{SpeltAt, HashAt, Holds, unheld, held}
 use Rattle.links.specs.declared.scan.Spelt.{Spelt}
-use Rattle.links.proofs.Lengths.{from-place}
 use Rattle.links.proofs.Spelling.{Front, itself, escaped, front, hash-digits}
 
 -- ---- what the pass holds of a value
@@ -105,9 +105,15 @@ module _ (s : List ℕ) (p k : ℕ) (o : List ℕ) (y : Spelling s p k o) where
 
 -- ---- a hash
 
--- all of an output is stored anew
+-- what is put at the front of an output, before the rest as it was
+pub put-front : (w o : List ℕ) → length w ≤ length o → sets o 0 w ≡ w ++ drop (length w) o
+put-front w o l =
+    let z : 0 + length w ≡ length w = omega arith in
+    sets-eq w o 0 (omega arith) ∙ ap (λ (k : ℕ). w ++ drop k o) z
+
+-- all of it is put anew
 sets-all : (o bs : List ℕ) → length bs ≡ length o → sets o 0 bs ≡ bs
-sets-all o bs e = sets-eq bs o 0 (omega arith) ∙ ap (λ (l : List ℕ). bs ++ l) (drop-of-length-le o {i = 0 + length bs} (omega arith)) ∙ append-nil bs
+sets-all o bs e = put-front bs o (omega arith) ∙ ap (λ (l : List ℕ). bs ++ l) (drop-of-length-le o {i = length bs} (omega arith)) ∙ append-nil bs
 
 -- the first i bytes of any hash that stands at p are stored
 pub record Hashing (s : List ℕ) (p : ℕ) (o : List ℕ) (i : ℕ) (out : List ℕ) : Type 0 where

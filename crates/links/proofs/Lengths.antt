@@ -9,13 +9,9 @@ use native.Mathlib.Numerals.{add-one}
 use borrow.Author.Tests.{eqb-true, eq-eqb}
 use lib.Dec.{eqb}
 use lib.ListN.{length, getD, drop, drop-of-length-le}
-use lib.Seq.{drop-cons}
+use Rattle.torrent_lines.proofs.Running.{one-more as from-place}
 use Rattle.refusal.proofs.Cases.{by-bool, less-or}
 use Rattle.links.specs.Places.{runs, common}
-
--- what stands at a place, and what after it
-pub from-place : (s : List ℕ) (i : ℕ) → i < length s → drop i s ≡ getD s i 0 ∷ drop (i + 1) s
-from-place s i h = drop-cons s i 0 h ∙ ap (λ (k : ℕ). getD s i 0 ∷ drop k s) (sym (add-one i))
 
 -- ---- of a kind
 

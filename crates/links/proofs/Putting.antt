@@ -14,10 +14,9 @@ use Rattle.bencode_writer.specs.Escaped.{escapedByte}
 use Rattle.bencode_writer.specs.Put.{left, putOf, placePast, Ran}
 use Rattle.bencode_writer.proofs.Escapes.{escape-plain, escape-other, escaped-more}
 use Rattle.bencode_writer.proofs.Runs.{ran-length, ran-then, ran-as, put-ran}
-use Rattle.torrent_lines.proofs.Running.{Going}
+use Rattle.torrent_lines.proofs.Running.{one-more as from-place, Going}
 use Rattle.links.specs.Link.{smallDigit}
 use Rattle.links.specs.Writing.{unreserved, escaped, smallHex, textOf}
-use Rattle.links.proofs.Lengths.{from-place}
 
 -- ---- a digit, and a byte of a value
 

@@ -11,6 +11,7 @@ use lib.Seq.{drop-drop, getD-drop, drop-at}
 use Rattle.refusal.specs.Paper.{Outcome, refused}
 use Rattle.refusal.specs.Numbers as no
 use Rattle.refusal.proofs.Cases.{by-bool, less-or, false-if, no-way}
+use Rattle.torrent_lines.proofs.Running.{one-more as from-place}
 use Rattle.links.specs.Link.{plainByte, HexText, no-byte, a-byte, Spells, nothing, plain, escape, Meaning}
 use Rattle.links.specs.Reading.{nibble, isHex, Seen, digits, value, percent, going, inMode, fed, finish}
 use Rattle.links.specs.Places.{answerAt, runs, SpeltTo, SpeltAt, HashAt, Valued}
@@ -18,7 +19,7 @@ use Rattle.links.specs.declared.values.Value.the-variants.{To, Broken as
 use Rattle.links.specs.declared.scan.Field.{Field}
 use Rattle.links.proofs.Digits.{nibble-hex, hex-nibble}
 use Rattle.links.proofs.Running.{value-run}
-use Rattle.links.proofs.Lengths.{from-place, runs-more, runs-stop, runs-none}
+use Rattle.links.proofs.Lengths.{runs-more, runs-stop, runs-none}
 use Rattle.links.proofs.Turning.{off}
 
 at-same : {p q : ℕ} → p ≡ q → _≡_ {A = Outcome Meaning} (refused no.link p) (refused no.link q)
@@ -82,14 +83,14 @@ three-at s q h =
     ∙ ap (λ (k : ℕ). getD s q 0 ∷ getD s (q + 1) 0 ∷ drop k s) e
     ∙ ap {B = List ℕ} (λ (l : List ℕ). getD s q 0 ∷ getD s (q + 1) 0 ∷ l) (from-place s (q + 2) h ∙ ap (λ (k : ℕ). getD s (q + 2) 0 ∷ drop k s) f)
 
+pub spells-join : {w v : List ℕ} (u x : List ℕ) → Spells w v → Spells u x → Spells (w ++ u) (v ++ x)
+spells-join u x nothing t = t
+spells-join u x (plain b w bs e s) t = plain b (w ++ u) (bs ++ x) e (spells-join u x s t)
+spells-join u x (escape h l y z w bs i j s) t = escape h l y z (w ++ u) (bs ++ x) i j (spells-join u x s t)
+
 module _ (s : List ℕ) where
   pub spelt-none : (p : ℕ) → p ≤ length s → SpeltTo s p p []
   spelt-none p h = record { text = []; there = refl; place = omega arith; end = h; spells = nothing }
-
-  joined : {w v bs cs : List ℕ} → Spells w bs → Spells v cs → Spells (w ++ v) (bs ++ cs)
-  joined nothing y = y
-  joined (plain b w bs e x) y = plain b _ _ e (joined x y)
-  joined (escape h l i j w bs e f x) y = escape h l i j _ _ e f (joined x y)
 
   module _ {p q : ℕ} {bs : List ℕ} (x : SpeltTo s p q bs) where
     spelt-more : (v cs : List ℕ) (r : ℕ) → drop q s ≡ v ++ drop r s → r ≡ q + length v → r ≤ length s → Spells v cs → SpeltTo s p r (bs ++ cs)
@@ -98,7 +99,7 @@ module _ (s : List ℕ) where
       there = x .there ∙ ap (λ (l : List ℕ). x .text ++ l) e ∙ sym (append-assoc (x .text) v (drop r s));
       place = omega (arith, x .place, f, length-append (x .text) v);
       end = h;
-      spells = joined (x .spells) y;
+      spells = spells-join v cs (x .spells) y;
     }
 
     pub spelt-plain : q < length s → plainByte (getD s q 0) ≡ true → SpeltTo s p (q + 1) (bs ++ (getD s q 0 ∷ []))

@@ -15,6 +15,7 @@ use Rattle.refusal.specs.Paper.{Outcome, refused}
 use Rattle.refusal.specs.Numbers as no
 use Rattle.refusal.proofs.Places.{two-there}
 use Rattle.refusal.proofs.Cases.{by-bool, less-or, false-if}
+use Rattle.torrent_lines.proofs.Running.{one-more as from-place}
 use Rattle.links.specs.Link.{nameByte, plainByte, Said, Meaning}
 use Rattle.links.specs.Reading.{fieldOf, Seen, has, isSaid, with, Mode, naming, prefixed, urned, digits, value, State, going, stopped, opening, valued, inMode, fed, meant, finish}
 use Rattle.links.specs.Places.{answerAt, runs, common, SpeltAt, HashAt, Holds, unheld, held, Shows, TurnedAs, namedAt, isHeld, keeps, kept, closedAt}
@@ -24,7 +25,6 @@ use Rattle.links.specs.declared.scan.Spelt.{Spelt}
 use Rattle.links.specs.declared.scan.Pass.{Pass}
 use Rattle.links.specs.declared.scan.Turn.the-variants.{More, Last, Broken}
 use Rattle.links.proofs.Running.{fed-stopped}
-use Rattle.links.proofs.Lengths.{from-place}
 
 -- a fault is the answer whatever comes after it
 pub off : (p : ℕ) (s : List ℕ) → finish (fed (stopped p) s) ≡ refused no.link p

@@ -1,5 +1,5 @@
 -- A link as it is written is a link, and says what it was written for. Assumes nothing.
-use mathlib.Core.Path.{_≡_, refl, subst}
+use mathlib.Core.Path.{sym, _≡_, refl, subst}
 use mathlib.Core.Logic.{_⊎_, inl, inr}
 use mathlib.Core.Bool.{Bool, true, _||_}
 use mathlib.Core.List.{List, [], _∷_}
@@ -18,8 +18,7 @@ use Rattle.links_laws.specs.Form.{parted, IsLink}
 use Rattle.links.specs.Reading.{fieldOf, unsaid}
 use Rattle.links.specs.Writing.{unreserved, escaped, smallHex, textOf}
 use Rattle.links.specs.declared.scan.Field.the-variants.{Name, Address}
-use Rattle.links.proofs.Digits.{within}
-use Rattle.links_laws.proofs.Saying.{plain-high}
+use Rattle.links.proofs.Digits.{within, most-plain}
 use Rattle.links_laws.proofs.Reached.{pair, hashPair, hash-adds, value-adds}
 use Rattle.links_laws.proofs.Exact.{link-of}
 
@@ -58,10 +57,10 @@ unreserved-plain : (b : ℕ) → unreserved b ≡ true → plainByte b ≡ true
 unreserved-plain b e = any (or-cases (letterOrDigit b) (eqb b 45 || (eqb b 46 || (eqb b 95 || eqb b 126))) e)
   where
     in-range : (a c : ℕ) → between a c b ≡ true → 39 < a → c < 127 → plainByte b ≡ true
-    in-range a c f l h = let w = within a c b f in plain-high b (omega (arith, w)) (omega (arith, w))
+    in-range a c f l h = let w = within a c b f in sym (most-plain b (omega (arith, w)) (omega (arith, w)))
 
     is : (c : ℕ) → eqb b c ≡ true → 39 < c → c < 127 → plainByte b ≡ true
-    is c f l h = let x = eqb-true b c f in plain-high b (omega arith) (omega arith)
+    is c f l h = let x = eqb-true b c f in sym (most-plain b (omega arith) (omega arith))
 
     small : (between 97 122 b ≡ true) ⊎ (between 48 57 b ≡ true) → plainByte b ≡ true
     small (inl f) = in-range 97 122 f (omega arith) (omega arith)

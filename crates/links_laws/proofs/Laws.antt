@@ -2,12 +2,11 @@
 use mathlib.Core.Path.{_≡_, refl, sym, ap, _∙_, subst}
 use mathlib.Core.Logic.{_⊎_, inl, inr, _↔_}
 use mathlib.Core.List.{List, [], _∷_, _++_}
-use Prim.Native.Nat.{ℕ, zero, suc, _+_, _<_, _≤_}
+use Prim.Native.Nat.{ℕ, zero, suc, _<_, _≤_}
 use native.Mathlib.Omega.{arith}
 use borrow.Author.Tests.{lt-ltb, le-ltb, le-leb, lt-leb}
 use lib.Dec.{lit<}
-use lib.ListN.{length, drop}
-use lib.Seq.{sets, sets-eq}
+use lib.ListN.{length}
 use Rattle.refusal.specs.Limits.{mostText}
 use Rattle.refusal.specs.Paper.{Outcome, taken, refused, map}
 use Rattle.refusal.specs.Numbers as no
@@ -190,12 +189,6 @@ pub size-determined : (s : List ℕ) (r q : Sized) → sizePaper r ≡ map lengt
 size-determined s r q e f = sym (sized-again r) ∙ ap sizedAs (e ∙ sym f) ∙ sized-again q
 
 -- ---- bytes
-
--- what is put at the front of an output, before the rest as it was
-pub front : (w o : List ℕ) → length w ≤ length o → sets o 0 w ≡ w ++ drop (length w) o
-front w o l =
-    let z : 0 + length w ≡ length w = omega arith in
-    sets-eq w o 0 (omega arith) ∙ ap (λ (k : ℕ). w ++ drop k o) z
 
 bytes-append : (p q : List ℕ) → Bytes p → Bytes q → Bytes (p ++ q)
 bytes-append [] q g h i = h i

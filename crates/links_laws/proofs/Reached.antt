@@ -19,7 +19,8 @@ use Rattle.links.specs.declared.scan.Field.{Field}
 use Rattle.links.specs.declared.scan.Field.the-variants.{Hash, Name, Address, Other}
 use Rattle.links.proofs.Digits.{nibble-hex}
 use Rattle.links.proofs.Running.{fed-stopped}
-use Rattle.links_laws.proofs.Saying.{isHash, kinds, Gives, Adds, Says, says-more, spells-join, ended-more}
+use Rattle.links_laws.proofs.Saying.{isHash, kinds, Gives, Adds, Says, says-more, ended-more}
+use Rattle.links.proofs.Spelling.{spells-join}
 
 -- ---- texts
 

@@ -5,19 +5,20 @@ use mathlib.Core.Bool.{Bool, true, false, _&&_}
 use mathlib.Core.List.{List, [], _∷_, _++_, append-assoc}
 use Prim.Native.Nat.{ℕ, _+_, _<_, _≤_}
 use native.Mathlib.Omega.{arith}
-use borrow.Author.Tests.{lt-ltb, le-ltb, ne-eqb}
+use borrow.Author.Tests.{lt-ltb, le-ltb}
 use lib.ListN.{length}
 use Rattle.refusal.specs.Texts.{bytes}
 use Rattle.refusal.proofs.Cases.{less-or, by-bool, both, no-way, cannot}
 use Rattle.bencode_walk.specs.Lookup.{sameKey}
 use Rattle.bencode_walk.proofs.Finding.{same-true}
-use Rattle.links.specs.Link.{plainByte, Hex, HexText, no-byte, a-byte, Spells, nothing, plain, escape, NameBytes, Said, absent, said}
+use Rattle.links.specs.Link.{plainByte, Hex, HexText, no-byte, a-byte, Spells, nothing, plain, NameBytes, Said, absent, said}
 use Rattle.links_laws.specs.Form.{NamesHash, Pair, InForm, AllInForm, no-pair, a-pair, pairText, parted, valuesOf, AtMostOne, none, one}
 use Rattle.links_laws.specs.Causes.{ended}
 use Rattle.links.specs.Reading.{fieldOf, Seen, isSaid, has, with}
 use Rattle.links.specs.declared.scan.Field.{Field}
 use Rattle.links.specs.declared.scan.Field.the-variants.{Hash, Name, Address, Other}
-use Rattle.links.proofs.Digits.{inside}
+use Rattle.links.proofs.Digits.{most-plain}
+use Rattle.links.proofs.Spelling.{spells-join}
 
 -- ---- names, and what they are names of
 
@@ -166,11 +167,6 @@ spelt-plain : (w : List ℕ) → plains w ≡ true → Spells w w
 spelt-plain [] e = nothing
 spelt-plain (b ∷ w) e = let x = both (plainByte b) (plains w) e in plain b w w (x .0) (spelt-plain w (x .1))
 
-pub spells-join : {w v : List ℕ} (u x : List ℕ) → Spells w v → Spells u x → Spells (w ++ u) (v ++ x)
-spells-join u x nothing t = t
-spells-join u x (plain b w bs e s) t = plain b (w ++ u) (bs ++ x) e (spells-join u x s t)
-spells-join u x (escape h l y z w bs i j s) t = escape h l y z (w ++ u) (bs ++ x) i j (spells-join u x s t)
-
 hex-range : (c x : ℕ) → Hex c x → (48 ≤ c) × (c ≤ 102)
 hex-range c x (l, inl e) =
     less-or x 10
@@ -181,11 +177,8 @@ hex-range c x (l, inr e) =
     (λ h. let f : c ≡ 48 + x = e ∙ rw (lt-ltb x 10 h) in (omega arith, omega arith))
     (λ h. let f : c ≡ 87 + x = e ∙ rw (le-ltb x 10 h) in (omega arith, omega arith))
 
-pub plain-high : (c : ℕ) → 39 ≤ c → c ≤ 126 → plainByte c ≡ true
-plain-high c l h = rw (inside 33 126 c (omega arith) (omega arith), ne-eqb c 35 (λ e. omega arith), ne-eqb c 37 (λ e. omega arith), ne-eqb c 38 (λ e. omega arith))
-
 pub hex-plain : (c x : ℕ) → Hex c x → plainByte c ≡ true
-hex-plain c x h = let r = hex-range c x h in plain-high c (omega arith) (omega arith)
+hex-plain c x h = let r = hex-range c x h in sym (most-plain c (omega arith) (omega arith))
 
 spelt-hex : {w bs : List ℕ} → HexText w bs → Spells w w
 spelt-hex no-byte = nothing
