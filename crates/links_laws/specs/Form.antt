@@ -25,6 +25,7 @@ pub data AllInForm : List Pair → Type 0 where
   no-pair : AllInForm []
   a-pair : (x : Pair) (xs : List Pair) → InForm x → AllInForm xs → AllInForm (x ∷ xs)
 
+-- the name, "=" and the value
 abbrev pub pairText : Pair → List ℕ
 pairText x = x .name ++ (61 ∷ x .value)
 
