@@ -1,10 +1,10 @@
--- Bytes put one after the other. Assumes nothing.
+-- Bytes put one after the other, and loops that put them. Assumes nothing.
 use mathlib.Core.Path.{_≡_, refl, sym, ap, _∙_, subst}
 use mathlib.Core.List.{List, [], _++_, append-assoc}
 use Prim.Native.Nat.{ℕ, _+_, _-_, _≤_}
 use native.Mathlib.Omega.{arith}
 use lib.ListN.{length, take, drop, length-append}
-use lib.Seq.{length-sets}
+use lib.Seq.{sets, length-sets}
 use Rattle.refusal.specs.Paper.{Outcome}
 use Rattle.refusal.proofs.Places.{sets-append, stands}
 use Rattle.bencode_writer.specs.Put.{Left, left, putOf, placePast, Ran}
@@ -58,3 +58,35 @@ put-three v w x at o l e₁ f₁ e₂ f₂ e₃ f₃ =
     let same = append-assoc v w x in
     let two = put-two v w at o (omega (arith, ap length same, length-append (v ++ w) x)) e₁ f₁ e₂ f₂ in
     ran-as (ran-put two x (omega (arith, ap length same)) e₃ f₃) same
+
+-- ---- what is left to put
+
+-- all the bytes were to be put at a place of o; p now has them but for those left, which go to `to`
+pub record Going (all : List ℕ) (at : ℕ) (o : List ℕ) (left : List ℕ) (to : ℕ) (p : List ℕ) : Type 0 where
+  pub place : to + length left ≡ at + length all
+  pub same : sets p to left ≡ sets o at all
+
+module _ (all : List ℕ) (at : ℕ) (o : List ℕ) where
+  pub going-start : Going all at o all at o
+  going-start = record { place = refl; same = refl }
+
+  module _ {left : List ℕ} {to : ℕ} {p : List ℕ} (g : Going all at o left to p) where
+    pub going-more : (w x : List ℕ) → left ≡ w ++ x → {r : ℕ} {e : List ℕ} → Ran w to p r e → Going all at o x r e
+    going-more w x i {r} {e} k = record {
+      place = omega (arith, g .place, k .place, length-append w x, ap length i);
+      same = ap (λ (n : ℕ). sets e n x) (k .place) ∙ ap (λ (l : List ℕ). sets l (to + length w) x) (k .out) ∙ sym (sets-append p to w x) ∙ ap (sets p to) (sym i) ∙ g .same;
+    }
+
+    pub going-end : left ≡ [] → Ran all at o to p
+    going-end e = record { place = omega (arith, g .place, ap length e); out = ap (sets p to) (sym e) ∙ g .same }
+
+    -- nothing is put past what there is
+    pub going-near : to ≤ at + length all
+    going-near = omega (arith, g .place)
+
+module _ {all : List ℕ} {at : ℕ} {o left : List ℕ} {to : ℕ} {p : List ℕ} (g : Going all at o left to p) where
+  pub going-length : length p ≡ length o
+  going-length = sym (length-sets p to left) ∙ ap length (g .same) ∙ length-sets o at all
+
+  pub going-room : at + length all ≤ length o → to + length left ≤ length p
+  going-room h = omega (arith, g .place, going-length)

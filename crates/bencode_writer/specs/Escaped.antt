@@ -1,4 +1,4 @@
--- Bytes with escapes, as listings and links have them: a byte that is not kept plain is % and two hex digits. Assumes nothing: these are definitions.
+-- Bytes with escapes, as listings and links have them: a byte that is not kept plain is % and two hex digits; and bytes as hex digits alone. Assumes nothing: these are definitions.
 use mathlib.Core.Bool.{Bool, cond}
 use mathlib.Core.List.{List, [], _∷_, _++_}
 use Prim.Native.Nat.{ℕ, _+_, _/_, _%_}
@@ -20,3 +20,12 @@ escapedByte plain b = cond (plain b) (b ∷ []) (percent b)
 unfoldable pub escapedBy : (ℕ → Bool) → List ℕ → List ℕ
 escapedBy plain [] = []
 escapedBy plain (b ∷ bs) = escapedByte plain b ++ escapedBy plain bs
+
+-- a hex digit, small from ten on
+abbrev pub smallDigit : ℕ → ℕ
+smallDigit n = cond (ltb n 10) (48 + n) (87 + n)
+
+-- two small hex digits for each byte
+unfoldable pub smallHex : List ℕ → List ℕ
+smallHex [] = []
+smallHex (b ∷ bs) = smallDigit (b / 16) ∷ smallDigit (b % 16) ∷ smallHex bs

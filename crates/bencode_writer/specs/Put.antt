@@ -25,6 +25,11 @@ Left = Leaves ℕ
 unfoldable pub putOf : List ℕ → ℕ → List ℕ → Left
 putOf w at o = cond (leb (at + length w) (length o)) (left (taken (at + length w)) (sets o at w)) (left (refused room 0) o)
 
+-- what a call writes, to the front of the output o: 37 where it does not fit; a refusal leaves o as it was
+abbrev pub puts : List ℕ → Outcome (List ℕ) → Left
+puts o (taken w) = putOf w 0 o
+puts o (refused n p) = left (refused n p) o
+
 -- the place past what was put, and 0 of a refusal
 abbrev pub placePast : Outcome ℕ → ℕ
 placePast (taken q) = q

@@ -1,14 +1,15 @@
-// Writers' parts: bytes, decimal numbers, strings and integers, put at a place of lent output; and a byte's escape.
+// Writers' parts: bytes, as they are and as hex digits, decimal numbers, strings and integers, put at a place of lent output;
+// and a byte's escape.
 // Where one does not fit, nothing is written; what stands before the place and past the part stays.
 ghost use mathlib.Core.Path.{_≡_};
 ghost use mathlib.Core.Bool.{true, false};
-ghost use mathlib.Core.List.{_∷_, _++_};
-ghost use Prim.Native.Nat.{_+_, _<_, _≤_};
+ghost use mathlib.Core.List.{[], _∷_, _++_};
+ghost use Prim.Native.Nat.{_+_, _/_, _%_, _<_, _≤_};
 ghost use lib.IntN.{natAbs};
 ghost use lib.ListN.{length};
 ghost use Rattle.refusal.specs.Numbers.{room};
 ghost use Rattle.bencode_scalar.specs.Written.{decimal, writtenString, writtenInt};
-ghost use Rattle.bencode_writer.specs.Escaped.{hexDigit, percent};
+ghost use Rattle.bencode_writer.specs.Escaped.{hexDigit, percent, smallDigit, smallHex};
 ghost use Rattle.bencode_writer.specs.Put.{paper, left, putOf, placePast, Ran};
 use refusal::Refusal;
 use refusal::number;
@@ -27,6 +28,16 @@ pub fn literal(out: &mut [u8], at: usize, bytes: &[u8]) -> Put
         return no_room();
     }
     Put::To(store(out, at, bytes))
+}
+
+// Two small hex digits for each byte.
+pub fn small_hex(out: &mut [u8], at: usize, bytes: &[u8]) -> Put
+    ensures { λ r. ⌜ left (paper r) (now (out .exit)) ≡ putOf (smallHex (now (bytes .entry))) at (now (out .entry)) ⌝ }
+{
+    if !has_room(out.len(), at, 2 * bytes.len()) {
+        return no_room();
+    }
+    Put::To(store_small_hex(out, at, bytes))
 }
 
 // A number in decimal.
@@ -134,6 +145,29 @@ fn store(out: &mut [u8], at: usize, bytes: &[u8]) -> usize
     at + i
 }
 
+// Stores two small hex digits for each byte, and gives the place past them.
+fn store_small_hex(out: &mut [u8], at: usize, bytes: &[u8]) -> usize
+    requires { ⌜ at + length (smallHex (now bytes)) ≤ length (now out) ⌝ }
+    ensures { λ r. ⌜ Ran (smallHex (now (bytes .entry))) at (now (out .entry)) r (now (out .exit)) ⌝ }
+{
+    let mut to = at;
+    let mut i = 0;
+    while i < bytes.len() {
+        to = store_small_byte(out, to, bytes[i]);
+        i += 1;
+    }
+    to
+}
+
+fn store_small_byte(out: &mut [u8], at: usize, b: u8) -> usize
+    requires { ⌜ at + 2 ≤ length (now out) ⌝ }
+    ensures { λ r. ⌜ Ran (smallDigit (b / 16) ∷ smallDigit (b % 16) ∷ []) at (now (out .entry)) r (now (out .exit)) ⌝ }
+{
+    out[at] = small_digit(b / 16);
+    out[at + 1] = small_digit(b % 16);
+    at + 2
+}
+
 // Stores the digits of n, `count` of them, from the last to the first, and gives the place past them.
 fn store_decimal(out: &mut [u8], at: usize, count: usize, n: u64) -> usize
     requires { ⌜ (count ≡ length (decimal n)) × (at + count ≤ length (now out)) ⌝ }
@@ -162,6 +196,13 @@ fn hex(n: u8) -> u8
     ensures { λ r. ⌜ r ≡ hexDigit n ⌝ }
 {
     if n < 10 { b'0' + n } else { b'A' - 10 + n }
+}
+
+fn small_digit(n: u8) -> u8
+    requires { ⌜ n < 16 ⌝ }
+    ensures { λ r. ⌜ r ≡ smallDigit n ⌝ }
+{
+    if n < 10 { b'0' + n } else { b'a' + (n - 10) }
 }
 
 // z without its sign; -z itself has no i64 where z is the least.

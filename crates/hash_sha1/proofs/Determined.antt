@@ -5,6 +5,7 @@ use mathlib.Core.List.{List}
 use Prim.Native.Nat.{ℕ, _≤_, _<_}
 use native.Mathlib.Omega.{arith}
 use lib.ListN.{length}
+use Rattle.refusal.specs.BigEndian.{bytesOf}
 use Rattle.refusal.specs.Paper.{Outcome, taken, refused}
 use Rattle.refusal.specs.Numbers.{long}
 use Rattle.refusal.specs.Limits.{longestPiece}
@@ -20,6 +21,11 @@ use Rattle.hash_sha1.specs.declared.stream.Stream.{Stream}
 use Rattle.hash_sha1.proofs.Parts.{digest-whole, digest-over, finish-whole, finish-over, by-limit}
 use Rattle.hash_sha1.proofs.Same.{same-equal, same-refl}
 use Rattle.hash_sha1.proofs.Steps.{agreement-whole, agreement-over}
+
+-- a digest has 20 bytes
+pub digest-length : (m : List ℕ) → length (sha1 m) ≡ 20
+unfolding sha1 bytesOf
+digest-length m = refl
 
 -- ---- document 01's words tell the code's answers apart
 

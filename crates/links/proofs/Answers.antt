@@ -12,19 +12,20 @@ use Rattle.refusal.specs.Paper.{Outcome, taken, refused, refusal, map}
 use Rattle.refusal.specs.Numbers as no
 use Rattle.refusal.specs.declared.Refusal.{Refusal}
 use Rattle.refusal.specs.Parts.{bytesAt}
-use Rattle.refusal.specs.BigEndian.{bytesOf}
-use Rattle.bencode_writer.specs.Put.{Ran}
-use Rattle.bencode_writer.specs.Put.{Left as PutLeft, left as putLeft, paper as putPaper}
+use Rattle.bencode_writer.specs.Put.{puts, Ran}
+use Rattle.bencode_writer.specs.Put.{left as putLeft, paper as putPaper}
 use Rattle.bencode_writer.specs.declared.Put.{Put}
 use Rattle.bencode_writer.specs.declared.Put.the-variants.{Refused as Unput}
-use Rattle.bencode_writer.proofs.Laws.{put-done, put-nothing, refusal-keeps}
+use Rattle.bencode_writer.proofs.Laws.{put-done, put-nothing}
+use Rattle.bencode_writer.proofs.Puts.{puts-keeps}
 use Rattle.refusal.proofs.Cases.{no-way}
 use Rattle.hash_sha1.specs.Sha1.{sha1}
+use Rattle.hash_sha1.proofs.Determined.{digest-length}
 use Rattle.torrent_metainfo.specs.declared.Torrent.{Torrent}
 use Rattle.torrent_metainfo.specs.Reading.{readOf as torrentIn}
 use Rattle.links.specs.Link.{Said, absent, said, Meaning}
 use Rattle.links.specs.Reading.{fed, finish, begun, readOf, sizeOf, storedIn, givenOf, sizesOf, Left, left, roomFor, decodedTo, leftOf, paper}
-use Rattle.links.specs.Writing.{escaped, textOf, linkText, unlessLong, writtenOf, puts, writeOf}
+use Rattle.links.specs.Writing.{escaped, textOf, linkText, unlessLong, writtenOf, writeOf}
 use Rattle.links.specs.Places.{SpeltAt, HashAt, Holds, unheld, held, ScannedAs, found, unfound, givenIn}
 use Rattle.links.specs.declared.Given.{Given}
 use Rattle.links.specs.declared.Given.the-variants.{Bytes as Some}
@@ -96,10 +97,6 @@ module _ (s h d t : List ℕ) where
 
 -- ---- writing
 
-pub digest-length : (m : List ℕ) → length (sha1 m) ≡ 20
-unfolding sha1 bytesOf
-digest-length m = refl
-
 module _ (s : List ℕ) (t : Torrent) where
   -- how many bytes the link has, by what the parts are
   pub link-length : {c : ℕ} {n a : List ℕ} → n ≡ bytesAt s (t .name) → a ≡ bytesAt s (t .announce) → c ≡ 68 + length (escaped n) + length (escaped a) → c ≡ length (linkText s t)
@@ -157,8 +154,4 @@ reading-keeps s h d t n p = go (readOf s)
     go (refused k q) e = (refl, refl, refl)
 
 pub link-keeps : (s o : List ℕ) (r : Put) {out : List ℕ} → putLeft (putPaper r) out ≡ writeOf s o → (n p : ℕ) → putPaper r ≡ refused n p → out ≡ o
-link-keeps s o r {out} e n p h = go (writtenOf s) e
-  where
-    go : (w : Outcome (List ℕ)) → putLeft (putPaper r) out ≡ puts o w → out ≡ o
-    go (taken w) f = refusal-keeps w 0 o r f h .1
-    go (refused m q) f = ap (λ (l : PutLeft). l .out) f
+link-keeps s o r e n p h = puts-keeps (writtenOf s) o r e n p h

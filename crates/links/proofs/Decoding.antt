@@ -7,8 +7,9 @@ use native.Mathlib.Nat.{zero-add}
 use borrow.Author.Tests.{eqb-true, eq-eqb, ltb-true}
 use lib.Dec.{eqb}
 use lib.ListN.{length, getD, drop, set, drop-of-length-le}
-use lib.Seq.{sets, sets-eq, length-sets}
+use lib.Seq.{sets, length-sets}
 use Rattle.refusal.proofs.Cases.{cannot}
+use Rattle.bencode_writer.proofs.Puts.{put-front}
 use Rattle.bencode_writer.proofs.Stores.{Storing, storing-start, storing-more, storing-end}
 use Rattle.torrent_lines.proofs.Running.{one-more as from-place}
 use Rattle.links.specs.Link.{Said, absent, said}
@@ -104,12 +105,6 @@ module _ (s : List ℕ) (p k : ℕ) (o : List ℕ) (y : Spelling s p k o) where
     decoding-length h = ap length (decoding-end h (y .0) (y .1) (y .2)) ∙ length-sets o 0 (y .0)
 
 -- ---- a hash
-
--- what is put at the front of an output, before the rest as it was
-pub put-front : (w o : List ℕ) → length w ≤ length o → sets o 0 w ≡ w ++ drop (length w) o
-put-front w o l =
-    let z : 0 + length w ≡ length w = omega arith in
-    sets-eq w o 0 (omega arith) ∙ ap (λ (k : ℕ). w ++ drop k o) z
 
 -- all of it is put anew
 sets-all : (o bs : List ℕ) → length bs ≡ length o → sets o 0 bs ≡ bs

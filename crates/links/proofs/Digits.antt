@@ -8,8 +8,8 @@ use borrow.Author.Tests.{ltb-true, leb-true, ne-eqb, not-true, lt-ltb, le-ltb, l
 use lib.Bits.{bitAnd}
 use lib.Dec.{leb, eqb}
 use Rattle.refusal.proofs.Cases.{less-or, same-or, both}
-use Rattle.bencode_writer.specs.Escaped.{hexDigit}
-use Rattle.links.specs.Link.{between, letterOrDigit, nameByte, plainByte, smallDigit, Hex}
+use Rattle.bencode_writer.specs.Escaped.{hexDigit, smallDigit}
+use Rattle.links.specs.Link.{between, letterOrDigit, nameByte, plainByte, Hex}
 use Rattle.links.specs.Reading.{nibble, isHex}
 use Rattle.links.specs.Writing.{unreserved}
 

@@ -11,17 +11,18 @@ use Rattle.refusal.specs.Paper.{Outcome, taken, refused}
 use Rattle.refusal.specs.Numbers.{long}
 use Rattle.refusal.specs.Parts.{bytesAt}
 use Rattle.refusal.specs.declared.Part.{Part}
-use Rattle.bencode_writer.specs.Put.{left, putOf, placePast, Ran}
+use Rattle.bencode_writer.specs.Put.{left, putOf, puts, placePast, Ran}
 use Rattle.bencode_writer.proofs.Escapes.{escaped-most}
 use Rattle.bencode_writer.proofs.Runs.{ran-as, put-two}
 use Rattle.hash_sha1.specs.Sha1.{sha1}
 use Rattle.torrent_metainfo.specs.declared.Torrent.{Torrent}
 use Rattle.torrent_metainfo.specs.Reading.{readOf}
 use Rattle.torrent_lines.specs.Lines.{refusedLine, mostListed}
-use Rattle.links.specs.Writing.{unreserved, linkText, unlessLong, writtenOf, puts}
+use Rattle.links.specs.Writing.{unreserved, linkText, unlessLong, writtenOf}
 use Rattle.links.specs.Line.{mostLine, lineBy, lineOf}
 use Rattle.links.proofs.Putting.{text-length}
-use Rattle.links.proofs.Answers.{digest-length, written-read, written-refused}
+use Rattle.hash_sha1.proofs.Determined.{digest-length}
+use Rattle.links.proofs.Answers.{written-read, written-refused}
 
 module _ (s : List ℕ) where
   pub line-long : mostListed < length s → refusedLine long 0 ≡ lineOf s

@@ -1,30 +1,19 @@
 -- The bytes of a link put into output one after the other, and how many there are. Assumes nothing.
-use mathlib.Core.Path.{_≡_, refl, sym, ap, _∙_}
+use mathlib.Core.Path.{_≡_, refl, ap, _∙_}
 use mathlib.Core.Bool.{true, false}
-use mathlib.Core.List.{List, [], _∷_, _++_, append-assoc}
-use Prim.Native.Nat.{ℕ, _+_, _*_, _/_, _%_, _<_, _≤_}
+use mathlib.Core.List.{List, _++_, append-assoc}
+use Prim.Native.Nat.{ℕ, _+_, _<_, _≤_}
 use native.Mathlib.Omega.{arith}
-use native.Mathlib.Numerals.{add-one}
-use borrow.Author.Tests.{lt-ltb, le-ltb}
-use lib.ListN.{length, getD, drop, set, length-append, drop-of-length-le}
-use lib.Seq.{length-sets}
+use lib.ListN.{length, getD, drop, set, length-append}
 use Rattle.refusal.specs.Texts.{bytes}
 use Rattle.refusal.specs.Paper.{Outcome}
-use Rattle.bencode_writer.specs.Escaped.{escapedByte}
+use Rattle.bencode_writer.specs.Escaped.{escapedByte, smallHex}
 use Rattle.bencode_writer.specs.Put.{left, putOf, placePast, Ran}
-use Rattle.bencode_writer.proofs.Escapes.{escape-plain, escape-other, escaped-more}
+use Rattle.bencode_writer.proofs.Escapes.{escape-plain, escape-other, escaped-more, hex-length}
 use Rattle.bencode_writer.proofs.Runs.{ran-length, ran-then, ran-as, put-ran}
-use Rattle.torrent_lines.proofs.Running.{one-more as from-place, Going}
-use Rattle.links.specs.Link.{smallDigit}
-use Rattle.links.specs.Writing.{unreserved, escaped, smallHex, textOf}
+use Rattle.links.specs.Writing.{unreserved, escaped, textOf}
 
--- ---- a digit, and a byte of a value
-
-pub digit-low : (n : ℕ) → n < 10 → 48 + n ≡ smallDigit n
-digit-low n h = rw (lt-ltb n 10 h)
-
-pub digit-high : (n : ℕ) → 10 ≤ n → 87 + n ≡ smallDigit n
-digit-high n h = rw (le-ltb n 10 h)
+-- ---- a byte of a value
 
 module _ (b : ℕ) where
   pub one-byte : unreserved b ≡ true → (1 ≡ length (escapedByte unreserved b)) × (1 ≤ 3)
@@ -36,38 +25,10 @@ module _ (b : ℕ) where
   pub put-plain : (at : ℕ) (o : List ℕ) → unreserved b ≡ true → Ran (escapedByte unreserved b) at o (at + 1) (set o at b)
   put-plain at o e = ran-as (record { place = refl; out = refl }) (escape-plain unreserved b e)
 
--- ---- what is left to put
-
-module _ {all : List ℕ} {at : ℕ} {o left : List ℕ} {to : ℕ} {p : List ℕ} (g : Going all at o left to p) where
-  pub going-length : length p ≡ length o
-  going-length = sym (length-sets p to left) ∙ ap length (g .same) ∙ length-sets o at all
-
-  pub going-room : at + length all ≤ length o → to + length left ≤ length p
-  going-room h = omega (arith, g .place, going-length)
-
 -- one byte of a value more, and how many bytes a value has
 module _ (s : List ℕ) (i : ℕ) where
   pub escaped-length : i < length s → length (escaped (drop i s)) ≡ length (escapedByte unreserved (getD s i 0)) + length (escaped (drop (i + 1) s))
   escaped-length h = ap length (escaped-more unreserved s i h) ∙ length-append (escapedByte unreserved (getD s i 0)) (escaped (drop (i + 1) s))
-
--- ---- digits of a hash
-
-module _ (s : List ℕ) (i : ℕ) where
-  pub hex-more : i < length s → smallHex (drop i s) ≡ (smallDigit (getD s i 0 / 16) ∷ smallDigit (getD s i 0 % 16) ∷ []) ++ smallHex (drop (i + 1) s)
-  unfolding smallHex
-  hex-more h = ap smallHex (from-place s i h)
-
-  pub hex-none : length s ≤ i → smallHex (drop i s) ≡ []
-  unfolding smallHex
-  hex-none h = ap smallHex (drop-of-length-le s h)
-
-pub put-digits : (x y at : ℕ) (o : List ℕ) {a b : ℕ} → a ≡ x → b ≡ y → Ran (x ∷ y ∷ []) at o (at + 2) (set (set o at a) (at + 1) b)
-put-digits x y at o e f = record { place = refl; out = rw (e, f, add-one) }
-
-pub hex-length : (s : List ℕ) → length (smallHex s) ≡ 2 * length s
-unfolding smallHex
-hex-length [] = omega arith
-hex-length (b ∷ s) = omega (arith, hex-length s)
 
 -- ---- a whole link
 
@@ -88,10 +49,10 @@ module _ (h d t : List ℕ) where
     start : Ran (bytes "magnet:?xt=urn:btih:") 0 o a o₁
     start = put-ran (bytes "magnet:?xt=urn:btih:") 0 o (omega (arith, l, text-parts)) e f
 
-    pub hash-room : a + length (smallHex h) ≤ length o₁
-    hash-room = omega (arith, l, text-parts, start .place, ran-length start)
+    module _ {b : ℕ} {o₂ : List ℕ} {y : Outcome ℕ} (e₂ : left y o₂ ≡ putOf (smallHex h) a o₁) (f₂ : b ≡ placePast y) where
+      g : Ran (smallHex h) a o₁ b o₂
+      g = put-ran (smallHex h) a o₁ (omega (arith, l, text-parts, start .place, ran-length start)) e₂ f₂
 
-    module _ {b : ℕ} {o₂ : List ℕ} (g : Ran (smallHex h) a o₁ b o₂) where
       pub name-room : b + length (bytes "&dn=" ++ escaped d) ≤ length o₂
       name-room = omega (arith, l, text-parts, start .place, ran-length start, g .place, ran-length g)
 

@@ -1,11 +1,11 @@
 -- The bytes of a magnet link by document 02: of names, of values and what they spell, of a hash; and what a link can say. What a link is: links_laws/specs/Form.antt. Assumes nothing: these are definitions.
 use mathlib.Core.Path.{_≡_}
 use mathlib.Core.Logic.{_⊎_}
-use mathlib.Core.Bool.{Bool, true, cond, _&&_, _||_, not}
+use mathlib.Core.Bool.{Bool, true, _&&_, _||_, not}
 use mathlib.Core.List.{List, [], _∷_}
 use Prim.Native.Nat.{ℕ, _+_, _*_, _<_}
-use lib.Dec.{ltb, leb, eqb}
-use Rattle.bencode_writer.specs.Escaped.{hexDigit}
+use lib.Dec.{leb, eqb}
+use Rattle.bencode_writer.specs.Escaped.{hexDigit, smallDigit}
 
 -- ---- bytes
 
@@ -23,10 +23,6 @@ nameByte b = letterOrDigit b || eqb b 46
 -- of a value, where it stands for itself: 33 to 126, but not "#", "%" and "&"
 abbrev pub plainByte : ℕ → Bool
 plainByte b = between 33 126 b && not (eqb b 35 || (eqb b 37 || eqb b 38))
-
--- a hex digit, small from ten on
-abbrev pub smallDigit : ℕ → ℕ
-smallDigit n = cond (ltb n 10) (48 + n) (87 + n)
 
 -- c is the hex digit of x, in either case
 abbrev pub Hex : ℕ → ℕ → Type 0

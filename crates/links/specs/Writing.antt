@@ -1,7 +1,7 @@
 -- Links as they are written, by document 02. Assumes nothing: these are definitions.
 use mathlib.Core.Bool.{Bool, cond, _||_}
-use mathlib.Core.List.{List, [], _∷_, _++_}
-use Prim.Native.Nat.{ℕ, _/_, _%_}
+use mathlib.Core.List.{List, _++_}
+use Prim.Native.Nat.{ℕ}
 use lib.Dec.{ltb, eqb}
 use lib.ListN.{length}
 use Rattle.refusal.specs.Texts.{bytes}
@@ -9,12 +9,12 @@ use Rattle.refusal.specs.Paper.{Outcome, taken, refused, refusal, then}
 use Rattle.refusal.specs.Numbers.{long}
 use Rattle.refusal.specs.Limits.{mostText}
 use Rattle.refusal.specs.Parts.{bytesAt}
-use Rattle.bencode_writer.specs.Escaped.{escapedBy}
-use Rattle.bencode_writer.specs.Put.{Left, left, putOf}
+use Rattle.bencode_writer.specs.Escaped.{escapedBy, smallHex}
+use Rattle.bencode_writer.specs.Put.{Left, puts}
 use Rattle.hash_sha1.specs.Sha1.{sha1}
 use Rattle.torrent_metainfo.specs.Reading.{readOf}
 use Rattle.torrent_metainfo.specs.declared.Torrent.{Torrent}
-use Rattle.links.specs.Link.{letterOrDigit, smallDigit}
+use Rattle.links.specs.Link.{letterOrDigit}
 use Rattle.links.specs.declared.Sized.{Sized}
 use Rattle.links.specs.declared.Sized.the-variants.{Bytes, Refused}
 
@@ -25,11 +25,6 @@ unreserved b = letterOrDigit b || (eqb b 45 || (eqb b 46 || (eqb b 95 || eqb b 1
 -- all others as "%" and two capital hex digits
 abbrev pub escaped : List ℕ → List ℕ
 escaped bs = escapedBy unreserved bs
-
--- two small hex digits for each byte
-unfoldable pub smallHex : List ℕ → List ℕ
-smallHex [] = []
-smallHex (b ∷ bs) = smallDigit (b / 16) ∷ smallDigit (b % 16) ∷ smallHex bs
 
 -- the link of an info hash, a name and an address
 unfoldable pub textOf : List ℕ → List ℕ → List ℕ → List ℕ
@@ -47,11 +42,7 @@ unlessLong w = cond (ltb mostText (length w)) (refused long 0) (taken w)
 unfoldable pub writtenOf : List ℕ → Outcome (List ℕ)
 writtenOf s = then (readOf s) (λ t. unlessLong (linkText s t))
 
--- into the lent output o: 37 where it does not fit
-abbrev pub puts : List ℕ → Outcome (List ℕ) → Left
-puts o (taken w) = putOf w 0 o
-puts o (refused n p) = left (refused n p) o
-
+-- into the lent output o
 abbrev pub writeOf : List ℕ → List ℕ → Left
 writeOf s o = puts o (writtenOf s)
 

@@ -1,21 +1,21 @@
 // The link of a torrent that was read: how many bytes it has, and its bytes put into lent output.
 ghost use mathlib.Core.Path.{_≡_};
-ghost use mathlib.Core.List.{[], _∷_, _++_};
-ghost use Prim.Native.Nat.{_+_, _*_, _/_, _%_, _<_, _≤_};
+ghost use mathlib.Core.List.{_++_};
+ghost use Prim.Native.Nat.{_+_, _*_, _≤_};
 ghost use lib.ListN.{length};
 ghost use Rattle.refusal.specs.Limits.{mostText};
 ghost use Rattle.refusal.specs.Paper.{taken, map};
 ghost use Rattle.bencode_writer.specs.Escaped.{escapedByte};
-ghost use Rattle.bencode_writer.specs.Put.{left, Ran};
+ghost use Rattle.bencode_writer.specs.Put.{left, puts, Ran};
 ghost use Rattle.bencode_writer.specs.Put.{paper as putPaper};
 ghost use Rattle.torrent_metainfo.specs.Reading.{readOf};
-ghost use Rattle.links.specs.Link.{smallDigit};
-ghost use Rattle.links.specs.Writing.{unreserved, escaped, smallHex, textOf, linkText, unlessLong, puts, sizePaper};
+ghost use Rattle.links.specs.Writing.{unreserved, escaped, textOf, linkText, unlessLong, sizePaper};
 use crate::Sized;
 use crate::kinds;
 use bencode_writer::Put;
 use bencode_writer::end;
 use bencode_writer::literal;
+use bencode_writer::small_hex;
 use refusal::limit;
 use refusal::number;
 use torrent_metainfo::Torrent;
@@ -89,7 +89,7 @@ fn put(hash: &[u8; 20], name: &[u8], announce: &[u8], out: &mut [u8]) -> usize
     ensures { λ r. ⌜ Ran (textOf (now (hash .entry)) (now (name .entry)) (now (announce .entry))) 0 (now (out .entry)) r (now (out .exit)) ⌝ }
 {
     let a = end(literal(out, 0, b"magnet:?xt=urn:btih:"));
-    let b = hex(out, a, hash);
+    let b = end(small_hex(out, a, hash));
     let c = value(out, b, b"&dn=", name);
     value(out, c, b"&tr=", announce)
 }
@@ -117,36 +117,6 @@ fn byte(out: &mut [u8], at: usize, b: u8) -> usize
         return at + 1;
     }
     end(literal(out, at, &bencode_writer::escape(b)))
-}
-
-// Puts two small hex digits for each byte; gives the place past them.
-fn hex(out: &mut [u8], at: usize, bytes: &[u8]) -> usize
-    requires { ⌜ at + length (smallHex (now bytes)) ≤ length (now out) ⌝ }
-    ensures { λ r. ⌜ Ran (smallHex (now (bytes .entry))) at (now (out .entry)) r (now (out .exit)) ⌝ }
-{
-    let mut to = at;
-    let mut i = 0;
-    while i < bytes.len() {
-        to = digits(out, to, bytes[i]);
-        i += 1;
-    }
-    to
-}
-
-fn digits(out: &mut [u8], at: usize, b: u8) -> usize
-    requires { ⌜ at + 2 ≤ length (now out) ⌝ }
-    ensures { λ r. ⌜ Ran (smallDigit (b / 16) ∷ smallDigit (b % 16) ∷ []) at (now (out .entry)) r (now (out .exit)) ⌝ }
-{
-    out[at] = digit(b / 16);
-    out[at + 1] = digit(b % 16);
-    at + 2
-}
-
-fn digit(n: u8) -> u8
-    requires { ⌜ n < 16 ⌝ }
-    ensures { λ r. ⌜ r ≡ smallDigit n ⌝ }
-{
-    if n < 10 { b'0' + n } else { b'a' - 10 + n }
 }
 
 fn not_put(number: u8) -> Put

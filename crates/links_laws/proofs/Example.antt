@@ -8,7 +8,8 @@ use Rattle.bencode_walk.specs.Lookup.{sameKey}
 use Rattle.bencode_writer.specs.Escaped.{escapedBy}
 use Rattle.links.specs.Link.{Said, absent, said, Meaning}
 use Rattle.links.specs.Reading.{fieldOf, inMode, fed, finish, readOf}
-use Rattle.links.specs.Writing.{smallHex, textOf}
+use Rattle.bencode_writer.specs.Escaped.{smallHex}
+use Rattle.links.specs.Writing.{textOf}
 
 abbrev hash : List ℕ
 hash = 0x01 ∷ 0x23 ∷ 0x45 ∷ 0x67 ∷ 0x89 ∷ 0xab ∷ 0xcd ∷ 0xef ∷ 0xab ∷ 0xcd ∷ 0xef ∷ 0x01 ∷ 0x23 ∷ 0x45 ∷ 0x67 ∷ 0x89 ∷ 0xab ∷ 0xcd ∷ 0xef ∷ 0x01 ∷ []

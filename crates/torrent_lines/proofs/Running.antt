@@ -1,4 +1,4 @@
--- Runs of bytes one after the other, and loops that put them. Assumes nothing.
+-- Bytes of lines, one more and none left, which of them are plain, and lines put together. Assumes nothing.
 use mathlib.Core.Path.{_≡_, refl, sym, ap, _∙_}
 use mathlib.Core.Bool.{false, not}
 use mathlib.Core.List.{List, [], _∷_, _++_, map, append-assoc}
@@ -7,9 +7,8 @@ use native.Mathlib.Omega.{arith}
 use native.Mathlib.Numerals.{add-one}
 use borrow.Author.Tests.{le-leb, lt-leb}
 use lib.Dec.{eqb}
-use lib.ListN.{length, getD, take, drop, replicate, length-append, drop-of-length-le}
-use lib.Seq.{sets, set-out, drop-cons}
-use Rattle.refusal.proofs.Places.{sets-append}
+use lib.ListN.{length, getD, take, drop, replicate, drop-of-length-le}
+use lib.Seq.{set-out, drop-cons}
 use Rattle.bencode_scalar.specs.Written.{decimal, decimalIn}
 use Rattle.refusal.specs.Paper.{Outcome}
 use Rattle.bencode_writer.specs.Put.{left, putOf, placePast, Ran}
@@ -21,31 +20,6 @@ use Rattle.torrent_lines.specs.Lines.{plain, escaped, slashed}
 -- a byte past the output is counted and not stored
 pub ran-out : (b at : ℕ) (o : List ℕ) → length o ≤ at → Ran (b ∷ []) at o (at + 1) o
 ran-out b at o h = record { place = refl; out = sym (set-out o at b h) }
-
--- ---- what is left to put
-
--- all the bytes were to be put at a place of o; p now has them but for those left, which go to `to`
-pub record Going (all : List ℕ) (at : ℕ) (o : List ℕ) (left : List ℕ) (to : ℕ) (p : List ℕ) : Type 0 where
-  pub place : to + length left ≡ at + length all
-  pub same : sets p to left ≡ sets o at all
-
-module _ (all : List ℕ) (at : ℕ) (o : List ℕ) where
-  pub going-start : Going all at o all at o
-  going-start = record { place = refl; same = refl }
-
-  module _ {left : List ℕ} {to : ℕ} {p : List ℕ} (g : Going all at o left to p) where
-    pub going-more : (w x : List ℕ) → left ≡ w ++ x → {r : ℕ} {e : List ℕ} → Ran w to p r e → Going all at o x r e
-    going-more w x i {r} {e} k = record {
-      place = omega (arith, g .place, k .place, length-append w x, ap length i);
-      same = ap (λ (n : ℕ). sets e n x) (k .place) ∙ ap (λ (l : List ℕ). sets l (to + length w) x) (k .out) ∙ sym (sets-append p to w x) ∙ ap (sets p to) (sym i) ∙ g .same;
-    }
-
-    pub going-end : left ≡ [] → Ran all at o to p
-    going-end e = record { place = omega (arith, g .place, ap length e); out = ap (sets p to) (sym e) ∙ g .same }
-
-    -- nothing is put past what there is
-    pub going-near : to ≤ at + length all
-    going-near = omega (arith, g .place)
 
 -- ---- bytes
 

@@ -33,7 +33,7 @@ use Rattle.torrent_lines.specs.Lines.{numberIn, itemsIn, elementsIn, fil
 use Rattle.torrent_lines.specs.Lines as lines
 use Rattle.bencode_writer.specs.Put.{Ran}
 use Rattle.torrent_lines.specs.Places.{marked, PathPrinted, FilesPrinted, far}
-use Rattle.torrent_lines.proofs.Running.{Going, going-start, going-more, going-end}
+use Rattle.bencode_writer.proofs.Runs.{Going, going-start, going-more, going-end}
 use Rattle.torrent_lines.proofs.Fitting.{marked-most, has-room, list-length, dict-length}
 use Rattle.torrent_lines.proofs.Taken.{must-taken, number-taken, dictionary-taken, element-taken, path-taken, found-is}
 

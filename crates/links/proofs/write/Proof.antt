@@ -1,6 +1,6 @@
 -- `links::write` meets its contract. Assumes nothing.
 use mathlib.Core.Path.{sym, ap, _∙_}
-use Rattle.links.specs.Writing.{puts}
+use Rattle.bencode_writer.specs.Put.{puts}
 use Rattle.torrent_metainfo.specs.Reading.{paper}
 use Rattle.links.proofs.Answers.{written-read, written-refused}
 use borrow.Author.Needs.{needs}

@@ -4,9 +4,8 @@ use Prim.Native.Nat.{_-_, _≤_}
 use lib.ListN.{length, drop, length-append}
 use Rattle.links.specs.Writing.{unreserved, escaped}
 use Rattle.bencode_writer.proofs.Escapes.{escaped-more, escaped-none}
-use Rattle.bencode_writer.proofs.Runs.{ran-length, ran-then, ran-room, put-ran}
-use Rattle.torrent_lines.proofs.Running.{Going, going-start, going-more, going-end}
-use Rattle.links.proofs.Putting.{going-room, going-length, escaped-length}
+use Rattle.bencode_writer.proofs.Runs.{ran-length, ran-then, ran-room, put-ran, Going, going-start, going-more, going-end, going-room, going-length}
+use Rattle.links.proofs.Putting.{escaped-length}
 use borrow.Author.Needs.{needs}
 use native.Mathlib.Omega.{arith}
 use Rattle.links.proofs.writing.value.Statement.{statement}

@@ -1,7 +1,6 @@
 -- `torrent_lines::ink::escaped` meets its contract. Assumes nothing.
-use Rattle.torrent_lines.proofs.Running.{Going, going-start, going-more, going-end, going-near}
+use Rattle.bencode_writer.proofs.Runs.{ran-length, Going, going-start, going-more, going-end, going-near}
 use Rattle.bencode_writer.proofs.Escapes.{escaped-more, escaped-none}
-use Rattle.bencode_writer.proofs.Runs.{ran-length}
 use Rattle.torrent_lines.specs.Lines.{plain, escaped}
 use Prim.Native.Nat.{_-_, _≤_}
 use lib.ListN.{length, drop}

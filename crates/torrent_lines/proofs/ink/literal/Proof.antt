@@ -1,7 +1,7 @@
 -- `torrent_lines::ink::literal` meets its contract. Assumes nothing.
 use native.Mathlib.Omega.{arith}
-use Rattle.torrent_lines.proofs.Running.{Going, going-start, going-more, going-end, going-near, one-more, none-left}
-use Rattle.bencode_writer.proofs.Runs.{ran-length}
+use Rattle.bencode_writer.proofs.Runs.{ran-length, Going, going-start, going-more, going-end, going-near}
+use Rattle.torrent_lines.proofs.Running.{one-more, none-left}
 use lib.ListN.{length, drop}
 use Prim.Native.Nat.{_-_, _≤_}
 use Rattle.torrent_lines.proofs.ink.literal.Statement.{statement}
