@@ -8,5 +8,6 @@ pub mod Contents
 pub mod Informing
 pub mod Numbers
 pub mod Laws
+pub mod Within
 pub mod Example
 pub mod Determined
