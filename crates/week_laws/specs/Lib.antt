@@ -1,0 +1,4 @@
+-- The definitions, a file for each subject.
+pub mod Week
+pub mod Causes
+pub mod Lines
