@@ -64,13 +64,14 @@ enum wardrail_refusal {
     WARDRAIL_PIECES = 12,   /* wrong length of pieces */
     WARDRAIL_NAME = 13,     /* a bad name or path */
     WARDRAIL_PEER = 15,     /* bad length of a peer entry, or of a key of a sheet */
+    WARDRAIL_WEEK = 18,     /* a week's file whose table is wrong, or whose package has another hash */
     WARDRAIL_LINK = 19,     /* a magnet link that breaks its form, names a thing twice, stops short or has no hash */
     WARDRAIL_FRAME = 20,    /* a frame length over 16,393 */
     WARDRAIL_PAYLOAD = 21,  /* a payload length wrong for its id */
     WARDRAIL_PROTOCOL = 22, /* a handshake's first 20 bytes are wrong */
     WARDRAIL_HASH = 23,     /* a handshake for another info hash */
     WARDRAIL_LATE = 30,     /* a bitfield that is not the first frame with an id */
-    WARDRAIL_BEYOND = 31,   /* a piece, file or entry number too large */
+    WARDRAIL_BEYOND = 31,   /* a piece, file, entry or package number too large */
     WARDRAIL_BITFIELD = 32, /* bitfield length wrong */
     WARDRAIL_SPARE = 33,    /* a spare bit set */
     WARDRAIL_OUTSIDE = 34,  /* a block or file offset outside its bounds, a piece of the wrong length */
@@ -272,6 +273,47 @@ WARDRAIL_ROW(wardrail_link, 4, address);
 uint64_t wardrail_link(const uint8_t *text, size_t text_count, uint8_t hash[20], uint8_t *name, size_t name_count,
                        uint8_t *address, size_t address_count, struct wardrail_link *link);
 
+/* ---- A week's file: a table of 1 to 256 packages, for each the offset and the length of its body and its info hash, then the
+ * bodies in that order, each a torrent */
+
+struct wardrail_week {
+    uint64_t packages; /* how many */
+    uint64_t files;    /* of all packages together */
+    uint64_t total;    /* bytes of all these files */
+};
+WARDRAIL_ROW(wardrail_week, 3, total);
+
+/* Reads a week's file: 8, 18 for its table, then body by body the torrent's refusals, 1 to 7 and 10 to 13, each at its place in the
+ * file, and 18 at a hash that is not the body's. */
+uint64_t wardrail_week(const uint8_t *file, size_t file_count, struct wardrail_week *week);
+
+struct wardrail_week_package {
+    struct wardrail_part hash, body; /* of the file */
+    uint64_t files;                  /* how many */
+    uint64_t total;                  /* bytes of all files */
+};
+WARDRAIL_ROW(wardrail_week_package, 6, total);
+
+/* Package `number`, from 0: the file's refusals, then 31. It reads the file anew: who wants all packages walks them by the next
+ * two, which read each body once. */
+uint64_t wardrail_week_package(const uint8_t *file, size_t file_count, size_t number, struct wardrail_week_package *package);
+
+/* Checks the table alone, and that the last body ends the file: 8, 18. On 0 `detail` is how many packages there are. */
+uint64_t wardrail_week_table(const uint8_t *file, size_t file_count, uint64_t *detail);
+
+struct wardrail_week_package_at {
+    struct wardrail_part hash, body; /* of the file */
+    uint64_t files;                  /* how many */
+    uint64_t total;                  /* bytes of all files */
+};
+WARDRAIL_ROW(wardrail_week_package_at, 6, total);
+
+/* Package `number` by its own entry of the table: 8, 18 at 0 for the number of packages, 31, 18 at a field of the entry that is cut
+ * off or at a length that runs past the file's end, the torrent's refusals, and 18 at the hash. Any file is answered, and no other
+ * entry is looked at. A file is taken by wardrail_week exactly if wardrail_week_table takes it and this call each of its packages, and
+ * the first refusal of these, in the packages' order, is the file's. */
+uint64_t wardrail_week_package_at(const uint8_t *file, size_t file_count, size_t number, struct wardrail_week_package_at *package);
+
 /* ---- Where a block falls */
 
 /* A part of a file. */
@@ -360,6 +402,12 @@ uint64_t wardrail_write_link(const uint8_t *torrent, size_t torrent_count, uint8
 
 /* How many bytes that link has: the torrent's refusals, then 8. */
 uint64_t wardrail_link_size(const uint8_t *torrent, size_t torrent_count, uint64_t *detail);
+
+/* The week's file of torrents that stand one after the other in `bodies` and have these lengths: 18 for a number of them that is
+ * not 1 to 256, or for lengths whose sum is not that of `bodies`; then body by body the torrent's refusals, and 18 for a hash that
+ * one before has; then 8, 37. Each has place 0. */
+uint64_t wardrail_write_week(const uint8_t *bodies, size_t bodies_count, const uint64_t *lengths, size_t lengths_count,
+                             uint8_t *out, size_t out_count, uint64_t *detail);
 
 /* A compact reply: 11, 15, 8, 37. `peers` has six bytes for each entry. */
 uint64_t wardrail_write_reply(uint64_t interval, const uint8_t *peers, size_t peers_count, uint8_t *out, size_t out_count,

@@ -23,6 +23,8 @@ use Rattle.sheets.specs.Reading.{Answered}
 use Rattle.links.specs.Reading.{Sizes, leftOf as readTo}
 use Rattle.links.specs.Writing.{writeOf as linkTextOf}
 use Rattle.links.proofs.Answers.{link-keeps, reading-keeps}
+use Rattle.week.specs.Writing.{writeOf as weekTextOf}
+use Rattle.week.proofs.Answers.{write-keeps as week-keeps}
 use Rattle.wardrail.specs.Said.{wordOf, leftOf, Tells}
 use Rattle.wardrail.specs.Addresses.{wordFrom, addressDetail, TellsOf}
 use Rattle.wardrail.specs.Magnets.{linkDetail, ReadTo}
@@ -78,6 +80,9 @@ write-torrent-keeps f o = keeps (torrentTextOf f o) o (λ n p e. torrent-keeps f
 
 pub write-link-keeps : (s o : List ℕ) → Keeps (linkTextOf s o) o
 write-link-keeps s o = keeps (linkTextOf s o) o (λ n p e. link-keeps s o (Refused (record { number = n; place = p })) (same-left (linkTextOf s o) n p e) n p refl)
+
+pub write-week-keeps : (bs ns o : List ℕ) → Keeps (weekTextOf bs ns o) o
+write-week-keeps bs ns o = keeps (weekTextOf bs ns o) o (λ n p e. week-keeps bs ns o (Refused (record { number = n; place = p })) (same-left (weekTextOf bs ns o) n p e) n p refl)
 
 -- of a link that is read: the three outputs and the detail
 pub read-to-keeps : (s h n a was : List ℕ) (r : ℕ) (d h′ n′ a′ : List ℕ) → ReadTo (readTo s h n a) was r d h′ n′ a′ → (r ≡ 0 → ⊥) → (h′ ≡ h) × (n′ ≡ n) × (a′ ≡ a) × (d ≡ was)

@@ -8,6 +8,7 @@ pub mod Magnets
 pub mod Mapping
 pub mod Frames
 pub mod Files
+pub mod Weeks
 pub mod Writers
 pub mod Peers
 pub mod Hashing

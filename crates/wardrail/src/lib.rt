@@ -20,6 +20,7 @@ mod peers;
 mod replies;
 mod row;
 mod torrents;
+mod weeks;
 mod writers;
 
 // Whether a text is one value that keeps the limits. `detail` becomes its count of values.

@@ -9,6 +9,7 @@ ghost use Rattle.peer_wire.specs.Handshake.{handshake, zeros};
 ghost use Rattle.tracker.specs.Writing.{writeOf as replyTextOf};
 ghost use Rattle.torrent_authoring.specs.Writing.{fields, sizeOf, writeOf as torrentTextOf};
 ghost use Rattle.links.specs.Writing.{writtenOf, writeOf as linkTextOf};
+ghost use Rattle.week.specs.Writing.{writeOf as weekTextOf};
 ghost use Rattle.wardrail.specs.Said.{Tells};
 ghost use Rattle.wardrail.specs.Writers.{Wrote};
 use crate::row::one;
@@ -105,6 +106,19 @@ pub extern "C" fn wardrail_link_size(torrent: &[u8], detail: &mut u64) -> u64
         LinkSized::Bytes(n) => one(detail, n as u64),
         LinkSized::Refused(r) => word(r),
     }
+}
+
+// A week's file of bodies that stand one after the other and have these lengths.
+#[no_mangle]
+pub extern "C" fn wardrail_write_week(
+    bodies: &[u8],
+    lengths: &[u64],
+    out: &mut [u8],
+    detail: &mut u64,
+) -> u64
+    ensures { λ r. ⌜ Wrote (weekTextOf (now (bodies .entry)) (now (lengths .entry)) (now (out .entry))) (now (detail .entry)) r (now (detail .exit)) (now (out .exit)) ⌝ }
+{
+    written(week::write(bodies, lengths, out), detail)
 }
 
 // A compact reply.
