@@ -4,11 +4,12 @@
 -- A text is a list of bytes. An outcome is `taken` with what is handed back, or `refused` with number and place.
 -- `Encodes s v`: the bytes s are the value v as BEP 3 writes it, and v keeps document 01's limits. It and the other words that are not another crate's stand
 -- in demands_laws/specs/Texts.antt, those on where parts stand in Places.antt beside it.
-use mathlib.Core.Path.{_≡_, refl, sym, ap, ap₂, _∙_}
+use mathlib.Core.Path.{_≡_, refl, sym, ap, ap₂, _∙_, subst}
 use mathlib.Core.Logic.{_⊎_, _↔_, Iff·trans}
 use mathlib.Core.Bool.{true, false, cond}
 use mathlib.Core.List.{List, [], _∷_, _++_}
 use Prim.Native.Nat.{ℕ, suc, _+_, _-_, _*_, _≤_, _<_, min}
+use native.Mathlib.Omega.{arith}
 use lib.IntN.{ℤ, pos}
 use lib.ListN.{length, getD, take, drop}
 use Rattle.refusal.specs.BigEndian.{Bytes}
@@ -30,7 +31,7 @@ use Rattle.bencode_walk.proofs.Standing as standing
 use Rattle.bencode_walk.proofs.Standing.{fine-stands}
 use Rattle.bencode_walk.specs.Has.{Has}
 use Rattle.bencode_walk.specs.Lookup.{under, lookup}
-use Rattle.bencode_writer.specs.Put.{Left as Putting, left, putOf, paper as putPaper}
+use Rattle.bencode_writer.specs.Put.{Left as Putting, left, putOf, Ran, paper as putPaper}
 use Rattle.bencode_writer.specs.declared.Put.{Put}
 use Rattle.hash_sha1.specs.Sha1.{sha1}
 use Rattle.hash_sha1.specs.Digest.{paper as hashPaper, Left as Hashing}
@@ -101,6 +102,22 @@ use Rattle.links.specs.declared.Given.the-variants as given
 use Rattle.links.specs.declared.Linked.{Linked}
 use Rattle.links.specs.declared.Sized as link-size
 use Rattle.links_laws.proofs.Laws as link-laws
+use Rattle.torrent_lines.specs.Lines.{refusedLine}
+use Rattle.week.specs.File.{Package, bodiesOf, tableBytes, fileOf}
+use Rattle.week.specs.Rules.{weekOf, packageOf}
+use Rattle.week.specs.Reading.{paper as weekPaper, countPaper as tablePaper, toldPaper}
+use Rattle.week.specs.Writing.{writeOf as weekTextOf}
+use Rattle.week.specs.declared.Counted.{Counted}
+use Rattle.week.specs.declared.Entry.{Entry as PackageEntry}
+use Rattle.week.specs.declared.Told.{Told}
+use Rattle.week.specs.declared.Week.{Week}
+use Rattle.week.specs.declared.Weekly.{Weekly}
+use Rattle.week_laws.specs.Week.{IsWeek, allFiles, allBytes, answerOf, entryOf as packageEntry, lengthsOf}
+use Rattle.week_laws.proofs.Laws as week-laws
+use Rattle.week_laws.proofs.Back as week-back
+use Rattle.week_laws.specs.Lines.{linesOf}
+use Rattle.week_laws.proofs.Listing as week-listing
+use Rattle.week_laws.proofs.Returning as week-returning
 use Rattle.demands_laws.specs.Texts.{Encodes, noFile, IsPiece, Agrees, linkOf, bytesIn}
 use Rattle.demands_laws.specs.Places.{PartUnder, FilesPlaced, ReplyPlaced}
 use Rattle.demands_laws.proofs.Refusals.{same-answer, left-answer, some-answer}
@@ -126,6 +143,7 @@ use Rattle.demands.specs.One.Doors.Tracker as tracker
 use Rattle.demands.specs.One.Doors.TrackerWriting as replies
 use Rattle.demands.specs.One.Doors.Sheets as sheets
 use Rattle.demands.specs.One.Doors.Links as links
+use Rattle.demands.specs.One.Doors.Week as week
 use Rattle.demands.specs.One.Doors.Blocks as blocks
 use Rattle.demands.specs.One.Doors.Wire as wire
 use Rattle.demands.specs.One.Doors.WireWriting as writing
@@ -387,6 +405,88 @@ module _ (torrent : Lent (List ℕ)) (r : link-size.Sized) (c : links.size-ensur
   -- and links::write writes so many bytes exactly where there is room for them
   pub link-sized : (p : Put) (out : Lent (List ℕ)) → links.write-ensures torrent p out → (q : ℕ) → putPaper p ≡ taken q ↔ ((linkSizePaper r ≡ taken q) × (q ≤ length (before out)))
   link-sized p out d q = rw c (Iff·trans (left-answer d) (links-laws.sized (before torrent) (before out) q))
+
+-- ---- Change request 5: "First, four-byte big-endian numbers: the package number N (1 to 256); for each its offset, length and 20-byte info hash; then the bodies back to back in that order, the first right after
+-- the table, the last ending the file. Read it, write it, and list it". `fileOf ps` is that file of packages ps, each a body and its hash, and `IsWeek s ps ts` says that s is it, that the bodies are torrents that
+-- say ts and that their hashes are their own and differ
+
+-- of week::read
+module _ (file : Lent (List ℕ)) (r : Weekly) (c : week.read-ensures file r) where
+  -- taken exactly when the file, of numbers that are bytes, is a week's file
+  pub week-exact : Bytes (before file) → ((w : Week) × (weekPaper r ≡ taken w)) ↔ ((ps : List Package) × (ts : List TorrentSays) × IsWeek (before file) ps ts)
+  week-exact b = Iff·trans (some-answer c) (
+    λ (w, e). let (ps, ts, i, z) = week-laws.week-only (before file) b w e in (ps, ts, i),
+    λ (ps, ts, i). (answerOf ts, week-laws.week-every (before file) ps ts i),
+  )
+
+  -- and then the answer is how many packages it has, and the exact sums over all of their files and of their bytes
+  pub week-sums : (ps : List Package) (ts : List TorrentSays) → IsWeek (before file) ps ts → weekPaper r ≡ taken (record { count = length ts; files = allFiles ts; total = allBytes ts })
+  week-sums ps ts i = c ∙ week-laws.week-every (before file) ps ts i
+
+-- a file is a week's file in one way
+pub week-says-one : (s : List ℕ) (ps qs : List Package) (ts us : List TorrentSays) → IsWeek s ps ts → IsWeek s qs us → (ps ≡ qs) × (ts ≡ us)
+week-says-one = week-laws.week-says-one
+
+-- of week::package: package p with its torrent t, the one after qs, by the places of its hash and its body in the file, which hold them, and its files and bytes
+module _ (file : Lent (List ℕ)) (index : ℕ) (r : Told) (c : week.package-ensures file index r) where
+  pub week-package : (qs rs : List Package) (p : Package) (us vs : List TorrentSays) (t : TorrentSays) → IsWeek (before file) (qs ++ (p ∷ rs)) (us ++ (t ∷ vs)) → length qs ≡ length us → index ≡ length qs
+      → (toldPaper r ≡ taken (packageEntry (length (qs ++ (p ∷ rs))) qs p t))
+      × (bytesAt (before file) (packageEntry (length (qs ++ (p ∷ rs))) qs p t .hash) ≡ p .hash) × (bytesAt (before file) (packageEntry (length (qs ++ (p ∷ rs))) qs p t .body) ≡ p .body)
+  week-package qs rs p us vs t i e f =
+      let (a, h, b) = week-laws.package-every (before file) qs rs p us vs t i e in
+      (c ∙ ap (packageOf (before file)) f ∙ a, h, b)
+
+-- the walk: of week::table, and of week::package_at for each package
+module _ (file : Lent (List ℕ)) (q : Counted) (c : week.table-ensures file q) (n : ℕ) (e : tablePaper q ≡ taken n) (told : ℕ → Told) (d : (i : ℕ) → i < n → week.package-at-ensures file i (told i)) where
+  -- where all are taken, so is the file, of so many packages, and week::package says of each what the walk does
+  pub week-walked : ((i : ℕ) → i < n → (x : PackageEntry) × (toldPaper (told i) ≡ taken x)) → (r : Weekly) → week.read-ensures file r
+      → (w : Week) × (weekPaper r ≡ taken w) × (w .count ≡ n) × ((i : ℕ) → i < n → (p : Told) → week.package-ensures file i p → toldPaper p ≡ toldPaper (told i))
+  week-walked h r f =
+      let (w, a, b, g) = week-laws.walk-taken (before file) n (sym c ∙ e) (λ j l. let (x, y) = h j l in (x, sym (d j l) ∙ y)) in
+      (w, f ∙ a, b, λ i l p k. k ∙ g i l ∙ sym (d i l))
+
+  -- and the first refusal is the file's
+  pub week-walk-stops : (i : ℕ) → i < n → ((j : ℕ) → j < i → (x : PackageEntry) × (toldPaper (told j) ≡ taken x)) → (k p : ℕ) → toldPaper (told i) ≡ refused k p → (r : Weekly) → week.read-ensures file r
+      → weekPaper r ≡ refused k p
+  week-walk-stops i l h k p g r f =
+      f ∙ week-laws.walk-refused (before file) n i k p (sym c ∙ e) (λ j m. let (x, y) = h j m in (x, sym (d j (omega (arith, l, m))) ∙ y)) l (sym (d i l) ∙ g)
+
+-- of week::write
+module _ (bodies lengths : Lent (List ℕ)) (r : Put) (out : Lent (List ℕ)) (c : week.write-ensures bodies lengths r out) where
+  -- taken exactly when the bodies, one after the other, and their lengths are those of a week's file, and there is room for it
+  pub week-write-exact : (q : ℕ) → putPaper r ≡ taken q
+      ↔ ((w : List ℕ) × (ps : List Package) × (ts : List TorrentSays) × IsWeek w ps ts × (bodiesOf ps ≡ before bodies) × (lengthsOf ps ≡ before lengths) × (length w ≤ length (before out)) × (q ≡ length w))
+  week-write-exact q = Iff·trans (left-answer c) (week-back.write-exact (before bodies) (before lengths) (before out) q)
+
+  -- and then the output begins with that file, and past it stays
+  pub week-written : (q : ℕ) → putPaper r ≡ taken q → (ps : List Package) (ts : List TorrentSays) → IsWeek (fileOf ps) ps ts → bodiesOf ps ≡ before bodies → lengthsOf ps ≡ before lengths
+      → after out ≡ fileOf ps ++ drop q (before out)
+  week-written q e ps ts i b l = ap (λ (x : Putting). x .out) c ∙ week-back.write-left (before bodies) (before lengths) (before out) q (left-answer c .0 e) (fileOf ps) ps ts i b l .1
+
+  -- "What is written reads back": of week::read on what week::write wrote
+  pub week-reads-back : (q : ℕ) → putPaper r ≡ taken q → (file : Lent (List ℕ)) (x : Weekly) → week.read-ensures file x → before file ≡ take q (after out)
+      → (ps : List Package) × (ts : List TorrentSays) × IsWeek (before file) ps ts × (bodiesOf ps ≡ before bodies) × (lengthsOf ps ≡ before lengths) × (weekPaper x ≡ taken (answerOf ts))
+  week-reads-back q e file x d f =
+      let o : before file ≡ take q (weekTextOf (before bodies) (before lengths) (before out) .out) = f ∙ ap (λ (y : Putting). take q (y .out)) c in
+      let (ps, ts, i, b, l, g) = week-returning.reads-back (before bodies) (before lengths) (before out) q (left-answer c .0 e) in
+      (ps, ts, subst (λ (y : List ℕ). IsWeek y ps ts) (sym o) i, b, l, d ∙ ap weekOf o ∙ g)
+
+  -- "rewrite": a file that week::read takes, written again of what stands after its table and of its packages' lengths, gives its bytes, wherever there is room
+  pub week-rewrite : (file : Lent (List ℕ)) (x : Weekly) → week.read-ensures file x → (w : Week) → weekPaper x ≡ taken w → (ps : List Package) (ts : List TorrentSays) → IsWeek (before file) ps ts
+      → before bodies ≡ drop (tableBytes (w .count)) (before file) → before lengths ≡ lengthsOf ps → length (before file) ≤ length (before out)
+      → (putPaper r ≡ taken (length (before file))) × (after out ≡ before file ++ drop (length (before file)) (before out))
+  week-rewrite file x d w e ps ts i b l k =
+      let z = c ∙ week-returning.again (before file) w ps ts i (sym d ∙ e) (before bodies) (before lengths) (before out) b l k in
+      (ap (λ (y : Putting). y .answer) z, ap (λ (y : Putting). y .out) z)
+
+-- of week::listing: "for each package a line `HASH FILES BYTES`, the hash as 40 lower-case hex digits, then `N packages F files B bytes`; a refusal prints `refused N at P`"
+module _ (file : Lent (List ℕ)) (r : ℕ) (out : Lent (List ℕ)) (c : week.listing-ensures file r out) where
+  -- these lines, r bytes of them, stand at the front of the output, which past them stays
+  pub week-listed : (ps : List Package) (ts : List TorrentSays) → IsWeek (before file) ps ts → Ran (linesOf ps ts) 0 (before out) r (after out)
+  week-listed ps ts i = subst (λ (w : List ℕ). Ran w 0 (before out) r (after out)) (week-listing.listing-every (before file) ps ts i) (c .0)
+
+  pub week-unlisted : (x : Weekly) → week.read-ensures file x → (k p : ℕ) → weekPaper x ≡ refused k p → Ran (refusedLine k p) 0 (before out) r (after out)
+  week-unlisted x d k p e = subst (λ (w : List ℕ). Ran w 0 (before out) r (after out)) (week-listing.listing-refused (before file) k p (sym d ∙ e)) (c .0)
 
 -- ---- 7. "What is written reads back": "Reading gives the fields back; rewriting a read text that has only those keys [..] gives its bytes."
 

@@ -16,6 +16,7 @@ pub mod Places
 pub mod Paths
 pub mod Sheets
 pub mod Links
+pub mod Weeks
 pub mod Rewriting
 pub mod Keeping
 pub mod Reasons

@@ -2,7 +2,7 @@
 use mathlib.Core.Path.{_≡_, refl, sym, ap, _∙_, subst}
 use mathlib.Core.Logic.{_⊎_, inl, inr, ⊎-elim, _↔_, Iff·trans}
 use mathlib.Core.List.{List, _++_}
-use Prim.Native.Nat.{ℕ, _+_, _≤_, _<_}
+use Prim.Native.Nat.{ℕ, _≤_, _<_}
 use native.Mathlib.Omega.{arith}
 use borrow.Author.Tests.{lt-ltb, le-ltb}
 use lib.ListN.{length, take, drop}
@@ -18,9 +18,10 @@ use Rattle.refusal.proofs.Outcomes.{not-taken, not-refused, same-refusal, then-
 use Rattle.refusal.proofs.Places.{bytes-take, bytes-drop}
 use Rattle.bencode.specs.Value.{Value, dict, encode}
 use Rattle.bencode.specs.Decode.{decode}
-use Rattle.bencode_writer.specs.Put.{Left as PutLeft, putOf}
-use Rattle.bencode_writer.proofs.Laws.{put-whole, put-none}
+use Rattle.bencode_writer.specs.Put.{puts}
+use Rattle.bencode_writer.proofs.Puts.{put-front, put-taken, NoRoom, puts-refused, puts-taken}
 use Rattle.hash_sha1.specs.Sha1.{sha1}
+use Rattle.hash_sha1.proofs.Determined.{digest-length}
 use Rattle.torrent_metainfo.specs.Reading.{readOf}
 use Rattle.torrent_metainfo.specs.declared.Torrent.{Torrent}
 use Rattle.torrent_laws.specs.Torrent.{TorrentSays, IsTorrent}
@@ -29,16 +30,13 @@ use Rattle.links.specs.Link.{Said, absent, said, Meaning}
 use Rattle.links_laws.specs.Form.{IsLink}
 use Rattle.links_laws.specs.Causes.{Fault}
 use Rattle.links.specs.Reading.{sizeOf, storedIn, givenOf, Sizes, sizesOf, Left, left, leftOf}
-use Rattle.links.specs.Writing.{linkText, unlessLong, writtenOf, puts, writeOf}
-use Rattle.links.proofs.Answers.{digest-length}
+use Rattle.links.specs.Writing.{linkText, unlessLong, writtenOf, writeOf}
 use Rattle.links.proofs.Answers as answers
-use Rattle.links.proofs.Decoding.{put-front}
 use Rattle.links_laws.proofs.Back.{written-is-link}
 use Rattle.links_laws.proofs.Laws as links
 use Rattle.demands_laws.specs.Texts.{Encodes, linkOf, bytesIn}
 use Rattle.demands_laws.proofs.Refusals.{first-of, second-of, given, same-answer, refusal-is, map-refused, then-refused}
 use Rattle.demands_laws.proofs.Texts.{torrent-exact, torrent-shown}
-use Rattle.demands_laws.proofs.Writers.{put-exactly}
 
 neither : {A B : Type 0} → (A → ⊥) → (B → ⊥) → (A ⊎ B) → ⊥
 neither f g (inl a) = f a
@@ -92,38 +90,6 @@ module _ (s h d t : List ℕ) where
 
   pub read-37 : (p : ℕ) → leftOf s h d t .answer ≡ refused 37 p ↔ (((m : Meaning) × (length s ≤ mostText) × IsLink s m × ((length d < sizeOf (m .name)) ⊎ (length t < sizeOf (m .address)))) × (p ≡ 0))
   read-37 p = given (second-of (second-of (links.left-refused s h d t 37 p) (λ x. omega (arith, x .0))) (λ x. omega (arith, x .0)))
-
--- ---- a link put into lent output
-
-module _ (w o : List ℕ) where
-  put-taken : (q : ℕ) → putOf w 0 o .answer ≡ taken q ↔ ((length w ≤ length o) × (q ≡ length w))
-  put-taken q = (
-    λ e. less-or (length o) (length w)
-        (λ l. let g : length o < 0 + length w = omega arith in not-taken (sym (ap (λ (x : PutLeft). x .answer) (put-none w 0 o g)) ∙ e))
-        (λ l. let g : 0 + length w ≤ length o = omega arith in let z : taken (0 + length w) ≡ taken q = sym (ap (λ (x : PutLeft). x .answer) (put-whole w 0 o g)) ∙ e in let y : 0 + length w ≡ q = cc in (l, omega arith)),
-    λ (l, z). let g : 0 + length w ≤ length o = omega arith in let y : 0 + length w ≡ q = omega arith in ap (λ (x : PutLeft). x .answer) (put-whole w 0 o g) ∙ ap taken y,
-  )
-
-  put-out : length w ≤ length o → putOf w 0 o .out ≡ w ++ drop (length w) o
-  put-out l = let g : 0 + length w ≤ length o = omega arith in ap (λ (x : PutLeft). x .out) (put-whole w 0 o g) ∙ put-front w o l
-
--- 37 of what is to be put, or the refusal of what is not
-abbrev pub NoRoom : List ℕ → Outcome (List ℕ) → ℕ → ℕ → Type 0
-NoRoom o x n p = (n ≡ 37) × ((w : List ℕ) × (x ≡ taken w) × (length o < length w)) × (p ≡ 0)
-
-puts-only : (o : List ℕ) (x : Outcome (List ℕ)) (n p : ℕ) → puts o x .answer ≡ refused n p → (x ≡ refused n p) ⊎ NoRoom o x n p
-puts-only o (taken w) n p e = let (a, l, z) = put-exactly w 0 o n p .0 e in inr (a, (w, refl, omega arith), z)
-puts-only o (refused m q) n p e = let z = same-refusal e in inl (refusal-is (z .0) (z .1))
-
-puts-every : (o : List ℕ) (x : Outcome (List ℕ)) (n p : ℕ) → (x ≡ refused n p) ⊎ NoRoom o x n p → puts o x .answer ≡ refused n p
-puts-every o (taken w) n p (inl e) = not-refused e
-puts-every o (taken w) n p (inr (a, (y, e, l), z)) = let q : w ≡ y = cc in let k : length w ≡ length y = ap length q in put-exactly w 0 o n p .1 (a, omega arith, z)
-puts-every o (refused m q) n p (inl e) = let z = same-refusal e in refusal-is (z .0) (z .1)
-puts-every o (refused m q) n p (inr (a, (y, e, l), z)) = not-taken e
-
-puts-taken : (o : List ℕ) (x : Outcome (List ℕ)) (q : ℕ) → puts o x .answer ≡ taken q → (w : List ℕ) × (x ≡ taken w) × (length w ≤ length o) × (q ≡ length w) × (puts o x .out ≡ w ++ drop q o)
-puts-taken o (taken w) q e = let (l, z) = put-taken w o q .0 e in (w, refl, l, z, put-out w o l ∙ ap (λ (k : ℕ). w ++ drop k o) (sym z))
-puts-taken o (refused m p) q e = not-taken e
 
 -- ---- writing
 
@@ -208,7 +174,7 @@ module _ (s : List ℕ) where
 
   module _ (o : List ℕ) where
     pub write-refused : (n p : ℕ) → writeOf s o .answer ≡ refused n p ↔ ((writtenOf s ≡ refused n p) ⊎ NoRoom o (writtenOf s) n p)
-    write-refused n p = (puts-only o (writtenOf s) n p, puts-every o (writtenOf s) n p)
+    write-refused n p = puts-refused o (writtenOf s) n p
 
     pub write-alike : (n p : ℕ) → (n ≡ 8 → ⊥) → (n ≡ 37 → ⊥) → writeOf s o .answer ≡ refused n p ↔ readOf s ≡ refused n p
     write-alike n p h k = Iff·trans (first-of (write-refused n p) (λ x. k (x .0))) (written-alike n p h)

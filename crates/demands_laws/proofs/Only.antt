@@ -25,16 +25,24 @@ use Rattle.torrent_contents.specs.Pieces.{hashIn, hashOf, checkOf as pieceOf}
 use Rattle.torrent_contents.specs.Files as file
 use Rattle.sheets.specs.Reading.{of, findOf}
 use Rattle.sheets.specs.declared.Source.the-variants.{Torrent as OfTorrent, Sheet as OfSheet}
+use Rattle.bencode_writer.proofs.Puts.{NoRoom}
 use Rattle.links.specs.Reading.{leftOf}
 use Rattle.links.specs.Writing.{writtenOf, writeOf}
 use Rattle.links_laws.proofs.Laws.{Unread, left-refused}
+use Rattle.week.specs.Rules.{tableOf, packageAt, weekOf, packageOf}
+use Rattle.week.specs.Writing.{writeOf as weekTextOf}
+use Rattle.week_laws.specs.Causes.{NoTable, long-table, no-table, NoEntry, long-file, no-count, past-last, no-offset, no-length, no-hash, no-body}
+use Rattle.week_laws.proofs.Laws as week-laws
+use Rattle.week_laws.proofs.Numbers as weeks
+use Rattle.week_laws.proofs.Back as week-back
 use Rattle.refusal.proofs.Cases.{same-or}
 use Rattle.demands_laws.proofs.Refusals.{map-refused, then-refused}
 use Rattle.demands_laws.specs.Causes.{NoReplyText, Unchecked, no-such-piece, long-piece, wrong-length, Unsized, broken, over}
 use Rattle.demands_laws.proofs.Contents.{in-hash, check-exactly, file-alike}
 use Rattle.demands_laws.proofs.Replies.{peer-alike, reply-law, reply-ours}
 use Rattle.demands_laws.proofs.Sheets.{of-torrent, sheet-only}
-use Rattle.demands_laws.proofs.Links.{Over, NoRoom, written-refused, write-refused, size-refused}
+use Rattle.demands_laws.proofs.Weeks.{package-alike}
+use Rattle.demands_laws.proofs.Links.{Over, written-refused, write-refused, size-refused}
 
 abbrev ofBencode : List ℕ
 ofBencode = 1 ∷ 2 ∷ 3 ∷ 4 ∷ 5 ∷ 6 ∷ 7 ∷ 8 ∷ []
@@ -111,9 +119,50 @@ link-writer s o k p e = ⊎-elim
 pub link-size : (s : List ℕ) (k p : ℕ) → map length (writtenOf s) ≡ refused k p → In k ofTorrent
 link-size s k p e = link-text s k p (size-refused s k p .0 e)
 
+-- of a week's file: a torrent's numbers, or 18 too
+among-week : (k : ℕ) → ((1 ≤ k) × (k ≤ 8)) ⊎ (((10 ≤ k) × (k ≤ 13)) ⊎ (k ≡ 18)) → In k (18 ∷ ofTorrent)
+among-week k h = ⊎-elim
+    (λ (x : (1 ≤ k) × (k ≤ 8)). List·Memᴰ·tail (Memᴰ·append-left (10 ∷ 11 ∷ 12 ∷ 13 ∷ []) (among-bencode k (x .0) (x .1))))
+    (⊎-elim (λ (x : (10 ≤ k) × (k ≤ 13)). List·Memᴰ·tail (Memᴰ·append-right ofBencode (among-torrent k (x .0) (x .1)))) (λ (x : k ≡ 18). List·Memᴰ·head x))
+    h
+
+pub week : (s : List ℕ) (k p : ℕ) → weekOf s ≡ refused k p → In k (18 ∷ ofTorrent)
+week s k p e = among-week k (weeks.none-other s k p (week-laws.week-faults s k p .0 e))
+
+pub week-table : (s : List ℕ) (k p : ℕ) → tableOf s ≡ refused k p → In k (8 ∷ 18 ∷ [])
+week-table s k p e = go k p (week-laws.table-faults s k p .0 e)
+  where
+    go : (j q : ℕ) → NoTable s j q → In j (8 ∷ 18 ∷ [])
+    go j q (long-table l) = List·Memᴰ·head refl
+    go j q (no-table r l w) = List·Memᴰ·tail (List·Memᴰ·head refl)
+
+pub week-entry : (s : List ℕ) (i k p : ℕ) → packageAt s i ≡ refused k p → In k (31 ∷ 18 ∷ ofTorrent)
+week-entry s i k p e = go k p (week-laws.entry-faults s i k p .0 e)
+  where
+    go : (j q : ℕ) → NoEntry s i j q → In j (31 ∷ 18 ∷ ofTorrent)
+    go j q (long-file l) = List·Memᴰ·tail (among-week j (inl (omega arith, omega arith)))
+    go j q (no-count l h) = List·Memᴰ·tail (List·Memᴰ·head refl)
+    go j q (past-last n l c h) = List·Memᴰ·head refl
+    go j q (no-offset n l c b h) = List·Memᴰ·tail (List·Memᴰ·head refl)
+    go j q (no-length n at l c b o h) = List·Memᴰ·tail (List·Memᴰ·head refl)
+    go j q (no-hash n at m l c b o f g h) = List·Memᴰ·tail (List·Memᴰ·head refl)
+    go j q (no-body n at m a b l c d x h) = List·Memᴰ·tail (among-week a (weeks.body-ours s i at m a b h))
+
+pub week-writer : (bs ns o : List ℕ) (k p : ℕ) → weekTextOf bs ns o .answer ≡ refused k p → In k (37 ∷ 18 ∷ ofTorrent)
+week-writer bs ns o k p e = go (week-back.none-other bs ns o k p e)
+  where
+    go : ((1 ≤ k) × (k ≤ 8)) ⊎ (((10 ≤ k) × (k ≤ 13)) ⊎ ((k ≡ 18) ⊎ (k ≡ 37))) → In k (37 ∷ 18 ∷ ofTorrent)
+    go (inl h) = List·Memᴰ·tail (among-week k (inl h))
+    go (inr (inl h)) = List·Memᴰ·tail (among-week k (inr (inl h)))
+    go (inr (inr (inl h))) = List·Memᴰ·tail (List·Memᴰ·head h)
+    go (inr (inr (inr h))) = List·Memᴰ·head h
+
 -- as another call, or 31
 beyond-or : (ns : List ℕ) (k : ℕ) → ((k ≡ 31 → ⊥) → In k ns) → In k (31 ∷ ns)
 beyond-or ns k f = same-or k 31 (λ e. List·Memᴰ·head e) (λ n. List·Memᴰ·tail (f n))
+
+pub week-package : (s : List ℕ) (i k p : ℕ) → packageOf s i ≡ refused k p → In k (31 ∷ 18 ∷ ofTorrent)
+week-package s i k p e = beyond-or (18 ∷ ofTorrent) k (λ l. week s k p (package-alike s i k p l .0 e))
 
 pub file-entry : (s : List ℕ) (n k p : ℕ) → file.entryOf s n ≡ refused k p → In k (31 ∷ ofTorrent)
 file-entry s n k p e = beyond-or ofTorrent k (λ l. torrent s k p (file-alike s n k p l .0 e))

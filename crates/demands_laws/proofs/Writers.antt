@@ -8,7 +8,7 @@ use borrow.Author.Tests.{lt-ltb, le-ltb}
 use lib.ListN.{length}
 use Rattle.refusal.specs.Paper.{Outcome, refused}
 use Rattle.refusal.specs.Limits.{mostText, longestInterval}
-use Rattle.bencode_writer.specs.Put.{Left, left, putOf}
+use Rattle.bencode_writer.specs.Put.{Left, left}
 use Rattle.bencode_writer.specs.declared.Put.the-variants.{Refused}
 use Rattle.bencode_writer.proofs.Laws.{put-none, refusal-keeps}
 use Rattle.tracker.specs.Writing.{textOf, writeOf as replyText}
@@ -20,15 +20,8 @@ use Rattle.torrent_authoring.proofs.Written as torrents
 use Rattle.torrent_authoring.proofs.Ruling.{size-ruled, ruled-broken, limited}
 use Rattle.torrent_authoring.proofs.Steps.{SizeCase, size-not, size-over, size-fine, size-cases, size-is-long}
 use Rattle.refusal.proofs.Outcomes.{not-refused}
-use Rattle.demands_laws.proofs.Refusals.{refusal-is, caused, at-zero}
+use Rattle.demands_laws.proofs.Refusals.{caused, at-zero}
 use Rattle.demands_laws.specs.Causes.{Unsized, broken, over}
-
--- bytes put into lent output
-pub put-exactly : (w : List ℕ) (at : ℕ) (o : List ℕ) (n p : ℕ) → putOf w at o .answer ≡ refused n p ↔ ((n ≡ 37) × (length o < at + length w) × (p ≡ 0))
-put-exactly w at o n p = (
-  λ e. let k = refusal-keeps w at o (Refused (record { number = n; place = p })) (ap (λ (a : Outcome ℕ). left a (putOf w at o .out)) (sym e)) refl in (k .0 .0, k .0 .2, k .0 .1),
-  λ h. ap (λ (l : Left). l .answer) (put-none w at o (h .1)) ∙ refusal-is (sym (h .0)) (sym (h .2)),
-)
 
 -- the reply writer
 reply-not : (n : ℕ) (bs o : List ℕ) (k : ℕ) → NotWritten n bs o k → replyText n bs o .answer ≡ refused k 0

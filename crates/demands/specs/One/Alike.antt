@@ -11,6 +11,7 @@ use Rattle.bencode_scalar.specs.Written.{decimal, writtenString, writtenInt}
 use Rattle.bencode.specs.Decode.{decode}
 use Rattle.bencode.specs.Answers.{paper as countPaper}
 use Rattle.bencode.specs.declared.Checked.{Checked}
+use Rattle.bencode_writer.specs.Escaped.{smallHex}
 use Rattle.bencode_writer.specs.Put.{putOf, paper as putPaper}
 use Rattle.bencode_writer.specs.declared.Put.{Put}
 use Rattle.hash_sha1.specs.Digest.{paper as hashPaper}
@@ -151,6 +152,7 @@ as-framed r out rest (a-cancel index begin len c) = c
 -- such a call, with an answer and an output that its contract permits; w are the bytes, and `at` is the place
 pub data Puts (r : Put) (out : Lent (List ℕ)) : List ℕ → ℕ → Type 0 where
   literal : (at : ℕ) (bytes : Lent (List ℕ)) → writer.literal-ensures at bytes r out → Puts r out (before bytes) at
+  small-hex : (at : ℕ) (bytes : Lent (List ℕ)) → writer.small-hex-ensures at bytes r out → Puts r out (smallHex (before bytes)) at
   a-decimal : (at n : ℕ) → writer.decimal-ensures at n r out → Puts r out (decimal n) at
   string : (at : ℕ) (bytes : Lent (List ℕ)) → writer.string-ensures at bytes r out → Puts r out (writtenString (before bytes)) at
   integer : (at : ℕ) (z : ℤ) → writer.integer-ensures at z r out → Puts r out (writtenInt z) at
@@ -160,6 +162,7 @@ pub data Puts (r : Put) (out : Lent (List ℕ)) : List ℕ → ℕ → Type 0 wh
 
 pub as-put : (r : Put) (out : Lent (List ℕ)) (w : List ℕ) (at : ℕ) → Puts r out w at → left (putPaper r) (after out) ≡ putOf w at (before out)
 as-put r out w at (literal i bytes c) = c
+as-put r out w at (small-hex i bytes c) = c
 as-put r out w at (a-decimal i n c) = c
 as-put r out w at (string i bytes c) = c
 as-put r out w at (integer i z c) = c

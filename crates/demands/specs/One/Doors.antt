@@ -9,6 +9,7 @@ pub mod Tracker
 pub mod TrackerWriting
 pub mod Sheets
 pub mod Links
+pub mod Week
 pub mod Blocks
 pub mod Wire
 pub mod WireWriting

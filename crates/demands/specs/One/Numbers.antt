@@ -1,7 +1,7 @@
 -- Statement 4 of demand 1: "Given exactly when". Each number of document 01's table in its order: under the table's line, call by call, that the number
 -- is given at a place exactly when its cause holds there, by every answer r that the contract of the call permits. A cause says that the checks before it are
 -- passed. The causes: bencode_laws/specs/Causes (1 to 7), torrent_laws/specs/Causes and tracker/specs/Causes (10 to 15), torrent_blocks/specs/Covers,
--- sheets/specs/Causes (10 and 15 of a sheet), links_laws/specs/Causes (19), peer_wire/specs/Causes (20 to 23, wait), torrent_authoring/specs/Rules and tracker/specs/Faults (the writers),
+-- sheets/specs/Causes (10 and 15 of a sheet), week_laws/specs/Causes (18), links_laws/specs/Causes (19), peer_wire/specs/Causes (20 to 23, wait), torrent_authoring/specs/Rules and tracker/specs/Faults (the writers),
 -- yard_laws/specs/Causes and Damage (the yard's words), and demands_laws/specs/Causes. Of the yard r is the number that C gets: `Permits t c r z` is the contract of the call c on the tables t, and `Made lent h
 -- (found t)` says that the tables `lent`, started and then called any way, have become these, and h is what happened (Program.antt). Assumes nothing.
 use mathlib.Core.Path.{_≡_, sym, _∙_}
@@ -15,6 +15,7 @@ use Rattle.refusal.specs.Paper.{taken, refused}
 use Rattle.refusal.specs.Limits.{mostText, longestPiece, longestFrame}
 use Rattle.bencode_writer.specs.Put.{paper as putPaper}
 use Rattle.bencode_writer.specs.declared.Put.{Put}
+use Rattle.bencode_writer.proofs.Puts as puts-laws
 use Rattle.bencode.specs.Value as value
 use Rattle.bencode.specs.Value.{Value}
 use Rattle.bencode.specs.Decode.{decode}
@@ -60,6 +61,15 @@ use Rattle.links.specs.Reading.{sizeOf, paper as linkPaper}
 use Rattle.links.specs.Writing.{sizePaper as linkSizePaper}
 use Rattle.links.specs.declared.Linked.{Linked}
 use Rattle.links.specs.declared.Sized as link-size
+use Rattle.week.specs.Reading.{paper as weekPaper, countPaper as tablePaper, toldPaper}
+use Rattle.week.specs.declared.Counted.{Counted}
+use Rattle.week.specs.declared.Told.{Told}
+use Rattle.week.specs.declared.Week.{Week}
+use Rattle.week.specs.declared.Weekly.{Weekly}
+use Rattle.week_laws.specs.Causes.{Number, Counts, NoTable, NoWeek, NoEntry, Unwritten}
+use Rattle.week_laws.proofs.Laws as week-laws
+use Rattle.week_laws.proofs.Numbers as week-numbers
+use Rattle.week_laws.proofs.Back as week-back
 use Rattle.torrent_metainfo.specs.Reading.{paper as torrentPaper}
 use Rattle.torrent_metainfo.specs.declared.Reading.{Reading}
 use Rattle.torrent_metainfo.specs.declared.Torrent.{Torrent}
@@ -93,6 +103,7 @@ use Rattle.demands_laws.proofs.Reasons.{At}
 use Rattle.demands_laws.proofs.Replies as replies-laws
 use Rattle.demands_laws.proofs.Sheets as sheets-laws
 use Rattle.demands_laws.proofs.Links as links-laws
+use Rattle.demands_laws.proofs.Weeks as weeks
 use Rattle.demands_laws.proofs.Contents as contents-laws
 use Rattle.demands_laws.proofs.Digests as digests
 use Rattle.demands_laws.proofs.Frames as framing
@@ -111,6 +122,7 @@ use Rattle.demands.specs.One.Doors.Tracker as tracker
 use Rattle.demands.specs.One.Doors.TrackerWriting as replies
 use Rattle.demands.specs.One.Doors.Sheets as sheets
 use Rattle.demands.specs.One.Doors.Links as links
+use Rattle.demands.specs.One.Doors.Week as week
 use Rattle.demands.specs.One.Doors.Blocks as blocks
 use Rattle.demands.specs.One.Doors.Wire as wire
 use Rattle.demands.specs.One.Doors.Sha1 as sha1
@@ -160,6 +172,22 @@ write-link-alike torrent r out e q f k p h l = Iff·trans (left-answer e) (Iff·
 -- `links::size` as `torrent_metainfo::read`, but for 8
 pub link-size-alike : (torrent : Lent (List ℕ)) (r : link-size.Sized) → links.size-ensures torrent r → (q : Reading) → metainfo.read-ensures torrent q → (k p : ℕ) → (k ≡ 8 → ⊥) → linkSizePaper r ≡ refused k p ↔ torrentPaper q ≡ refused k p
 link-size-alike torrent r e q f k p h = Iff·trans (same-answer e) (Iff·trans (links-laws.size-alike (before torrent) k p h) (same-answer (sym f)))
+
+-- `week::read`: the first check that fails. A body is refused as a torrent's text is (`readOf`, by which that reader's contract speaks), its place counted from the file's first byte
+pub week-refused : (file : Lent (List ℕ)) (r : Weekly) → week.read-ensures file r → (k p : ℕ) → weekPaper r ≡ refused k p ↔ NoWeek (before file) k p
+week-refused file r e k p = Iff·trans (same-answer e) (week-laws.week-faults (before file) k p)
+
+-- `week::package` as `week::read`, but for 31
+pub week-package-alike : (file : Lent (List ℕ)) (index : ℕ) (r : Told) → week.package-ensures file index r → (q : Weekly) → week.read-ensures file q → (k p : ℕ) → (k ≡ 31 → ⊥) → toldPaper r ≡ refused k p ↔ weekPaper q ≡ refused k p
+week-package-alike file index r e q f k p l = Iff·trans (same-answer e) (Iff·trans (weeks.package-alike (before file) index k p l) (same-answer (sym f)))
+
+-- `week::package_at`: the same of a package by its own entry
+pub package-at-refused : (file : Lent (List ℕ)) (index : ℕ) (r : Told) → week.package-at-ensures file index r → (k p : ℕ) → toldPaper r ≡ refused k p ↔ NoEntry (before file) index k p
+package-at-refused file index r e k p = Iff·trans (same-answer e) (week-laws.entry-faults (before file) index k p)
+
+-- `week::write`: the same of bodies, and all at place 0
+pub week-writer-refused : (bodies lengths : Lent (List ℕ)) (r : Put) (out : Lent (List ℕ)) → week.write-ensures bodies lengths r out → (k p : ℕ) → putPaper r ≡ refused k p ↔ ((p ≡ 0) × Unwritten (before bodies) (before lengths) (length (before out)) k)
+week-writer-refused bodies lengths r out e k p = Iff·trans (left-answer e) (week-back.write-refused (before bodies) (before lengths) (before out) k p)
 
 -- ---- 1: "the text ends where a byte is needed, or a string's length exceeds the bytes left after its colon; place: the text's length"
 
@@ -261,6 +289,22 @@ write-link-8 torrent r out e p = Iff·trans (left-answer e) (links-laws.write-8 
 pub link-size-8 : (torrent : Lent (List ℕ)) (r : link-size.Sized) → links.size-ensures torrent r → (p : ℕ) → linkSizePaper r ≡ refused 8 p ↔ (((mostText < length (before torrent)) ⊎ ((v : Value) × (t : TorrentSays) × Encodes (before torrent) v × IsTorrent v t × (mostText < length (linkOf t)))) × (p ≡ 0))
 link-size-8 torrent r e p = Iff·trans (same-answer e) (links-laws.size-8 (before torrent) p)
 
+-- given by week::read
+pub week-8 : (file : Lent (List ℕ)) (r : Weekly) → week.read-ensures file r → (p : ℕ) → weekPaper r ≡ refused 8 p ↔ ((mostText < length (before file)) × (p ≡ 0))
+week-8 file r e p = Iff·trans (same-answer e) (week-numbers.week-8 (before file) p)
+
+-- given by week::table
+pub week-table-8 : (file : Lent (List ℕ)) (r : Counted) → week.table-ensures file r → (p : ℕ) → tablePaper r ≡ refused 8 p ↔ ((mostText < length (before file)) × (p ≡ 0))
+week-table-8 file r e p = Iff·trans (same-answer e) (week-numbers.table-8 (before file) p)
+
+-- given by week::package_at
+pub package-at-8 : (file : Lent (List ℕ)) (index : ℕ) (r : Told) → week.package-at-ensures file index r → (p : ℕ) → toldPaper r ≡ refused 8 p ↔ ((mostText < length (before file)) × (p ≡ 0))
+package-at-8 file index r e p = Iff·trans (same-answer e) (week-numbers.entry-8 (before file) index p)
+
+-- given by week::write
+pub week-writer-8 : (bodies lengths : Lent (List ℕ)) (r : Put) (out : Lent (List ℕ)) → week.write-ensures bodies lengths r out → (p : ℕ) → putPaper r ≡ refused 8 p ↔ ((p ≡ 0) × Unwritten (before bodies) (before lengths) (length (before out)) 8)
+week-writer-8 bodies lengths r out e p = Iff·trans (left-answer e) (week-back.write-refused (before bodies) (before lengths) (before out) 8 p)
+
 -- ---- 10: "key missing (offset of its dictionary), value of the wrong kind (its offset)"
 
 -- given by torrent_metainfo::read
@@ -350,6 +394,28 @@ reply-writer-15 interval peers r out e p = Iff·trans (left-answer e) (writers.r
 -- given by sheets::find, of the sheet, once the torrent is taken
 pub sheet-15 : (torrent sheet : Lent (List ℕ)) (r : address.Found) → sheets.find-ensures torrent sheet r → (q : Reading) → metainfo.read-ensures torrent q → (t : Torrent) → torrentPaper q ≡ taken t → (p : ℕ) → told r ≡ of OfSheet (refused 15 p) ↔ NoSheetText (before sheet) 15 p
 sheet-15 torrent sheet r e q f t h p = Iff·trans (same-answer e) (sheets-laws.sheet-15 (before torrent) (before sheet) t (sym f ∙ h) p)
+
+-- ---- 18: "at the first table field that is wrong, cut off or a hash given before, then at the first byte after the last body; then, body by body, [..] at a hash that does not match it" (document 02)
+
+-- given by week::read
+pub week-18 : (file : Lent (List ℕ)) (r : Weekly) → week.read-ensures file r → (p : ℕ) → weekPaper r ≡ refused 18 p ↔ NoWeek (before file) 18 p
+week-18 file r e p = Iff·trans (same-answer e) (week-laws.week-faults (before file) 18 p)
+
+-- a file that is cut anywhere in its table after the first offset is 18 at the first length
+pub week-cut : (file : Lent (List ℕ)) (r : Weekly) → week.read-ensures file r → (n : ℕ) → Counts (before file) n → Number (before file) 4 (4 + 28 * n) → length (before file) < 4 + 28 * n → weekPaper r ≡ refused 18 8
+week-cut file r e n c o l = e ∙ week-numbers.cut-table (before file) n c o l
+
+-- given by week::table
+pub week-table-18 : (file : Lent (List ℕ)) (r : Counted) → week.table-ensures file r → (p : ℕ) → tablePaper r ≡ refused 18 p ↔ NoTable (before file) 18 p
+week-table-18 file r e p = Iff·trans (same-answer e) (week-laws.table-faults (before file) 18 p)
+
+-- given by week::package_at
+pub package-at-18 : (file : Lent (List ℕ)) (index : ℕ) (r : Told) → week.package-at-ensures file index r → (p : ℕ) → toldPaper r ≡ refused 18 p ↔ NoEntry (before file) index 18 p
+package-at-18 file index r e p = Iff·trans (same-answer e) (week-laws.entry-faults (before file) index 18 p)
+
+-- given by week::write
+pub week-writer-18 : (bodies lengths : Lent (List ℕ)) (r : Put) (out : Lent (List ℕ)) → week.write-ensures bodies lengths r out → (p : ℕ) → putPaper r ≡ refused 18 p ↔ ((p ≡ 0) × Unwritten (before bodies) (before lengths) (length (before out)) 18)
+week-writer-18 bodies lengths r out e p = Iff·trans (left-answer e) (week-back.write-refused (before bodies) (before lengths) (before out) 18 p)
 
 -- ---- 19: "at the offset of the first byte that breaks the form, at the first letter of a name that comes once too often, or at the text's end if it stops short or xt is missing" (document 02)
 
@@ -447,6 +513,14 @@ peer-31 text n r e q f p = rw f (Iff·trans (same-answer e) (replies-laws.peer-c
 pub piece-check-31 : (text : Lent (List ℕ)) (n : PieceNumber) (bytes : Lent (List ℕ)) (r : piece.Checked) → contents.check-piece-ensures text n bytes r → (q : Reading) → metainfo.read-ensures text q → (p : ℕ) → checkPaper r ≡ refused 31 p ↔ ((t : Torrent) × (torrentPaper q ≡ taken t) × Unchecked t (n .0) (before bytes) 31 × (p ≡ 0))
 piece-check-31 text n bytes r e q f p = rw f (Iff·trans (same-answer e) (contents-laws.check-own (before text) (n .0) (before bytes) 31 p (omega arith)))
 
+-- given by week::package
+pub week-package-31 : (file : Lent (List ℕ)) (index : ℕ) (r : Told) → week.package-ensures file index r → (q : Weekly) → week.read-ensures file q → (p : ℕ) → toldPaper r ≡ refused 31 p ↔ ((w : Week) × (weekPaper q ≡ taken w) × (w .count ≤ index) × (p ≡ 0))
+week-package-31 file index r e q f p = rw f (Iff·trans (same-answer e) (weeks.package-31 (before file) index p))
+
+-- given by week::package_at
+pub package-at-31 : (file : Lent (List ℕ)) (index : ℕ) (r : Told) → week.package-at-ensures file index r → (p : ℕ) → toldPaper r ≡ refused 31 p ↔ NoEntry (before file) index 31 p
+package-at-31 file index r e p = Iff·trans (same-answer e) (week-laws.entry-faults (before file) index 31 p)
+
 -- ---- 32: "bitfield length wrong"
 
 -- given by yard, after an accepted start and any calls
@@ -507,7 +581,7 @@ block-37 lengths pl p o n r out e q = Iff·trans (left-answer e) (blocks-laws.bl
 
 -- given by the writers of `bencode_writer`, a keepalive, a handshake and the listing: bytes w put at a place
 pub put-37 : (r : Put) (out : Lent (List ℕ)) (w : List ℕ) (at : ℕ) → Puts r out w at → (p : ℕ) → putPaper r ≡ refused 37 p ↔ ((length (before out) < at + length w) × (p ≡ 0))
-put-37 r out w at e p = Iff·trans (left-answer (as-put r out w at e)) (given (writers.put-exactly w at (before out) 37 p))
+put-37 r out w at e p = Iff·trans (left-answer (as-put r out w at e)) (given (puts-laws.put-exactly w at (before out) 37 p))
 
 -- given by the frame writers
 pub write-37 : (r : Put) (out : Lent (List ℕ)) (rest : List ℕ) → Frames r out rest → (p : ℕ) → putPaper r ≡ refused 37 p ↔ (Allowed (getD rest 0 0) (length rest) × (length (before out) < 4 + length rest) × (p ≡ 0))
@@ -528,6 +602,10 @@ link-37 text r hash name address e p = Iff·trans (links-laws.read-answer e) (li
 -- given by links::write
 pub write-link-37 : (torrent : Lent (List ℕ)) (r : Put) (out : Lent (List ℕ)) → links.write-ensures torrent r out → (p : ℕ) → putPaper r ≡ refused 37 p ↔ (((v : Value) × (t : TorrentSays) × Encodes (before torrent) v × IsTorrent v t × (length (linkOf t) ≤ mostText) × (length (before out) < length (linkOf t))) × (p ≡ 0))
 write-link-37 torrent r out e p = Iff·trans (left-answer e) (links-laws.write-37 (before torrent) (before out) p)
+
+-- given by week::write
+pub week-writer-37 : (bodies lengths : Lent (List ℕ)) (r : Put) (out : Lent (List ℕ)) → week.write-ensures bodies lengths r out → (p : ℕ) → putPaper r ≡ refused 37 p ↔ ((p ≡ 0) × Unwritten (before bodies) (before lengths) (length (before out)) 37)
+week-writer-37 bodies lengths r out e p = Iff·trans (left-answer e) (week-back.write-refused (before bodies) (before lengths) (before out) 37 p)
 
 -- ---- 38: "yard sizes don't fit"
 

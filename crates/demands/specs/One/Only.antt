@@ -7,6 +7,7 @@ use lib.ListN.{length}
 use Rattle.refusal.specs.Paper.{refused}
 use Rattle.bencode_writer.specs.Put.{paper as putPaper}
 use Rattle.bencode_writer.specs.declared.Put.{Put}
+use Rattle.bencode_writer.proofs.Puts as puts-laws
 use Rattle.bencode.specs.Answers.{paper as countPaper}
 use Rattle.bencode.specs.declared.Checked.{Checked}
 use Rattle.hash_sha1.specs.Digest.{paper as hashPaper, agreementPaper}
@@ -38,6 +39,10 @@ use Rattle.links.specs.Reading.{paper as linkPaper}
 use Rattle.links.specs.Writing.{sizePaper as linkSizePaper}
 use Rattle.links.specs.declared.Linked.{Linked}
 use Rattle.links.specs.declared.Sized as link-size
+use Rattle.week.specs.Reading.{paper as weekPaper, countPaper as tablePaper, toldPaper}
+use Rattle.week.specs.declared.Counted.{Counted}
+use Rattle.week.specs.declared.Told.{Told}
+use Rattle.week.specs.declared.Weekly.{Weekly}
 use Rattle.torrent_metainfo.specs.Reading.{paper as torrentPaper}
 use Rattle.torrent_metainfo.specs.declared.Reading.{Reading}
 use Rattle.torrent_authoring.specs.Writing.{paper as sizedPaper}
@@ -69,6 +74,7 @@ use Rattle.demands.specs.One.Doors.Tracker as tracker
 use Rattle.demands.specs.One.Doors.TrackerWriting as replies
 use Rattle.demands.specs.One.Doors.Sheets as sheets
 use Rattle.demands.specs.One.Doors.Links as links
+use Rattle.demands.specs.One.Doors.Week as week
 use Rattle.demands.specs.One.Doors.Blocks as blocks
 use Rattle.demands.specs.One.Doors.Wire as wire
 use Rattle.demands.specs.One.Doors.Sha1 as sha1
@@ -147,6 +153,28 @@ write-link-no-other torrent r out e k p x = only.link-writer (before torrent) (b
 pub link-size-no-other : (torrent : Lent (List ℕ)) (r : link-size.Sized) → links.size-ensures torrent r → (k p : ℕ) → linkSizePaper r ≡ refused k p → In k (1 ∷ 2 ∷ 3 ∷ 4 ∷ 5 ∷ 6 ∷ 7 ∷ 8 ∷ 10 ∷ 11 ∷ 12 ∷ 13 ∷ [])
 link-size-no-other torrent r e k p x = only.link-size (before torrent) k p (sym e ∙ x)
 
+-- ---- a week's file: "8; 18 [..]; then, body by body, its own refusals [..]; 37 when writing"
+
+-- of week::read
+pub week-no-other : (file : Lent (List ℕ)) (r : Weekly) → week.read-ensures file r → (k p : ℕ) → weekPaper r ≡ refused k p → In k (18 ∷ 1 ∷ 2 ∷ 3 ∷ 4 ∷ 5 ∷ 6 ∷ 7 ∷ 8 ∷ 10 ∷ 11 ∷ 12 ∷ 13 ∷ [])
+week-no-other file r e k p x = only.week (before file) k p (sym e ∙ x)
+
+-- of week::package
+pub week-package-no-other : (file : Lent (List ℕ)) (index : ℕ) (r : Told) → week.package-ensures file index r → (k p : ℕ) → toldPaper r ≡ refused k p → In k (31 ∷ 18 ∷ 1 ∷ 2 ∷ 3 ∷ 4 ∷ 5 ∷ 6 ∷ 7 ∷ 8 ∷ 10 ∷ 11 ∷ 12 ∷ 13 ∷ [])
+week-package-no-other file index r e k p x = only.week-package (before file) index k p (sym e ∙ x)
+
+-- of week::table
+pub week-table-no-other : (file : Lent (List ℕ)) (r : Counted) → week.table-ensures file r → (k p : ℕ) → tablePaper r ≡ refused k p → In k (8 ∷ 18 ∷ [])
+week-table-no-other file r e k p x = only.week-table (before file) k p (sym e ∙ x)
+
+-- of week::package_at
+pub package-at-no-other : (file : Lent (List ℕ)) (index : ℕ) (r : Told) → week.package-at-ensures file index r → (k p : ℕ) → toldPaper r ≡ refused k p → In k (31 ∷ 18 ∷ 1 ∷ 2 ∷ 3 ∷ 4 ∷ 5 ∷ 6 ∷ 7 ∷ 8 ∷ 10 ∷ 11 ∷ 12 ∷ 13 ∷ [])
+package-at-no-other file index r e k p x = only.week-entry (before file) index k p (sym e ∙ x)
+
+-- of week::write
+pub week-writer-no-other : (bodies lengths : Lent (List ℕ)) (r : Put) (out : Lent (List ℕ)) → week.write-ensures bodies lengths r out → (k p : ℕ) → putPaper r ≡ refused k p → In k (37 ∷ 18 ∷ 1 ∷ 2 ∷ 3 ∷ 4 ∷ 5 ∷ 6 ∷ 7 ∷ 8 ∷ 10 ∷ 11 ∷ 12 ∷ 13 ∷ [])
+week-writer-no-other bodies lengths r out e k p x = only.week-writer (before bodies) (before lengths) (before out) k p (left-answer e .0 x)
+
 -- ---- digests: "piece to hash over 16,777,216"
 
 -- of hash_sha1::digest
@@ -191,7 +219,7 @@ write-no-other r out rest e k p x = let d = left-answer (as-framed r out rest e)
 
 -- of the writers of `bencode_writer`, a keepalive, a handshake and the listing: bytes w put at a place
 pub put-no-other : (r : Put) (out : Lent (List ℕ)) (w : List ℕ) (at : ℕ) → Puts r out w at → (k p : ℕ) → putPaper r ≡ refused k p → k ≡ 37
-put-no-other r out w at e k p x = let d = left-answer (as-put r out w at e) .0 x in writers.put-exactly w at (before out) k p .0 d .0
+put-no-other r out w at e k p x = let d = left-answer (as-put r out w at e) .0 x in puts-laws.put-exactly w at (before out) k p .0 d .0
 
 -- ---- the yard: "20", "21" and "30" to "38" of the table, after an accepted start and any calls
 

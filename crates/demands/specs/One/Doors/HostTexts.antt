@@ -15,6 +15,7 @@ use Rattle.torrent_metainfo.specs.Reading.{readOf}
 use Rattle.sheets.specs.declared.Source.{Source}
 use Rattle.sheets.specs.Reading.{findOf}
 use Rattle.links.specs.Reading.{leftOf}
+use Rattle.week.specs.Rules.{tableOf, packageAt, weekOf, packageOf}
 use Rattle.wardrail.specs.Hashing.{stateOf, Holds, Digested}
 use Rattle.wardrail.specs.Looks.{lookDetail}
 use Rattle.wardrail.specs.Peers.{peerDetail}
@@ -23,6 +24,7 @@ use Rattle.wardrail.specs.Said.{wordOf, numberIn, placeIn, textIn, Tells}
 use Rattle.wardrail.specs.Addresses.{wordFrom, textNumber, TellsOf}
 use Rattle.wardrail.specs.Magnets.{ReadTo}
 use Rattle.wardrail.specs.Torrents.{torrentDetail}
+use Rattle.wardrail.specs.Weeks.{weekDetail, packageDetail}
 use Rattle.wardrail.proofs.Determined as said
 use Rattle.wardrail.proofs.Keeping as kept
 use Rattle.wardrail.proofs.Said as told
@@ -93,6 +95,46 @@ link-determined text hash name address detail r r′ hash₁ name₁ address₁ 
 
 pub link-keeps : (text : Lent (List ℕ)) → Keeps4 (link-ensures text) (λ (r : ℕ). r ≡ 0 → ⊥)
 link-keeps text r hash name address detail e k = kept.read-to-keeps _ _ _ _ _ _ _ _ _ _ e k
+
+-- wardrail::weeks::wardrail_week
+abbrev pub week-ensures : (file : Lent (List ℕ)) → ℕ → Lent (List ℕ) → Type 0
+week-ensures file r detail = Tells (map weekDetail (weekOf (now (file .entry)))) (now (detail .entry)) r (now (detail .exit))
+
+pub week-determined : (file : Lent (List ℕ)) → Determined1 (week-ensures file)
+week-determined file detail r r′ detail₁ detail₂ e f = said.tells-determined e f
+
+pub week-keeps : (file : Lent (List ℕ)) → Keeps1 (week-ensures file) (λ (r : ℕ). r ≡ 0 → ⊥)
+week-keeps file r detail e k = kept.tells-keeps e k
+
+-- wardrail::weeks::wardrail_week_package
+abbrev pub week-package-ensures : (file : Lent (List ℕ)) (number : ℕ) → ℕ → Lent (List ℕ) → Type 0
+week-package-ensures file number r detail = Tells (map packageDetail (packageOf (now (file .entry)) number)) (now (detail .entry)) r (now (detail .exit))
+
+pub week-package-determined : (file : Lent (List ℕ)) (number : ℕ) → Determined1 (week-package-ensures file number)
+week-package-determined file number detail r r′ detail₁ detail₂ e f = said.tells-determined e f
+
+pub week-package-keeps : (file : Lent (List ℕ)) (number : ℕ) → Keeps1 (week-package-ensures file number) (λ (r : ℕ). r ≡ 0 → ⊥)
+week-package-keeps file number r detail e k = kept.tells-keeps e k
+
+-- wardrail::weeks::wardrail_week_table
+abbrev pub week-table-ensures : (file : Lent (List ℕ)) → ℕ → Lent ℕ → Type 0
+week-table-ensures file r detail = Tells (tableOf (now (file .entry))) (now (detail .entry)) r (now (detail .exit))
+
+pub week-table-determined : (file : Lent (List ℕ)) → Determined1 (week-table-ensures file)
+week-table-determined file detail r r′ detail₁ detail₂ e f = said.tells-determined e f
+
+pub week-table-keeps : (file : Lent (List ℕ)) → Keeps1 (week-table-ensures file) (λ (r : ℕ). r ≡ 0 → ⊥)
+week-table-keeps file r detail e k = kept.tells-keeps e k
+
+-- wardrail::weeks::wardrail_week_package_at
+abbrev pub week-package-at-ensures : (file : Lent (List ℕ)) (number : ℕ) → ℕ → Lent (List ℕ) → Type 0
+week-package-at-ensures file number r detail = Tells (map packageDetail (packageAt (now (file .entry)) number)) (now (detail .entry)) r (now (detail .exit))
+
+pub week-package-at-determined : (file : Lent (List ℕ)) (number : ℕ) → Determined1 (week-package-at-ensures file number)
+week-package-at-determined file number detail r r′ detail₁ detail₂ e f = said.tells-determined e f
+
+pub week-package-at-keeps : (file : Lent (List ℕ)) (number : ℕ) → Keeps1 (week-package-at-ensures file number) (λ (r : ℕ). r ≡ 0 → ⊥)
+week-package-at-keeps file number r detail e k = kept.tells-keeps e k
 
 -- wardrail::wardrail_sha1
 abbrev pub sha1-ensures : (message : Lent (List ℕ)) → ℕ → Lent (List ℕ) → Type 0

@@ -11,6 +11,7 @@ use Rattle.peer_wire.specs.Message.{keepalive, encode}
 use Rattle.tracker.specs.Writing.{writeOf as replyTextOf}
 use Rattle.torrent_authoring.specs.Writing.{writeOf as torrentTextOf, fields, sizeOf}
 use Rattle.links.specs.Writing.{writtenOf, writeOf as linkTextOf}
+use Rattle.week.specs.Writing.{writeOf as weekTextOf}
 use Rattle.wardrail.specs.Said.{Tells}
 use Rattle.wardrail.specs.Writers.{Wrote}
 use Rattle.wardrail.proofs.Determined as said
@@ -82,6 +83,17 @@ write-link-determined torrent out detail r r′ out₁ out₂ detail₁ detail�
 
 pub write-link-keeps : (torrent : Lent (List ℕ)) → Keeps2 (write-link-ensures torrent) (λ (r : ℕ). r ≡ 0 → ⊥)
 write-link-keeps torrent r out detail e k = kept.write-link-keeps _ _ _ _ _ _ e k
+
+-- wardrail::writers::wardrail_write_week
+abbrev pub write-week-ensures : (bodies lengths : Lent (List ℕ)) → ℕ → Lent (List ℕ) → Lent ℕ → Type 0
+write-week-ensures bodies lengths r out detail =
+    Wrote (weekTextOf (now (bodies .entry)) (now (lengths .entry)) (now (out .entry))) (now (detail .entry)) r (now (detail .exit)) (now (out .exit))
+
+pub write-week-determined : (bodies lengths : Lent (List ℕ)) → Determined2 (write-week-ensures bodies lengths)
+write-week-determined bodies lengths out detail r r′ out₁ out₂ detail₁ detail₂ e f = said.wrote-determined e f
+
+pub write-week-keeps : (bodies lengths : Lent (List ℕ)) → Keeps2 (write-week-ensures bodies lengths) (λ (r : ℕ). r ≡ 0 → ⊥)
+write-week-keeps bodies lengths r out detail e k = kept.write-week-keeps _ _ _ _ _ _ _ e k
 
 -- wardrail::writers::wardrail_link_size
 abbrev pub link-size-ensures : (torrent : Lent (List ℕ)) → ℕ → Lent ℕ → Type 0

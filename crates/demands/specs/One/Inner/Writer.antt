@@ -5,7 +5,7 @@ use Prim.Native.Nat.{ℕ, _≤_}
 use lib.IntN.{ℤ}
 use lib.ListN.{length}
 use Rattle.bencode_scalar.specs.Written.{decimal, writtenString, writtenInt}
-use Rattle.bencode_writer.specs.Escaped.{percent}
+use Rattle.bencode_writer.specs.Escaped.{percent, smallHex}
 use Rattle.bencode_writer.specs.Put.{paper, left, putOf, placePast}
 use Rattle.bencode_writer.specs.declared.Put.{Put}
 use Rattle.bencode_writer.proofs.Laws as laws
@@ -20,6 +20,16 @@ literal-determined at bytes out r r′ out₁ out₂ e f = laws.determined _ _ _
 
 pub literal-keeps : (at : ℕ) (bytes : Lent (List ℕ)) → Keeps1 (literal-ensures at bytes) (λ r. Refused (paper r))
 literal-keeps at bytes r out e k = laws.refusal-keeps _ _ _ r e (k .2) .1
+
+-- bencode_writer::small_hex
+abbrev pub small-hex-ensures : (at : ℕ) (bytes : Lent (List ℕ)) → Put → Lent (List ℕ) → Type 0
+small-hex-ensures at bytes r out = left (paper r) (now (out .exit)) ≡ putOf (smallHex (now (bytes .entry))) at (now (out .entry))
+
+pub small-hex-determined : (at : ℕ) (bytes : Lent (List ℕ)) → Determined1 (small-hex-ensures at bytes)
+small-hex-determined at bytes out r r′ out₁ out₂ e f = laws.determined _ _ _ r e r′ f
+
+pub small-hex-keeps : (at : ℕ) (bytes : Lent (List ℕ)) → Keeps1 (small-hex-ensures at bytes) (λ r. Refused (paper r))
+small-hex-keeps at bytes r out e k = laws.refusal-keeps _ _ _ r e (k .2) .1
 
 -- bencode_writer::decimal
 abbrev pub decimal-ensures : (at n : ℕ) → Put → Lent (List ℕ) → Type 0
