@@ -1,7 +1,7 @@
 /* Yard calls on damaged tables, on tables of wrong sizes and on tables of any bytes, each answered as document 01 says; a refusal leaves
  * every byte as it was. And the looks at a place, at every place of a text; and the address for a torrent by a sheet, each of the two cut,
- * changed at every place and too long. And links of any bytes into outputs of any length, read and written. Prints how many were tried, or
- * each that went wrong. */
+ * changed at every place and too long. And links of any bytes into outputs of any length, read and written; and weeks' files of any bytes,
+ * read whole, by their tables and by any entry, and written of any bodies and lengths. Prints how many were tried, or each that went wrong. */
 #include "wardrail_yard.h"
 
 #include <stdio.h>
@@ -375,7 +375,7 @@ static void looks(void) {
 
 static const uint8_t torrent[] = "d8:announce1:u4:infod6:lengthi1e4:name1:n12:piece lengthi16384e6:pieces20:AAAAAAAAAAAAAAAAAAAAee";
 static const uint8_t sheet[] = "d20:AAAAAAAAAAAAAAAAAAAA1:a20:BBBBBBBBBBBBBBBBBBBB0:20:CCCCCCCCCCCCCCCCCCCC10:0123456789e";
-enum { TORRENT = sizeof torrent - 1, SHEET = sizeof sheet - 1, ANNOUNCE_AT = 13 };
+enum { TORRENT = sizeof torrent - 1, SHEET = sizeof sheet - 1, ANNOUNCE_AT = 13, NAME_AT = 40 };
 
 static uint64_t address_by(const uint8_t *t, size_t t_count, const uint8_t *s, size_t s_count, struct wardrail_address *address) {
     struct wardrail_address lent = {7, {7, 7}};
@@ -639,7 +639,6 @@ static void link_written(const uint8_t *text, size_t count, size_t out_count) {
 
 static void links_written(void) {
     static const char bytes[] = "0129:abeild-x";
-    enum { NAME_AT = 40 };
     uint8_t changed[sizeof torrent];
     for (size_t cut = 0; cut <= TORRENT; cut++) link_written(torrent, cut, any_room(90));
     for (size_t room = 0; room < MOST; room++) link_written(torrent, TORRENT, room);
@@ -668,15 +667,243 @@ static void links(void) {
     links_written();
 }
 
+/* ---- weeks: document 02's ticket 5 once more, with torrents as wardrail_torrent has them */
+
+enum { WEEK_BYTES = 1024, PACKAGES = 3, ENTRY = 28 };
+
+struct week {
+    uint8_t bytes[WEEK_BYTES];
+    size_t count;
+};
+
+static uint64_t refusal_at(uint64_t number, uint64_t place) { return number | place << 8; }
+static uint64_t four(const uint8_t *b) { return (uint64_t)b[0] << 24 | (uint64_t)b[1] << 16 | (uint64_t)b[2] << 8 | b[3]; }
+
+static void put_four(uint8_t *out, uint64_t n) {
+    for (int k = 3; k >= 0; k--, n >>= 8) out[k] = (uint8_t)n;
+}
+
+static bool among(const uint8_t *hash, const uint8_t *hashes, size_t stride, size_t count) {
+    for (size_t k = 0; k < count; k++)
+        if (!memcmp(hash, hashes + k * stride, 20)) return true;
+    return false;
+}
+
+static uint64_t packages_in(const struct week *w, uint64_t *packages) {
+    if (w->count < 4) return refusal_at(18, 0);
+    *packages = four(w->bytes);
+    return *packages < 1 || *packages > 256 ? refusal_at(18, 0) : 0;
+}
+
+static uint64_t table_of(const struct week *w, uint64_t *packages) {
+    uint64_t r = packages_in(w, packages), body = r ? 0 : 4 + ENTRY * *packages;
+    for (uint64_t i = 0, at = 4; !r && i < *packages; i++, at += ENTRY) {
+        const uint8_t *entry = w->bytes + at;
+        if (w->count < at + 4 || four(entry) != body) return refusal_at(18, at);
+        if (w->count < at + 8 || w->count < body + four(entry + 4)) return refusal_at(18, at + 4);
+        if (w->count < at + ENTRY || among(entry + 8, w->bytes + 12, ENTRY, i)) return refusal_at(18, at + 8);
+        body += four(entry + 4);
+    }
+    return r ? r : body < w->count ? refusal_at(18, body) : 0;
+}
+
+/* A package by its own entry. */
+static uint64_t package_of(const struct week *w, uint64_t i, struct wardrail_week_package_at *p) {
+    uint64_t packages, r = packages_in(w, &packages), at = 4 + ENTRY * i;
+    struct wardrail_torrent t;
+    uint8_t hash[20];
+    if (r) return r;
+    if (i >= packages) return 31;
+    if (w->count < at + 8) return refusal_at(18, w->count < at + 4 ? at : at + 4);
+    struct wardrail_part body = {four(w->bytes + at), four(w->bytes + at + 4)};
+    if (w->count < body.from + body.len) return refusal_at(18, at + 4);
+    if (w->count < at + ENTRY) return refusal_at(18, at + 8);
+    r = wardrail_torrent(w->bytes + body.from, body.len, &t);
+    if (r) return refusal_at(wardrail_number(r), body.from + wardrail_place(r));
+    wardrail_info_hash(w->bytes + body.from, body.len, hash);
+    if (memcmp(hash, w->bytes + at + 8, 20)) return refusal_at(18, at + 8);
+    *p = (struct wardrail_week_package_at){{at + 8, 20}, body, t.files, t.total};
+    return 0;
+}
+
+static uint64_t week_of(const struct week *w, struct wardrail_week *sums) {
+    struct wardrail_week_package_at p;
+    struct wardrail_week all = {0, 0, 0};
+    uint64_t r = table_of(w, &all.packages);
+    for (uint64_t i = 0; !r && i < all.packages; i++)
+        if (!(r = package_of(w, i, &p))) all.files += p.files, all.total += p.total;
+    if (!r) *sums = all;
+    return r;
+}
+
+/* A file by the rules, whole, by its table, and each package of it and those past the last; nothing else is written. */
+static void week_tried(const struct week *w) {
+    struct wardrail_week want, got;
+    memset(&want, FILL, sizeof want);
+    memset(&got, FILL, sizeof got);
+    uint64_t wanted = week_of(w, &want), packages = 7, detail = 7, of_table = table_of(w, &packages);
+    says("a week", wardrail_week(w->bytes, w->count, &got) == wanted && !memcmp(&got, &want, sizeof want));
+    says("a week's table", wardrail_week_table(w->bytes, w->count, &detail) == of_table && detail == (of_table ? 7 : packages));
+    for (uint64_t k = 0; k < PACKAGES + 3; k++) {
+        uint64_t i = k < PACKAGES + 1 ? k : k == PACKAGES + 1 ? 255 : UINT64_MAX - any() % 3;
+        struct wardrail_week_package_at wanted_at, at;
+        struct wardrail_week_package package;
+        memset(&wanted_at, FILL, sizeof wanted_at);
+        memset(&at, FILL, sizeof at);
+        memset(&package, FILL, sizeof package);
+        uint64_t by_entry = package_of(w, i, &wanted_at);
+        says("a package by its entry", wardrail_week_package_at(w->bytes, w->count, i, &at) == by_entry && !memcmp(&at, &wanted_at, sizeof at));
+        if (wanted) memset(&wanted_at, FILL, sizeof wanted_at);
+        says("a package", wardrail_week_package(w->bytes, w->count, i, &package) == (wanted ? wanted : by_entry) && !memcmp(&package, &wanted_at, sizeof package));
+    }
+}
+
+/* By what bodies of these lengths are refused, and their hashes. */
+static uint64_t refused_bodies(const uint8_t *bodies, size_t count, const uint64_t *lengths, size_t packages, uint8_t *hashes) {
+    struct wardrail_torrent t;
+    uint64_t left = count, r;
+    if (packages < 1) return 18;
+    for (size_t i = 0; i < packages; left -= lengths[i++])
+        if (lengths[i] > left) return 18;
+    if (left) return 18;
+    for (size_t i = 0; i < packages; bodies += lengths[i++]) {
+        if ((r = wardrail_torrent(bodies, lengths[i], &t))) return wardrail_number(r);
+        wardrail_info_hash(bodies, lengths[i], hashes + 20 * i);
+        if (among(hashes + 20 * i, hashes, 20, i)) return 18;
+    }
+    return 0;
+}
+
+/* A file written by the rules, into an output of this length. */
+static void week_written(const uint8_t *bodies, size_t count, const uint64_t *lengths, size_t packages, size_t out_count) {
+    static struct week lent, got;
+    uint8_t hashes[20 * PACKAGES];
+    uint64_t detail = 7, body = 4 + ENTRY * packages, size = body + count, wanted = refused_bodies(bodies, count, lengths, packages, hashes);
+    if (!wanted && size > out_count) wanted = 37;
+    memset(&lent, FILL, sizeof lent);
+    memset(&got, FILL, sizeof got);
+    if (!wanted) {
+        put_four(lent.bytes, packages);
+        memcpy(lent.bytes + body, bodies, count);
+        for (size_t i = 0; i < packages; body += lengths[i++]) {
+            put_four(lent.bytes + 4 + ENTRY * i, body);
+            put_four(lent.bytes + 8 + ENTRY * i, lengths[i]);
+            memcpy(lent.bytes + 12 + ENTRY * i, hashes + 20 * i, 20);
+        }
+    }
+    uint64_t r = wardrail_write_week(bodies, count, lengths, packages, got.bytes, out_count, &detail);
+    says("a week written", r == wanted && detail == (wanted ? 7 : size) && !memcmp(&got, &lent, sizeof got));
+}
+
+/* The torrent with the name of a number. */
+static void name_torrent(uint8_t *out, uint32_t number) {
+    memcpy(out, torrent, TORRENT);
+    out[NAME_AT] = (uint8_t)('a' + number);
+}
+
+/* Three torrents in one file. */
+static struct week sound_week(void) {
+    struct week w;
+    uint8_t bodies[PACKAGES * TORRENT];
+    uint64_t lengths[PACKAGES], detail = 0;
+    for (uint32_t k = 0; k < PACKAGES; k++) name_torrent(bodies + k * TORRENT, k), lengths[k] = TORRENT;
+    memset(&w, 0, sizeof w);
+    says("three torrents", wardrail_write_week(bodies, sizeof bodies, lengths, PACKAGES, w.bytes, WEEK_BYTES, &detail) == 0);
+    w.count = detail;
+    return w;
+}
+
+/* A table and bodies of which each part is wrong now and then. */
+static struct week any_week(void) {
+    struct week w = {.count = 0};
+    size_t packages = 1 + any() % PACKAGES, body = 4 + ENTRY * packages;
+    put_four(w.bytes, any() % 16 ? packages : any() % 5);
+    for (size_t i = 0; i < packages; i++) {
+        uint8_t *entry = w.bytes + 4 + ENTRY * i;
+        size_t len = any() % 16 ? TORRENT : any() % TORRENT;
+        name_torrent(w.bytes + body, any() % 8 ? (uint32_t)i : any() % PACKAGES);
+        if (!(any() % 12)) w.bytes[body + any() % TORRENT] = (uint8_t)any();
+        put_four(entry, any() % 16 ? body : body + any() % 3 - 1);
+        put_four(entry + 4, any() % 16 ? len : len + any() % 3 - 1);
+        if (any() % 16) wardrail_info_hash(w.bytes + body, len, entry + 8);
+        body += len;
+    }
+    w.count = body + (any() % 8 ? 0 : any() % 3);
+    return w;
+}
+
+static void weeks_read(void) {
+    static const char bytes[] = "0129:abeild-x";
+    const struct week sound = sound_week();
+    struct week w = sound;
+    for (w.count = 0; w.count <= sound.count + 2; w.count++) week_tried(&w);
+    for (size_t at = 0; at < 4 + ENTRY * PACKAGES; at++)
+        for (int k = 0; k < 10; k++) {
+            w = sound;
+            w.bytes[at] = k < 8 ? (uint8_t)(w.bytes[at] ^ 1 << k) : k == 8 ? 0 : 255;
+            week_tried(&w);
+        }
+    for (size_t at = 4 + ENTRY * PACKAGES; at < sound.count; at++)
+        for (size_t k = 0; k < sizeof bytes - 1; k++) {
+            w = sound;
+            w.bytes[at] = (uint8_t)bytes[k];
+            week_tried(&w);
+        }
+    for (int turn = 0; turn < 2000; turn++) {
+        w = sound;
+        for (uint32_t k = any() % 4; k; k--) w.count = damaged(w.bytes, w.count, any() % (w.count + 1), any() % 4 ? (uint8_t)(any() % 128) : (uint8_t)any());
+        week_tried(&w);
+        w = any_week();
+        week_tried(&w);
+    }
+}
+
+static void weeks_written(void) {
+    uint8_t bodies[PACKAGES * TORRENT];
+    for (size_t room = 0; room <= WEEK_BYTES; room++) {
+        uint64_t lengths[PACKAGES] = {TORRENT, TORRENT, TORRENT};
+        for (uint32_t k = 0; k < PACKAGES; k++) name_torrent(bodies + k * TORRENT, k);
+        week_written(bodies, sizeof bodies, lengths, PACKAGES, room);
+    }
+    for (int turn = 0; turn < 5000; turn++) {
+        static const uint64_t far[] = {UINT64_MAX, UINT64_MAX - TORRENT + 1, 1ull << 63, 1ull << 32};
+        uint64_t lengths[PACKAGES];
+        size_t packages = any() % (PACKAGES + 1), count = packages * TORRENT;
+        for (uint32_t k = 0; k < PACKAGES; k++) {
+            name_torrent(bodies + k * TORRENT, any() % 8 ? k : any() % PACKAGES);
+            lengths[k] = any() % 8 ? TORRENT : any() % 4 ? any() % (2 * TORRENT) : far[any() % 4] + any() % 3;
+        }
+        if (!(any() % 4)) bodies[any() % sizeof bodies] = (uint8_t)any();
+        if (!(any() % 8)) count = any() % (sizeof bodies + 1);
+        week_written(bodies, count, lengths, packages, any() % 4 ? WEEK_BYTES : any() % WEEK_BYTES);
+    }
+}
+
+static void weeks(void) {
+    struct wardrail_week week = {7, 7, 7};
+    struct wardrail_week_package package = {.files = 7};
+    struct wardrail_week_package_at at = {.files = 7};
+    uint8_t out[1] = {7};
+    uint64_t detail = 7, length = sizeof more, lengths[257] = {0};
+    bool long_ones = wardrail_week(more, sizeof more, &week) == 8 && wardrail_week_table(more, sizeof more, &detail) == 8;
+    long_ones = long_ones && wardrail_week_package(more, sizeof more, 0, &package) == 8 && wardrail_week_package_at(more, sizeof more, 0, &at) == 8;
+    long_ones = long_ones && wardrail_write_week(more, sizeof more, &length, 1, out, 1, &detail) == 8;
+    says("a file too long", long_ones && week.packages == 7 && package.files == 7 && at.files == 7 && out[0] == 7 && detail == 7);
+    says("257 bodies", wardrail_write_week(torrent, 0, lengths, 257, out, 1, &detail) == 18 && wardrail_write_week(torrent, 0, lengths, 256, out, 1, &detail) == 1 && detail == 7);
+    weeks_read();
+    weeks_written();
+}
+
 int main(void) {
     looks();
     addresses();
     links();
+    weeks();
     any_bytes();
     tops();
     zeros();
     spares();
     sizes();
-    printf("%d calls on damaged tables, at any place, by two texts and of links, %d wrong\n", tried, wrong);
+    printf("%d calls on damaged tables, at any place, by two texts, of links and of weeks, %d wrong\n", tried, wrong);
     return wrong != 0;
 }

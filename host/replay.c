@@ -755,6 +755,102 @@ static void write_link_call(struct line *l) {
     written(l, r, detail, out);
 }
 
+/* ---- a week's file */
+
+/* A file by its table and then package by package, each body read once: the same refusal, and what it comes to. */
+static void agree_week(struct bytes file, uint64_t r, const struct wardrail_week *week) {
+    struct wardrail_week_package_at p;
+    uint64_t count, files = 0, total = 0, said = wardrail_week_table(LENT(file), &count);
+    for (uint64_t k = 0; !said && k < count; k++) {
+        LEND(p);
+        said = wardrail_week_package_at(LENT(file), k, &p);
+        KEPT(said, p);
+        if (!said) files += p.files, total += p.total;
+    }
+    agree(said == r, "a week's refusal, package by package");
+    if (r) return;
+    agree(week->packages == count && week->files == files && week->total == total, "a week's sums, package by package");
+    LEND(p);
+    agree(wardrail_week_package_at(LENT(file), count, &p) == WARDRAIL_BEYOND && untouched(&p, 0, sizeof p), "the package past the last");
+}
+
+static void week_call(struct line *l) {
+    struct bytes file = l->bytes[1];
+    struct wardrail_week week;
+    uint64_t detail;
+    LEND(week);
+    LEND(detail);
+    uint64_t r = wardrail_week(LENT(file), &week), table = wardrail_week_table(LENT(file), &detail);
+    KEPT(table, detail);
+    agree_week(file, r, &week);
+    if (r) REFUSED(r, week);
+    else printf("taken " N " " N " " N, week.packages, week.files, week.total);
+}
+
+/* A package is the body that its parts say, and what wardrail_torrent says of that. */
+static void agree_package(struct bytes file, const struct wardrail_week_package *p) {
+    struct wardrail_torrent t;
+    uint8_t hash[20];
+    struct bytes body = {lent(p->body.len, 1), p->body.len};
+    memcpy(body.data, file.data + p->body.from, body.count);
+    agree(wardrail_torrent(LENT(body), &t) == 0 && t.files == p->files && t.total == p->total, "a package's body");
+    agree(wardrail_info_hash(LENT(body), hash) == 0 && p->hash.len == 20 && !memcmp(hash, file.data + p->hash.from, 20), "a package's hash");
+    free(body.data);
+}
+
+static void package_call(struct line *l) {
+    struct bytes file = l->bytes[1];
+    uint64_t i = number(l->word[2]);
+    struct wardrail_week_package p;
+    struct wardrail_week_package_at walked;
+    struct wardrail_week week;
+    LEND(p);
+    LEND(walked);
+    uint64_t r = wardrail_week_package(LENT(file), i, &p), of_week = wardrail_week(LENT(file), &week), at = wardrail_week_package_at(LENT(file), i, &walked);
+    KEPT(at, walked);
+    agree(of_week ? r == of_week : i < week.packages ? r == 0 : r == WARDRAIL_BEYOND, "a package's refusal");
+    agree(of_week || at == r, "a package by its entry");
+    if (r) {
+        REFUSED(r, p);
+        return;
+    }
+    agree(!memcmp(&walked, &p, sizeof p), "a package by its entry");
+    agree_package(file, &p);
+    part(file, p.hash);
+    printf(" " N " " N " " N " " N, p.body.from, p.body.len, p.files, p.total);
+}
+
+/* A file of ours reads back as its bodies, each where it was lent and with its length, and its bodies are written as that file again. */
+static void agree_written(struct bytes bodies, const uint64_t *lengths, size_t count, struct bytes out, uint64_t size) {
+    struct wardrail_week week;
+    struct wardrail_week_package_at p;
+    uint64_t at = 4 + 28 * count, detail;
+    agree(wardrail_week(out.data, size, &week) == 0 && week.packages == count && size == at + bodies.count, "a week read back");
+    for (size_t k = 0; k < count; k++) {
+        agree(wardrail_week_package_at(out.data, size, k, &p) == 0 && p.body.from == at && p.body.len == lengths[k], "a week read back");
+        agree(p.hash.from == 12 + 28 * k && p.hash.len == 20, "a week read back");
+        at += p.body.len;
+    }
+    agree(!memcmp(out.data + at - bodies.count, bodies.data, bodies.count), "a week's bodies");
+    struct bytes again = {lent_out(size, 1), size};
+    agree(wardrail_write_week(out.data + size - bodies.count, bodies.count, lengths, count, LENT(again), &detail) == 0 && detail == size, "a week written again");
+    agree(!memcmp(again.data, out.data, size), "a week written again");
+    free(again.data);
+}
+
+static void write_week_call(struct line *l) {
+    struct bytes bodies = l->bytes[1], out = room_of(l->word[3]);
+    size_t count;
+    uint64_t *lengths = numbers(l->word[2], &count), detail;
+    LEND(detail);
+    uint64_t r = wardrail_write_week(LENT(bodies), lengths, count, LENT(out), &detail);
+    KEPT(r, detail);
+    agree(wardrail_place(r) == 0, "a writer's place");
+    if (!r) agree_written(bodies, lengths, count, out, detail);
+    written(l, r, detail, out);
+    free(lengths);
+}
+
 /* ---- the yard */
 
 static void end_yard(struct yard *y) {
@@ -909,6 +1005,9 @@ static const struct call {
     {"write-frame", 4, BYTES(2), false, write_frame_call},
     {"link", 4, BYTES(1), false, link_call},
     {"write-link", 3, BYTES(1), false, write_link_call},
+    {"week", 2, BYTES(1), false, week_call},
+    {"package", 3, BYTES(1), false, package_call},
+    {"write-week", 4, BYTES(1), false, write_week_call},
     {"start", 5, 0, false, start_call},
     {"sit", 1, 0, true, sit_call},
     {"leave", 2, 0, true, leave_call},

@@ -15,6 +15,7 @@ import places
 import sheets
 import torrent
 import tracker
+import week
 import wire
 from refusal import Refused, refuse_unless
 from yard import Yard
@@ -105,6 +106,17 @@ def answer_link(text, name_room, address_room):
     return f"{to_hex(link.info_hash)} {name} {address}"
 
 
+def answer_week(file):
+    packages = week.read(unhex(file))
+    files, total = sum(package.files for package in packages), sum(package.total for package in packages)
+    return f"taken {len(packages)} {files} {total}"
+
+
+def answer_package(file, number):
+    package = week.package_at(unhex(file), int(number))
+    return f"{to_hex(package.info_hash)} {package.offset} {package.length} {package.files} {package.total}"
+
+
 def answer_block(piece_length, lengths, piece, offset, length, room):
     block = int(piece), int(offset), int(length)
     parts = blocks.parts_of_block(int(piece_length), numbers(lengths), *block, int(room.partition("+")[0]))
@@ -189,6 +201,10 @@ def answer_write_torrent(announce, name, piece_length, length, pieces, room):
 
 def answer_write_link(text, room):
     return to_hex(links.write(unhex(text), int(room)))
+
+
+def answer_write_week(bodies, lengths, room):
+    return to_hex(week.write(unhex(bodies), numbers(lengths), int(room)))
 
 
 def answer_write_reply(interval, peers, room):
@@ -285,6 +301,8 @@ TEXT_CALLS = {
     "entries": answer_entries,
     "address": answer_address,
     "link": answer_link,
+    "week": answer_week,
+    "package": answer_package,
     "block": answer_block,
     "byte": answer_byte,
     "size": answer_size,
@@ -294,6 +312,7 @@ TEXT_CALLS = {
     "handshake-cuts": answer_handshake_cuts,
     "write-torrent": answer_write_torrent,
     "write-link": answer_write_link,
+    "write-week": answer_write_week,
     "write-reply": answer_write_reply,
     "write-handshake": answer_write_handshake,
     "write-frame": answer_write_frame,

@@ -1,6 +1,6 @@
 """Prints a random script of docs/REPLAY.md, the same one for the same seed.
 
-    python3 tests/random_scripts.py --seed N --calls M [--kind texts|torrents|replies|sheets|links|blocks|wire|yard|all]
+    python3 tests/random_scripts.py --seed N --calls M [--kind texts|torrents|replies|sheets|links|weeks|blocks|wire|yard|all]
 
 Texts, frames and calls are made so that they would be taken, and then some are altered, damaged, cut or joined, so
 that most faults are near misses. Each kind is an endless generator of calls.
@@ -412,6 +412,78 @@ def links(rng):
         yield rng.choice([link_call(rng), link_call(rng), link_call(rng), rng.choice(["", "sum "]) + write_link_call(rng)])
 
 
+# Weeks.
+
+
+def random_bodies(rng):
+    """Torrents with their hashes, some of them refused or one more time."""
+    count = rng.choice([1, 1, 2, 2, 3, 5])
+    if rng.random() < 0.01:
+        count = 256 + rng.randint(-1, 1)
+    bodies = []
+    for _ in range(count):
+        top = random_torrent(rng, rng.randbytes(4) if count > 5 else None)
+        body = text_of(rng, top) if rng.random() < 0.5 / count else encode(top)
+        bodies.append((body, sha1(encode(top[b"info"])).digest()))
+    if rng.random() < 0.1:
+        bodies.insert(rng.randint(0, count), rng.choice(bodies))
+    return bodies
+
+
+def near(rng, value, others):
+    """A number of four bytes that is wrong by a little, or another altogether."""
+    return number(rng.choice([value + 1, value - 1, value + 256, 0, 2**32 - 1, rng.choice(others)]))
+
+
+def random_week(rng, bodies):
+    """The file of some bodies, with one field of its table wrong now and then."""
+    fields, at = [number(len(bodies))], 4 + 28 * len(bodies)
+    size = at + sum(len(body) for body, _ in bodies)
+    for body, info_hash in bodies:
+        fields += [number(at), number(len(body)), info_hash]
+        at += len(body)
+    if rng.random() < 0.4:
+        field = rng.randrange(len(fields))
+        if field % 3 or not field:
+            fields[field] = near(rng, int.from_bytes(fields[field], "big"), [size, at, 255, 256, 257])
+        else:
+            fields[field] = rng.choice([rng.randbytes(20), rng.choice(fields[3::3]), damage(rng, fields[field])])
+    file = b"".join(fields) + b"".join(body for body, _ in bodies)
+    if rng.random() < 0.1:
+        return file[: rng.randint(0, len(file))]
+    return damage(rng, file) if rng.random() < 0.25 else file
+
+
+def wrong_lengths(rng, lengths):
+    """The lengths with one of them changed, left out or parted, or with more that add nothing by 64 bits."""
+    at = rng.randrange(len(lengths))
+    length = lengths[at]
+    changed = rng.choice([[], [0, length], [length, 0], [length + 1], [max(0, length - 1)], [length // 2, length - length // 2], [2**63, 2**63, length], [2**64 - 1, length + 1]])
+    return lengths[:at] + changed + lengths[at + 1 :]
+
+
+def write_week_call(rng):
+    bodies = random_bodies(rng)
+    lengths = [len(body) for body, _ in bodies]
+    size = 4 + 28 * len(lengths) + sum(lengths)
+    if rng.random() < 0.3:
+        lengths = wrong_lengths(rng, lengths)
+    room = rng.choice([1_048_576, size, size, size + 1, size - 1, rng.randint(0, size)])
+    return f"write-week {to_hex(b''.join(body for body, _ in bodies))} {','.join(map(str, lengths)) or '-'} {room}"
+
+
+def weeks(rng):
+    while True:
+        bodies = random_bodies(rng)
+        file = to_hex(random_week(rng, bodies))
+        yield rng.choice([
+            f"week {file}",
+            f"week {file}",
+            f"package {file} {rng.choice([0, len(bodies) - 1, len(bodies), rng.randrange(300), 2**32])}",
+            rng.choice(["", "sum "]) + write_week_call(rng),
+        ])
+
+
 # Blocks.
 
 
@@ -698,7 +770,7 @@ def yard(rng):
 
 
 KINDS = {
-    "texts": texts, "torrents": torrents, "replies": replies, "sheets": sheets, "links": links, "blocks": blocks, "wire": wire, "yard": yard,
+    "texts": texts, "torrents": torrents, "replies": replies, "sheets": sheets, "links": links, "weeks": weeks, "blocks": blocks, "wire": wire, "yard": yard,
 }
 
 
@@ -706,7 +778,7 @@ def everything(rng):
     """All kinds in one script, the yard's calls half of it."""
     streams = [make(rng) for make in KINDS.values()]
     while True:
-        yield next(rng.choices(streams, [1, 1, 1, 1, 1, 1, 1, 7])[0])
+        yield next(rng.choices(streams, [1, 1, 1, 1, 1, 1, 1, 1, 8])[0])
 
 
 def script(seed, calls, kind="all"):

@@ -14,6 +14,7 @@ ROOT = Path(__file__).parents[2]
 sys.path.insert(0, str(ROOT / "second"))
 
 import replay  # noqa: E402
+import week_texts  # noqa: E402
 from notation import LONGEST_SHOWN, show, to_hex  # noqa: E402
 
 ANSWERS = replay.Replay()
@@ -342,6 +343,83 @@ def links():
     return found + [(word, f"{asked} 0") for word, asked in calls_of("write-link", NOT_LINKED)]
 
 
+# ---- weeks: the files of week_texts.py
+
+def weeks():
+    """Each file; of one that is taken also its first package, its last and the one past it."""
+    found = []
+    for shown, data in [*whole_weeks(), *wrong_tables(), *wrong_bodies()]:
+        file = week_texts.word(data)
+        found.append((shown, f"week {file}"))
+        said, *numbers = answer(found[-1][1]).split()
+        if said == "taken" and len(data) < 10_000:
+            count = int(numbers[0])
+            found += [call("package", file, number) for number in sorted({0, count - 1, count})]
+    over = week_texts.week_of([week_texts.A], after=b"x")
+    return found + [call("package", week_texts.word(data), 0) for data in (b"", over)] + weeks_written()
+
+
+def whole_weeks():
+    """One package, some, the samples, sums over 32 bits, 256 packages, and 1,048,576 bytes or one more."""
+    a, b, large = week_texts.A, week_texts.B, week_texts.large
+    sums = [large(2**32 - 1, b"a"), large(1, b"b")], [large(2**36, b"a"), large(2**36 - 1, b"b")]
+    for packages in ([a], [b, a], week_texts.THREE, week_texts.samples(), *sums, week_texts.numbered(256)):
+        yield f"{len(packages)} packages", week_texts.week_of(packages)
+    for size in (1_048_576, 1_048_577):
+        yield f"{size} bytes", week_texts.week_of(week_texts.filled([a], size))
+
+
+def wrong_tables():
+    """Two packages: each field wrong, each hash twice, the file cut at each field and each body, and bytes after it."""
+    two, number = [week_texts.A, week_texts.B], week_texts.number
+    whole = week_texts.week_of(two)
+    wrong = {0: (0, 1, 3, 256, 257, 2**32 - 1), 1: (59, 61, 2**32 - 1), 2: (0, 95, 97, 2**32 - 1), 4: (155, 157), 5: (0, 96, 98, 2**32 - 1)}
+    for field, values in wrong.items():
+        for value in values:
+            yield f"field {field} is {value}", week_texts.week_of(two, {field: number(value)})
+    for field, value in ((3, bytes(20)), (3, two[1].info_hash), (6, bytes(20)), (6, two[0].info_hash), (6, week_texts.another(two[1].info_hash, 19))):
+        yield f"field {field} is {value.hex()}", week_texts.week_of(two, {field: value})
+    for cut in (0, 3, 4, 7, 8, 11, 12, 31, 32, 36, 40, 59, 60, 155, 156, len(whole) - 1):
+        yield f"{cut} bytes of two packages", whole[:cut]
+    yield "bytes after the last body", whole + b"x"
+
+
+def wrong_bodies():
+    """Bodies that are equal, short, empty, or refused as torrents, in the second place."""
+    a, b = week_texts.A, week_texts.B
+    yield "two equal bodies", week_texts.week_of([a, a])
+    yield "two bodies with one info", week_texts.week_of([a, week_texts.named(b"a", b"other")])
+    for k in (0, 1):
+        for body in (a.body[:-1], a.body + b"x", b""):
+            yield f"body {k} of {len(body)} bytes", week_texts.week_of([a._replace(body=body), b] if k == 0 else [b, a._replace(body=body)])
+    for refusal, body in week_texts.BAD_TORRENTS:
+        yield f"body 1 refused by {refusal}", week_texts.week_of([a, week_texts.marked(body)[0]])
+    yield "a bad body after another's hash", week_texts.week_of([a._replace(info_hash=bytes(20)), b._replace(body=b"x")])
+
+
+def weeks_written():
+    """Into room that just fits and is a byte too short; lengths that do not add up, bodies that are refused, and the limits."""
+    a, b, three = week_texts.A, week_texts.B, week_texts.THREE
+    found = []
+    for packages in ([a], [b, a], three, week_texts.samples()):
+        size = len(week_texts.week_of(packages))
+        found += [write_week(packages, room) for room in (size, size - 1)]
+    length = len(a.body)
+    for lengths in ([], [length - 1], [length + 1], [length, 1], [0, length], [length, 0], [2**64 - 1, length + 1], [2**63, 2**63, length], [2**32 + length], [0] * 256 + [length]):
+        found.append(write_week([a], 1000, lengths))
+    found += [write_week([], 1000, [0] * count) for count in (0, 1, 256, 257)]
+    found += [write_week(packages, 1000) for packages in ([a, a], [b, a, b], [a, a._replace(body=b"x")], [a._replace(body=b""), a, a], [a, a, b._replace(body=b"x")])]
+    found += [write_week([b, week_texts.marked(body)[0]], 0) for _, body in week_texts.BAD_TORRENTS[::3]]
+    for size in (1_048_576, 1_048_577):
+        found += [write_week(week_texts.filled([a], size), room, brief=True) for room in (2_000_000, 0)]
+    return found + [write_week(week_texts.numbered(256), 1_000_000, brief=True)]
+
+
+def write_week(packages, room, lengths=None, brief=False):
+    bodies = week_texts.word(week_texts.joined(packages))
+    return call(*["sum"] * brief, "write-week", bodies, week_texts.listed(week_texts.lengths_of(packages) if lengths is None else lengths), room)
+
+
 # ---- blocks
 
 class Asked(list):
@@ -569,7 +647,7 @@ def digests():
 
 def calls():
     """Each call, with what the script says of it before it."""
-    return bencode() + replies() + torrents() + sheets() + links() + blocks() + frames() + writers() + handshakes() + written() + digests()
+    return bencode() + replies() + torrents() + sheets() + links() + weeks() + blocks() + frames() + writers() + handshakes() + written() + digests()
 
 
 def script():

@@ -17,12 +17,13 @@ import reply_texts
 import sample_texts
 import sheet_texts
 import torrent_texts
+import week_texts
 import wire_calls
 import written_texts
 import yard_calls
 
 MODULES = [
-    bencode_texts, torrent_texts, reply_texts, sheet_texts, link_texts, block_calls, wire_calls, written_texts, yard_calls, sample_texts,
+    bencode_texts, torrent_texts, reply_texts, sheet_texts, link_texts, week_texts, block_calls, wire_calls, written_texts, yard_calls, sample_texts,
 ]
 
 
