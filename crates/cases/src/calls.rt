@@ -10,6 +10,7 @@ use crate::replies;
 use crate::report;
 use crate::texts;
 use crate::torrents;
+use crate::weeks;
 use crate::wire;
 use crate::words;
 use crate::writers;
@@ -35,7 +36,13 @@ const LINK: usize = 23;
 
 pub const WRITE_LINK: usize = 24;
 
-const NO_CALL: usize = 25;
+const WEEK: usize = 25;
+
+const PACKAGE: usize = 26;
+
+pub const WRITE_WEEK: usize = 27;
+
+const NO_CALL: usize = 28;
 
 pub fn each(script: &[u8], space: &mut [u8]) {
     let mut from = 0;
@@ -99,7 +106,7 @@ fn share(call: usize, line: &[u8], brief: bool, space: &[u8], ends: Ends)
 // The number of a call.
 fn number_of(name: &[u8]) -> usize {
     words::which(
-        b"bencode|walk|torrent|file|places|piece|reply|peer|entries|frame|frame-cuts|handshake|handshake-cuts|sha1|sha1-parts|block|byte|size|write-torrent|write-reply|write-handshake|write-frame|address|link|write-link|",
+        b"bencode|walk|torrent|file|places|piece|reply|peer|entries|frame|frame-cuts|handshake|handshake-cuts|sha1|sha1-parts|block|byte|size|write-torrent|write-reply|write-handshake|write-frame|address|link|write-link|week|package|write-week|",
         name,
     )
 }
@@ -122,6 +129,8 @@ fn answer<'a>(call: usize, line: &[u8], brief: bool, x: &'a [u8], y: &'a [u8], z
         8 => replies::entries(x),
         ADDRESS => addresses::address(x, y),
         LINK => magnets::link(line, x),
+        WEEK => weeks::sums(x),
+        PACKAGE => weeks::package(x, words::number(line, 2) as usize),
         _ => other(call, line, brief, x, y, z),
     }
 }

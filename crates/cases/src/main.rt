@@ -12,18 +12,19 @@ mod replies;
 mod report;
 mod texts;
 mod torrents;
+mod weeks;
 mod wire;
 mod words;
 mod writers;
 
 fn main() {
-    let mut script = [0u8; 262144];
+    let mut script = [0u8; 524288];
     let mut space = [0u8; 2097152];
     lend(&mut script, &mut space);
 }
 
 // The arrays as slices, whose lengths are known here from their types alone.
-fn lend(script: &mut [u8; 262144], space: &mut [u8; 2097152]) {
+fn lend(script: &mut [u8; 524288], space: &mut [u8; 2097152]) {
     work(script, space);
 }
 

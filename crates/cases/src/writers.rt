@@ -2,6 +2,7 @@
 ghost use Prim.Native.Nat.{_≤_};
 use crate::calls;
 use crate::report;
+use crate::weeks;
 use crate::wire::twenty;
 use crate::words;
 use bencode_writer::Put;
@@ -61,6 +62,7 @@ fn put(call: usize, line: &[u8], out: &mut [u8], x: &[u8], y: &[u8], z: &[u8]) -
         calls::WRITE_REPLY => tracker::writing::write(out, words::number(line, 1), y),
         calls::WRITE_HANDSHAKE => write::handshake(out, &twenty(x), &twenty(y)),
         calls::WRITE_LINK => links::write(x, out),
+        calls::WRITE_WEEK => weeks::write(out, x, words::word(line, 2, b' ')),
         _ => frame(out, words::word(line, 1, b' '), y),
     }
 }
