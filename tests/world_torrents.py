@@ -4,6 +4,7 @@ import hashlib
 import os
 import random
 import re
+import struct
 import subprocess
 import time
 import urllib.parse
@@ -219,7 +220,8 @@ MAKERS = [(make_by_mktorrent, [15, 16, 20]), (make_by_transmission, [14, 15, 18]
 
 
 def theirs(replay, folder):
-    """Torrents of three makers, read alike; every piece of their contents checked by us, whole and damaged; and their addresses by libtorrent's sheets."""
+    """Torrents of three makers, read alike; every piece of their contents checked by us, whole and damaged; their addresses by libtorrent's sheets; and all
+    of them in one week's file."""
     contents, texts, pieces = folder / "contents", [], 0
     for name in make_contents(contents):
         for make, shifts in MAKERS:
@@ -232,8 +234,8 @@ def theirs(replay, folder):
                 same("piece length", listing.piece_length, 1 << shift)
                 pieces += check_pieces(replay, text, listing, contents)
                 texts.append(text)
-    addresses = check_addresses(replay, texts)
-    return f"{len(texts)} torrents of mktorrent, Transmission and libtorrent read alike, {pieces} pieces checked, {addresses} addresses found"
+    addresses, packages = check_addresses(replay, texts), check_week(replay, texts)
+    return f"{len(texts)} torrents of mktorrent, Transmission and libtorrent read alike, {pieces} pieces checked, {addresses} addresses found, {packages} in one file"
 
 
 def check_pieces(replay, text, listing, contents):
@@ -265,6 +267,28 @@ def check_addresses(replay, texts):
             same("an address", replay.ask("address", text, sheet), f"{source} {hexed(address)}")
             asked += 1
     return asked
+
+
+def check_week(replay, texts):
+    """The torrents in one file, whose table is packed here from what libtorrent tells of each; no program but ours reads such a file."""
+    told = {libtorrent.torrent_info(text).info_hash().to_bytes(): text for text in texts}
+    bodies, table, at = b"".join(told.values()), struct.pack(">I", len(told)), 4 + 28 * len(told)
+    packages = []
+    for info_hash, text in told.items():
+        torrent = libtorrent.torrent_info(text)
+        table += struct.pack(">II20s", at, len(text), info_hash)
+        packages.append((info_hash.hex(), at, len(text), torrent.num_files(), torrent.total_size()))
+        at += len(text)
+    lengths = ",".join(str(len(text)) for text in told.values())
+    file = table + bodies
+    same("a week written", replay.ask_bytes("write-week", bodies, lengths, MOST_ROOM), file)
+    files, total = (sum(package[k] for package in packages) for k in (3, 4))
+    same("a week", replay.ask("week", file), f"taken {len(packages)} {files} {total}")
+    for at, package in enumerate(packages):
+        same("a package", replay.ask("package", file, at), " ".join(map(str, package)))
+    again = next(iter(told.values()))
+    same("a torrent twice", replay.ask("write-week", bodies + again, f"{lengths},{len(again)}", MOST_ROOM), "refused 18 at 0")
+    return len(packages)
 
 
 # ---- ours
