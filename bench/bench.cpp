@@ -1,5 +1,5 @@
-// Times the readers beside libtorrent's on one reply, one torrent, one sheet and two links, a link written beside its own, and wardrail_check by the byte on the texts
-// that cost it most. bench/run builds and runs it.
+// Times the readers beside libtorrent's on one reply, one torrent, one sheet, two links and a week's file, a link and a week written beside its own, and wardrail_check
+// by the byte on the texts that cost it most. bench/run builds and runs it.
 #include "../host/wardrail.h"
 
 #include <libtorrent/add_torrent_params.hpp>
@@ -351,6 +351,106 @@ void links() {
     link_written(name, address);
 }
 
+// 256 torrents of one file each, of 190 pieces: alone, joined as a writer takes them, and in one file.
+struct Week {
+    std::vector<string> bodies;
+    std::vector<uint64_t> lengths;
+    string joined, file;
+};
+
+string package(int number) {
+    Dice dice{uint32_t(number)};
+    string hashes;
+    for (int b = 0; b < 190 * 20; b++) hashes += char(dice.below(256));
+    const string name = "route-" + to_string(1000 + number) + ".bin";
+    return "d8:announce15:http://yard/ann4:infod6:length" + integer(to_string(190 * 16384)) + "4:name" + written(name) + "12:piece lengthi16384e6:pieces" + written(hashes) + "ee";
+}
+
+uint64_t week_written(const Week &week, string &out) {
+    uint64_t size;
+    return wardrail_write_week(start_of(week.joined), week.joined.size(), week.lengths.data(), week.lengths.size(), reinterpret_cast<uint8_t *>(&out[0]), out.size(), &size) == 0 ? size : 0;
+}
+
+Week week_of(int packages) {
+    Week week;
+    for (int k = 0; k < packages; k++) {
+        week.bodies.push_back(package(k));
+        week.lengths.push_back(week.bodies.back().size());
+        week.joined += week.bodies.back();
+    }
+    week.file.resize(most_bytes);
+    week.file.resize(week_written(week, week.file));
+    return week;
+}
+
+// The bytes of all packages' files.
+uint64_t week_by_wardrail(const string &file) {
+    struct wardrail_week week;
+    return wardrail_week(start_of(file), file.size(), &week) == 0 ? week.total : 0;
+}
+
+uint64_t week_walked(const string &file) {
+    struct wardrail_week_package_at package;
+    uint64_t count = 0, sum = 0;
+    if (wardrail_week_table(start_of(file), file.size(), &count) != 0) return 0;
+    for (uint64_t k = 0; k < count; k++) {
+        if (wardrail_week_package_at(start_of(file), file.size(), k, &package) != 0) return 0;
+        sum += package.total;
+    }
+    return sum;
+}
+
+uint64_t bodies_by_libtorrent(const Week &week) {
+    uint64_t sum = 0;
+    for (const string &body : week.bodies) {
+        lt::error_code fault;
+        const lt::torrent_info t(body, fault, lt::from_span);
+        if (fault) return 0;
+        sum += uint64_t(t.total_size());
+    }
+    return sum;
+}
+
+uint64_t bodies_hashed(const Week &week) {
+    uint8_t digest[20];
+    uint64_t sum = 0;
+    for (const string &body : week.bodies) sum += wardrail_sha1(start_of(body), body.size(), digest) == 0 ? first_of(digest) : 0;
+    return sum;
+}
+
+string four_bytes(uint64_t n) { return {char(n >> 24), char(n >> 16), char(n >> 8), char(n)}; }
+
+// The same file with libtorrent's hashes.
+uint64_t week_by_libtorrent(const Week &week, string &out) {
+    uint64_t at = 4 + 28 * week.bodies.size();
+    out = four_bytes(week.bodies.size());
+    for (const string &body : week.bodies) {
+        lt::error_code fault;
+        const lt::torrent_info t(body, fault, lt::from_span);
+        if (fault) return 0;
+        out += four_bytes(at) + four_bytes(body.size()) + t.info_hashes().v1.to_string();
+        at += body.size();
+    }
+    out += week.joined;
+    return out.size();
+}
+
+void weeks() {
+    const Week week = week_of(256);
+    string ours(most_bytes, ' '), theirs;
+    const uint64_t total = 256 * uint64_t(190) * 16384;
+    expect(week_by_wardrail(week.file) == total && week_walked(week.file) == total && bodies_by_libtorrent(week) == total, "the week is not read");
+    expect(week_by_libtorrent(week, theirs) == week.file.size() && theirs == week.file, "the weeks written are not the same");
+    std::printf("A week of 256 packages, %zu bytes.\n\n", week.file.size());
+    race({{"wardrail_week", [&] { return week_by_wardrail(week.file); }},
+          {"_week_table, _package_at", [&] { return week_walked(week.file); }},
+          {"wardrail_sha1 of each body", [&] { return bodies_hashed(week); }},
+          {"torrent_info of each body", [&] { return bodies_by_libtorrent(week); }}}, 300);
+    std::printf("A written week of 256 packages, %zu bytes.\n\n", week.file.size());
+    race({{"wardrail_write_week", [&] { return week_written(week, ours); }},
+          {"torrent_info of each body", [&] { return week_by_libtorrent(week, theirs); }}}, 300);
+}
+
 // A list of as many of one item as fit into `size` bytes, or into the values that a text may have, of which each item has `values`.
 string listed(size_t size, const string &item, size_t values = 1) {
     const size_t count = std::min((size - 2) / item.size(), (most_values - 1) / values);
@@ -465,5 +565,6 @@ int main() {
     torrents();
     sheets();
     links();
+    weeks();
     by_the_byte();
 }

@@ -1,5 +1,5 @@
-/* Times calls of the library at growing sizes: bencode texts by their bytes, torrents by their files and pieces, bitfields by pieces
- * and missing pages by seats. Prints a line for each measurement: what, size, what the size counts, microseconds. bench/run builds
+/* Times calls of the library at growing sizes: bencode texts by their bytes, torrents by their files and pieces, weeks' files by their
+ * packages, bitfields by pieces and missing pages by seats. Prints a line for each measurement: what, size, what the size counts, microseconds. bench/run builds
  * and runs it; tools/plot.py draws it. */
 #define _POSIX_C_SOURCE 200809L
 #include "../host/wardrail_yard.h"
@@ -9,7 +9,7 @@
 #include <string.h>
 #include <time.h>
 
-enum { STEPS = 8, RUNS = 41, MOST_TEXT = 1 << 20, MOST_FILES = 1024, MOST_PIECES = 16384, MOST_SEATS = 2000 };
+enum { STEPS = 8, RUNS = 41, MOST_TEXT = 1 << 20, MOST_FILES = 1024, MOST_PIECES = 16384, MOST_SEATS = 2000, MOST_PACKAGES = 256, PACKAGE_PIECES = 190 };
 
 static uint8_t text[MOST_TEXT + 1];
 static size_t length;
@@ -108,6 +108,37 @@ static void torrents(void) {
     }
 }
 
+/* ---- weeks: the bodies of packages stand in `text` */
+
+static uint64_t lengths[MOST_PACKAGES], file_length;
+static uint8_t file[MOST_TEXT];
+static size_t packages;
+
+static void write_week(void) { must(wardrail_write_week(text, length, lengths, packages, file, sizeof file, &file_length), "week written"); }
+
+static void week(void) {
+    struct wardrail_week w;
+    must(wardrail_week(file, file_length, &w), "week");
+}
+
+static void weeks(void) {
+    char item[120];
+    length = packages = 0;
+    for (size_t k = 1; k <= STEPS; k++) {
+        for (; packages < MOST_PACKAGES / STEPS * k; packages++) {
+            const size_t before = length;
+            snprintf(item, sizeof item, "d8:announce15:http://yard/ann4:infod6:lengthi%de4:name7:map-%03zu12:piece lengthi16384e6:pieces%d:", PACKAGE_PIECES * 16384, packages, PACKAGE_PIECES * 20);
+            put(item);
+            memset(text + length, 'h', PACKAGE_PIECES * 20);
+            length += PACKAGE_PIECES * 20;
+            put("ee");
+            lengths[packages] = length - before;
+        }
+        line("week written", packages, "packages", least(write_week));
+        line("week read", packages, "packages", least(week));
+    }
+}
+
 /* ---- the yard: the sum of many calls, the least of such sums */
 
 static struct wardrail_head head;
@@ -164,6 +195,7 @@ static void pages(size_t count) {
 int main(void) {
     texts();
     torrents();
+    weeks();
     for (size_t k = 1; k <= STEPS; k++) bitfields(MOST_PIECES / STEPS * k);
     for (size_t k = 1; k <= STEPS; k++) pages(MOST_SEATS / STEPS * k);
     return 0;

@@ -10,11 +10,12 @@
 
 enum { ROOM = 1 << 16, PIECE = 1 << 16, FILES = 32, DEEPEST = 31, MOST_TEXT = 1 << 12 };
 
-static uint8_t text[MOST_TEXT], piece[PIECE], digest[20];
+static uint8_t text[MOST_TEXT], piece[PIECE], digest[20], file[MOST_TEXT + 32];
 static size_t length, bytes;
 static uint32_t number;
-static uint64_t detail;
+static uint64_t detail, body, file_length;
 static struct wardrail_torrent told;
+static struct wardrail_week week;
 
 /* ---- a call on a painted stack */
 
@@ -67,12 +68,17 @@ static uint64_t sha1(void) { return wardrail_sha1(piece, bytes, digest); }
 static uint64_t info_hash(void) { return wardrail_info_hash(text, length, digest); }
 static uint64_t piece_check(void) { return wardrail_piece_check(text, length, number, piece, bytes, &detail); }
 static uint64_t read_torrent(void) { return wardrail_torrent(text, length, &told); }
+static uint64_t write_week(void) { return wardrail_write_week(text, length, &body, 1, file, sizeof file, &file_length); }
+static uint64_t read_week(void) { return wardrail_week(file, file_length, &week); }
 
-enum { SHA1, PIECE_CHECK, INFO_HASH, TORRENT, CALLS };
+enum { SHA1, PIECE_CHECK, INFO_HASH, TORRENT, WRITE_WEEK, WEEK, CALLS };
 static const struct {
     const char *name;
     uint64_t (*call)(void);
-} calls[CALLS] = {{"wardrail_sha1", sha1}, {"wardrail_piece_check", piece_check}, {"wardrail_info_hash", info_hash}, {"wardrail_torrent", read_torrent}};
+} calls[CALLS] = {
+    {"wardrail_sha1", sha1}, {"wardrail_piece_check", piece_check}, {"wardrail_info_hash", info_hash}, {"wardrail_torrent", read_torrent}, {"wardrail_write_week", write_week},
+    {"wardrail_week", read_week},
+};
 /* of each call the most on messages and plain torrents, and on nested ones */
 static size_t most[CALLS][2], asked;
 static int nested;
@@ -91,8 +97,8 @@ static void must(int k) {
     exit(1);
 }
 
-/* ---- what they are asked: messages around the ends of blocks, and torrents with one file and with many, their piece, whole, cut and wrong;
- * then the same with lists below a key that nobody reads, up to the deepest that is taken, and each beginning of one that is too deep */
+/* ---- what they are asked: messages around the ends of blocks, and torrents with one file and with many, their piece, whole, cut and wrong,
+ * and each as a week's only package; then the same with lists below a key that nobody reads, up to the deepest that is taken, and each beginning of one that is too deep */
 
 static void put(const char *s) {
     memcpy(text + length, s, strlen(s));
@@ -133,6 +139,9 @@ static void one_torrent(int files, int deep) {
     number = 1;
     ask(PIECE_CHECK);
     must(INFO_HASH);
+    body = length;
+    must(WRITE_WEEK);
+    must(WEEK);
 }
 
 static void ask_all(void) {

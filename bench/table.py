@@ -39,9 +39,9 @@ def shown(number):
 
 
 def readers(said):
-    """The least times of bench.cpp's seven races, of which the first two have the same text."""
-    reply, walked, torrent, sheet, link, long_link, written = re.split(
-        r"^The same, every peer|^A torrent of |^A sheet of |^A link of |^A written link of ", said, flags=re.M
+    """The least times of bench.cpp's nine races, of which the first two have the same text."""
+    reply, walked, torrent, sheet, link, long_link, written, week, written_week = re.split(
+        r"^The same, every peer|^A torrent of |^A sheet of |^A link of |^A written link of |^A week of |^A written week of ", said, flags=re.M
     )
 
     def row(what, text, part, name, peer, goal):
@@ -56,6 +56,10 @@ def readers(said):
         row("a link read 1,000 times", link, link, "wardrail_link", "parse_magnet_uri", 2),
         row("a long link read", long_link, long_link, "wardrail_link", "parse_magnet_uri", 2),
         row("a link written 1,000 times", written, written, "wardrail_write_link", "torrent_info, make_magnet_uri", 2),
+        row("a week of 256 packages read", week, week, "wardrail_week", "torrent_info of each body", 1),
+        row("the same, package by package", week, week, "_week_table, _package_at", "torrent_info of each body", 1),
+        row("the same, beside its hashes", week, week, "wardrail_week", "wardrail_sha1 of each body", 0.8),
+        row("a week of 256 packages written", written_week, written_week, "wardrail_write_week", "torrent_info of each body", 1),
     ]
 
 

@@ -17,6 +17,7 @@ LEFT, RIGHT, TOP, BOTTOM = 70, 24, 62, 52
 PANELS = {
     "bytes": ("Bencode texts: check", "length of the text, KiB", 1024),
     "files": ("Torrents", "files, with 16 pieces each", 1),
+    "packages": ("Weeks' files", "packages, of some 4 KB each", 1),
     "pieces": ("The yard: a truck that has all", "pieces", 1),
     "seats": ("The yard: missing list, a page of all seats", "seats", 1),
 }
