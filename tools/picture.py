@@ -18,6 +18,7 @@ WINGS = {
     "tracker": "#0b8a8a",
     "sheets": "#6f8f1a",
     "links": "#b4881f",
+    "week": "#9a5a3c",
     "peer": "#a03a8a",
     "yard": "#c0541c",
     "wardrail": "#5b4bb4",
