@@ -1,4 +1,4 @@
--- What inner functions of the reader keep and answer. Assumes nothing: these are definitions.
+-- What inner functions of the reader and of the writer keep and answer. Assumes nothing: these are definitions.
 -- They serve inner contracts alone and need not be believed: the public contracts speak of Rules.antt and Writing.antt.
 use mathlib.Core.Path.{_≡_}
 use mathlib.Core.Bool.{true, false}

@@ -1,4 +1,5 @@
 -- Document 02's checks of a week's file, in their order, each with its number and its place. Assumes nothing: these are definitions.
+-- They need not be believed: week_laws/proofs ties them to what such a file is, and to why another is none.
 use mathlib.Core.Bool.{Bool, false, cond, _&&_, _||_, not}
 use mathlib.Core.List.{List, [], _∷_}
 use Prim.Native.Nat.{ℕ, zero, suc, _+_, _*_}
@@ -94,13 +95,14 @@ bodyOf s i from n =
     provided (same (sha1 (bytesAt (take n (drop from s)) (t .info))) (hashAt s i)) week (hashPlace i)
     (taken (entryFor i from n t)))
 
--- package i of a file of n packages, by its entry alone: its fields are there, and its body is
+-- package i, whose body of n bytes is to stand at `from`: it is in the file, and so is its hash
 unfoldable pub placedOf : List ℕ → ℕ → ℕ → ℕ → Outcome Entry
 placedOf s i from n =
     provided (leb (from + n) (length s)) week (lengthPlace i)
     (provided (fits 20 s (hashPlace i)) week (hashPlace i)
     (bodyOf s i from n))
 
+-- the same by the fields of its entry
 unfoldable pub withinOf : List ℕ → ℕ → Outcome Entry
 withinOf s i = then (fieldAt s (offsetPlace i)) (λ from. then (fieldAt s (lengthPlace i)) (λ n. placedOf s i from n))
 
