@@ -22,6 +22,7 @@ use Rattle.torrent_laws.proofs.Determined.{said-determined}
 use Rattle.week.specs.File.{Package, bodiesOf, tableBytes}
 use Rattle.week.specs.Rules.{runsAt, tableOf, packageAt, none, weekOf, packageOf}
 use Rattle.week.specs.declared.Week.{Week}
+use Rattle.week.proofs.Summing.{package-of}
 use Rattle.week_laws.specs.Week.{IsPackage, ArePackages, no-more, one-more, IsWeek, answerOf, entryOf}
 use Rattle.week_laws.specs.Causes.{Counts, RightTo, counted, NoTable, NoWeek, NoEntry}
 use Rattle.week_laws.proofs.Tables.{right-counts, table-checks}
@@ -128,8 +129,7 @@ are-first p ps t ts (one-more q qs u us h more) = h
 module _ (s : List ℕ) where
   -- where the file is taken, a package of it is that by its entry, and past the last there is none
   of-week : (w : Week) (i : ℕ) → weekOf s ≡ taken w → packageOf s i ≡ provided (ltb i (w .count)) beyond 0 (packageAt s i)
-  unfolding packageOf
-  of-week w i e = ap (λ (o : Outcome Week). then o (λ x. provided (ltb i (x .count)) beyond 0 (packageAt s i))) e
+  of-week w i e = sym (package-of s i (sym e))
 
   -- what is told of each package of a week's file: its hash and its body, by their places, and what its torrent has
   pub package-every : (qs rs : List Package) (p : Package) (us vs : List TorrentSays) (t : TorrentSays) → IsWeek s (qs ++ (p ∷ rs)) (us ++ (t ∷ vs)) → length qs ≡ length us

@@ -11,12 +11,13 @@ use Rattle.refusal.specs.Limits.{mostText}
 use Rattle.refusal.specs.Numbers.{beyond}
 use Rattle.refusal.specs.Paper.{Outcome, taken, refused, then}
 use Rattle.refusal.proofs.Cases.{less-or}
-use Rattle.refusal.proofs.Outcomes.{then-taken, then-refused, not-refused}
+use Rattle.refusal.proofs.Outcomes.{then-refused, not-refused}
 use Rattle.torrent_metainfo.specs.Rules.{provided}
 use Rattle.week.specs.Rules.{bodyOf, tableOf, packageAt, none, plus, sumsFrom, weekOf, packageOf}
 use Rattle.week.specs.declared.Entry.{Entry}
 use Rattle.week.specs.declared.Week.{Week}
 use Rattle.week_laws.specs.Causes.{EntryAt, RightTo, GoodBodies, NoWeek, bad-table, bad-body}
+use Rattle.week.proofs.Summing.{week-counted, week-each, week-by}
 use Rattle.week_laws.proofs.Tables.{right-counts, right-entry, table-checks}
 use Rattle.week_laws.proofs.Bodies.{body-checks, at-entry}
 
@@ -47,13 +48,6 @@ module _ (s : List ℕ) where
       let r = sums-taken k (suc i) (plus w (x .0)) (λ y c d. h y (omega arith) (omega arith)) in
       (r .0, next-sums k i w (taken (x .0)) (x .1) ∙ r .1, r .2)
 
-  sums-only : (k i : ℕ) (w v : Week) → sumsFrom s k i w ≡ taken v → Each i (i + k)
-  unfolding sumsFrom
-  sums-only zero i w v e l a b = absurd (omega arith)
-  sums-only (suc k) i w v e l a b =
-      let t = then-taken (packageAt s i) (λ x. sumsFrom s k (suc i) (plus w x)) v e in
-      less-or i l (λ c. sums-only k (suc i) (plus w (t .0)) v (t .2) l c (omega arith)) (λ c. let d : l ≡ i = omega arith in (t .0, ap (packageAt s) d ∙ t .1))
-
   sums-blames : (k i : ℕ) (w : Week) (a q : ℕ) → sumsFrom s k i w ≡ refused a q → (j : ℕ) × (i ≤ j) × (j < i + k) × Each i j × (packageAt s j ≡ refused a q)
   unfolding sumsFrom
   sums-blames zero i w a q e = not-refused e
@@ -71,8 +65,7 @@ module _ (s : List ℕ) where
 
   -- where the table is taken, the file comes to its packages
   pub week-is : (n : ℕ) → tableOf s ≡ taken n → weekOf s ≡ sumsFrom s n 0 (none n)
-  unfolding weekOf
-  week-is n e = ap (λ (o : Outcome ℕ). then o (λ x. sumsFrom s x 0 (none x))) e
+  week-is n e = sym (week-by s (sym e))
 
   -- the first package that is refused is the file's refusal
   pub walk-refused : (n i k q : ℕ) → tableOf s ≡ taken n → ((j : ℕ) → j < i → (e : Entry) × (packageAt s j ≡ taken e)) → i < n → packageAt s i ≡ refused k q → weekOf s ≡ refused k q
@@ -89,14 +82,7 @@ module _ (s : List ℕ) where
 
   -- and where the file is taken, its table is, and so are all
   pub week-walked : (w : Week) → weekOf s ≡ taken w → (tableOf s ≡ taken (w .count)) × ((j : ℕ) → j < w .count → (e : Entry) × (packageAt s j ≡ taken e))
-  unfolding weekOf
-  week-walked w e =
-      let t = then-taken (tableOf s) (λ x. sumsFrom s x 0 (none x)) w e in
-      let h = sums-only (t .0) 0 (none (t .0)) w (t .2) in
-      let r = sums-taken (t .0) 0 (none (t .0)) h in
-      let v : taken (r .0) ≡ taken w = sym (r .1) ∙ t .2 in
-      let c : t .0 ≡ w .count = sym (r .2) ∙ ap (λ (x : Week). x .count) (let d : r .0 ≡ w = cc in d) in
-      (t .1 ∙ ap taken c, λ j l. h j (omega arith) (omega arith))
+  week-walked w e = (week-counted s w e .0, λ j l. week-each s w j e l)
 
   -- ---- why a file is no week's file
 
