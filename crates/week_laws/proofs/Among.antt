@@ -1,6 +1,6 @@
 -- The search for a hash among those given before finds it exactly when it is one of them. Assumes nothing.
 use mathlib.Core.Path.{_≡_, refl, sym, ap, _∙_}
-use mathlib.Core.Logic.{⊎-elim, _↔_}
+use mathlib.Core.Logic.{⊎-elim}
 use mathlib.Core.Bool.{Bool, true, false, _||_, or-true}
 use mathlib.Core.List.{List, [], _∷_}
 use mathlib.Core.List.{List·Memᴰ as In, List·Memᴰ·head, List·Memᴰ·tail, List·Memᴰ·cases-cons, List·Memᴰ·not-nil}
@@ -23,9 +23,6 @@ in-among h (x ∷ xs) i =
     ⊎-elim (λ (e : h ≡ x). rw (ap (λ (y : List ℕ). same y h) (sym e) ∙ same-refl h)) (λ (j : In h xs). ap (λ (t : Bool). same x h || t) (in-among h xs j) ∙ or-true (same x h)) (List·Memᴰ·cases-cons i)
 
 module _ (h : List ℕ) (seen : List (List ℕ)) where
-  pub among-law : among h seen ≡ true ↔ In h seen
-  among-law = (among-in h seen, in-among h seen)
-
   -- it is not found exactly when it is none of them
   pub among-not : among h seen ≡ false → In h seen → ⊥
   among-not e i = cannot (among h seen) e (in-among h seen i)

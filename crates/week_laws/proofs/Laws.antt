@@ -147,9 +147,6 @@ module _ (s : List ℕ) where
       let c : i < length ts = omega (arith, are-long ps ts (w .packages)) in
       (of-week (answerOf ts) i (week-every s ps ts w) ∙ rw (lt-ltb i (length ts) c) (x .0), sym (ap (λ (z : Package). z .hash) (x .1)), sym (ap (λ (z : Package). z .body) (x .1)))
 
-  pub package-beyond : (ps : List Package) (ts : List TorrentSays) (i : ℕ) → IsWeek s ps ts → length ps ≤ i → packageOf s i ≡ refused beyond 0
-  package-beyond ps ts i w l = of-week (answerOf ts) i (week-every s ps ts w) ∙ rw (le-ltb i (length ts) (omega (arith, are-long ps ts (w .packages))))
-
   -- ---- each refusal exactly for its cause
 
   -- of the table alone, and of a package by its entry alone (of the whole file: `week-faults`)
