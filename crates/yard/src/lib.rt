@@ -13,6 +13,8 @@ use yard_hearing::heard_head;
 use yard_scans::clear_seats;
 use yard_scans::list_missing;
 use yard_scans::lowest_free;
+use yard_scans::mark_seats;
+use yard_scans::rank_seats;
 use yard_scans::seat_get;
 use yard_scans::seat_set;
 use yard_seating::choke_step;
@@ -23,12 +25,15 @@ use yard_seating::sit_step;
 use yard_seating::start_step;
 use yard_tables::Head;
 use yard_tables::Seat;
+use yard_tables::round::free_place;
+use yard_tables::round::turn;
 use yard_telling::Told;
 use yard_telling::code;
 use yard_telling::shown;
 use yard_telling::tell;
 
 mod pages;
+mod rounds;
 
 // A yard of so many pieces starts.
 #[no_mangle]
@@ -280,4 +285,29 @@ pub extern "C" fn wardrail_yard_count(
     let t = tell(a, *told);
     *told = t;
     code(a)
+}
+
+// A round: who is unchoked until the next one. `value` becomes how many trucks are.
+#[no_mangle]
+pub extern "C" fn wardrail_yard_round(
+    head: &mut Head,
+    seats: &mut [Seat],
+    rows: &[u8],
+    holders: &[u16],
+    told: &mut Told,
+) -> u64
+    ensures { λ r. ⌜ Tells (step Call.round (yardOf (now (head .entry)) (now (seats .entry)) (now (rows .entry)) (now (holders .entry))))
+        (now (told .entry)) r (now (told .exit)) (yardOf (now (head .exit)) (now (seats .exit)) (now (rows .entry)) (now (holders .entry))) ⌝ }
+{
+    let n = seats.len();
+    let fault = rounds::fault(*head, n, rows, holders);
+    let ranking = rank_seats(seats, *head);
+    let free = free_place(*head, ranking);
+    let holder = seat_get(seats, free);
+    let r = turn(*head, fault, ranking, free, holder);
+    mark_seats(seats, r.marks);
+    *head = r.head;
+    let t = tell(r.answer, *told);
+    *told = t;
+    code(r.answer)
 }

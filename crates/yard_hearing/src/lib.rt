@@ -97,7 +97,7 @@ fn frame_step(
         }
         Frame::Piece(p, begin, part) => {
             let within = block::lies_within(h, p, begin, part.len);
-            block::block_step(h, s, p, within, Answer::Taken(used))
+            block::piece_step(h, s, p, within, part.len, used)
         }
         Frame::Cancel(p, begin, len) => {
             let within = block::lies_within(h, p, begin, wide(len));

@@ -3,10 +3,11 @@ use mathlib.Core.Path.{_≡_}
 use mathlib.Core.Logic.{_⊎_}
 use mathlib.Core.Bool.{Bool, true, false}
 use mathlib.Core.List.{List}
-use Prim.Native.Nat.{ℕ, _*_, _≤_, _<_}
+use Prim.Native.Nat.{ℕ, _+_, _*_, _≤_, _<_}
 use lib.ListN.{length}
 use Rattle.refusal.specs.Paper.{taken}
-use Rattle.refusal.specs.Numbers.{frame, payload, late, beyond, bitfield, spare, outside, full, seat, room, sizes}
+use Rattle.refusal.specs.Numbers.{frame, payload, late, beyond, bitfield, spare, outside, full, seat, room, sizes, damaged}
+use Rattle.refusal.specs.Limits.{mostSent}
 use Rattle.refusal.specs.declared.Part.{Part}
 use Rattle.torrent_blocks.specs.Covers.{Block}
 use Rattle.peer_wire.specs.Message.{Message, have, request, piece, cancel}
@@ -85,6 +86,9 @@ pub data CauseBy (v : View) : Call → ℕ → Type 0 where
   no-such-count : (p : ℕ) → v .pieces ≤ p → CauseBy v (count p) beyond
   -- 34
   past-piece : (i : ℕ) (s : List ℕ) (m : Message (List ℕ)) (p b k bytes : ℕ) → SitsBy v i → Says s m bytes → SpeaksOf p b k m → p < v .pieces → (FitsBy v p b k → ⊥) → CauseBy v (feed i s) outside
+  -- 39: its truck would have sent more than 2^53 bytes of blocks since the last round
+  too-much : (i : ℕ) (s : List ℕ) (p b : ℕ) (block : List ℕ) (bytes : ℕ) → SitsBy v i → Says s (piece p b block) bytes → p < v .pieces → FitsBy v p b (length block)
+      → mostSent < v .bytes i + length block → CauseBy v (feed i s) damaged
 
 -- ---- a wait: the frame's four bytes of length, or the rest of it, are not all there
 

@@ -5,12 +5,16 @@ use mathlib.Core.List.{List}
 use Prim.Native.Nat.{ℕ, _+_, _*_, _≤_, _<_}
 use lib.Dec.{eqb}
 use lib.ListN.{length, getD}
-use Rattle.peer_wire.specs.Message.{have, bitfield}
+use Rattle.refusal.specs.Limits.{mostSent}
+use Rattle.torrent_blocks.specs.Covers.{Block}
+use Rattle.peer_wire.specs.Message.{have, bitfield, piece}
 use Rattle.yard_tables.specs.Counting.{count}
 use Rattle.yard_tables.specs.Rows.{width, bitAt, hasIn}
 use Rattle.yard_tables.specs.Seats.{on, cleared}
+use Rattle.yard_tables.specs.Rounds.{nobody}
 use Rattle.yard_tables.specs.Tables.{Yard}
-use Rattle.yard_tables.specs.Step.{Call, start, sit, leave, feed, choke, interest, missing, scarcest, look, has}
+use Rattle.yard_tables.specs.Frames.{pieceSize}
+use Rattle.yard_tables.specs.Step.{Call, start, sit, leave, feed, choke, interest, missing, scarcest, look, has, round}
 use Rattle.yard_tables.specs.Step.{count as counts}
 use Rattle.yard_tables.specs.declared.Seat.{Seat}
 use Rattle.yard_laws.specs.History.{sizesOf}
@@ -36,6 +40,7 @@ Unfit y scarcest = Fit y → ⊥
 Unfit y (look i) = Fit y → ⊥
 Unfit y (has i p) = Fit y → ⊥
 Unfit y (counts p) = Fit y → ⊥
+Unfit y round = Fit y → ⊥
 
 -- ---- words
 
@@ -68,7 +73,7 @@ pub record New (y : Yard) (i : ℕ) (said : ℕ → Bool) (p : ℕ) : Type 0 whe
 abbrev pub gained : Yard → ℕ → (ℕ → Bool) → ℕ
 gained y i said = count (y .head .pieces) (λ p. said p && not (inRow y i p))
 
--- ---- 39: nothing else is wrong with the call, and a count that it raises would pass its top, or one that it lowers is 0
+-- ---- 39: nothing else is wrong with the call, and a count that it raises would pass its top, or one that it lowers is 0, or a round finds no place to go on from
 
 pub data Damaged (y : Yard) : Call → Type 0 where
   -- the seats taken
@@ -85,3 +90,10 @@ pub data Damaged (y : Yard) : Call → Type 0 where
   -- the pieces that the truck holds
   held-top : (i : ℕ) (s : List ℕ) (said : ℕ → Bool) (p : ℕ) → Fit y → Taken y i → Announces y i s said → New y i said p
       → y .head .pieces < seatOf y i .held + gained y i said → Damaged y (feed i s)
+  -- the bytes of blocks that the truck sent since the last round
+  bytes-top : (i : ℕ) (s : List ℕ) (p b : ℕ) (block : List ℕ) (bytes : ℕ) → Fit y → Taken y i → Says s (piece p b block) bytes → p < y .head .pieces
+      → Block (pieceSize (y .head) p) b (length block) → mostSent < seatOf y i .bytes + length block → Damaged y (feed i s)
+  -- a round number over 2; a free place, now (nobody aside) or last, that is no seat
+  number-over : Fit y → 2 < y .head .round → Damaged y round
+  free-nowhere : Fit y → (y .head .free ≡ nobody → ⊥) → length (y .seats) ≤ y .head .free → Damaged y round
+  last-nowhere : Fit y → length (y .seats) ≤ y .head .last → Damaged y round

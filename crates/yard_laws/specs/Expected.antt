@@ -2,11 +2,12 @@
 -- it: when each answer is given, and what is written, is said in Causes.antt and Given.antt. Assumes nothing: these are definitions.
 use mathlib.Core.Bool.{Bool, not, cond, _&&_}
 use mathlib.Core.List.{List, [], _∷_}
-use Prim.Native.Nat.{ℕ, zero, suc, _-_}
+use Prim.Native.Nat.{ℕ, zero, suc, _+_, _-_}
 use lib.Dec.{eqb, ltb, leb}
 use lib.ListN.{length, take}
 use Rattle.refusal.specs.Paper.{Outcome, taken, refused}
-use Rattle.refusal.specs.Numbers.{late, beyond, bitfield, spare, outside, full, seat, room, sizes}
+use Rattle.refusal.specs.Numbers.{late, beyond, bitfield, spare, outside, full, seat, room, sizes, damaged}
+use Rattle.refusal.specs.Limits.{mostSent}
 use Rattle.torrent_blocks.specs.Rules.{pieceLength}
 use Rattle.torrent_blocks.specs.Answers.{lies}
 use Rattle.peer_wire.specs.Message.{Message, keepalive, choke, unchoke, interested, notInterested, have, request, piece, cancel, other}
@@ -15,14 +16,14 @@ use Rattle.peer_wire.specs.Frames.{Found, found, readOf, meant}
 use Rattle.peer_wire.specs.Frames.{wait as more}
 use Rattle.yard_tables.specs.Rows.{width}
 use Rattle.yard_tables.specs.Frames.{spareSet}
-use Rattle.yard_tables.specs.Tables.{Said, wait, done, used, serve, dropped, seated, wrote, listed, shows, holds, heldBy, scarce}
-use Rattle.yard_tables.specs.Step.{Call, start, sit, leave, feed, interest, missing, scarcest, look, has, count, chokeFrame, interestFrame, ifTaken}
+use Rattle.yard_tables.specs.Tables.{Said, wait, done, used, serve, dropped, seated, wrote, listed, shows, holds, heldBy, scarce, unchoked}
+use Rattle.yard_tables.specs.Step.{Call, start, sit, leave, feed, interest, missing, scarcest, look, has, count, round, chokeFrame, interestFrame, ifTaken}
 use Rattle.yard_tables.specs.Step.{choke as chokes}
 use Rattle.yard_tables.specs.declared.Page.{Page}
 use Rattle.yard_tables.specs.declared.Seat.{Seat}
 use Rattle.yard_laws.specs.History.{History, Fixed, Sizes, sizesOf, pieces}
 use Rattle.yard_laws.specs.View.{View, byHistory}
-use Rattle.yard_laws.specs.Says.{hasPiece, lacking, recordOf, holders, pageOf}
+use Rattle.yard_laws.specs.Says.{hasPiece, lacking, recordOf, holders, unchokes, pageOf}
 
 -- ---- what is found by going through numbers
 
@@ -47,13 +48,14 @@ abbrev pub no : ℕ → Outcome Said
 no number = refused number 0
 
 -- what the looks find, where nothing is wrong with them: a page by its first seat and room, the scarcest piece, a seat's record, whether the truck of a seat has a
--- piece, and how many trucks hold one
+-- piece, and how many trucks hold one; and how many a round unchokes
 pub record Looks : Type 0 where
   pub page : ℕ → ℕ → Page
   pub scarcestPiece : ℕ
   pub recordAt : ℕ → Seat
   pub hasIt : ℕ → ℕ → Bool
   pub held : ℕ → ℕ
+  pub unchokes : ℕ
 
 module _ (v : View) where
   -- a truck sits at seat i
@@ -65,6 +67,11 @@ module _ (v : View) where
   -- one that speaks of a block, which has 1 to 16,384 bytes and ends within its piece
   abbrev pub blockBy : ℕ → ℕ → ℕ → Said → Outcome Said
   blockBy p begin len a = cond (ltb p (v .pieces)) (cond (lies (v .longs p) begin len) (taken a) (no outside)) (no beyond)
+
+  -- a piece: its truck may have sent 2^53 bytes of blocks since the last round
+  abbrev pub pieceBy : ℕ → ℕ → ℕ → ℕ → ℕ → Outcome Said
+  pieceBy i p begin len bytes =
+      cond (ltb p (v .pieces)) (cond (lies (v .longs p) begin len) (cond (ltb mostSent (v .bytes i + len)) (no damaged) (taken (used bytes))) (no outside)) (no beyond)
 
   -- a request is served exactly if we don't choke the truck and it is interested
   abbrev pub requestBy : ℕ → ℕ → Said
@@ -85,7 +92,7 @@ module _ (v : View) where
       (no bitfield))
       (no late)
   messageBy i bytes (request p b l) = blockBy p b l (requestBy i bytes)
-  messageBy i bytes (piece p b block) = blockBy p b (length block) (used bytes)
+  messageBy i bytes (piece p b block) = pieceBy i p b (length block) bytes
   messageBy i bytes (cancel p b l) = blockBy p b l (used bytes)
   messageBy i bytes (other id payload) = taken (used bytes)
 
@@ -118,6 +125,7 @@ module _ (v : View) where
   answerBy starts x (look i) = cond (ltb i (v .seats)) (taken (shows (x .recordAt i))) (no seat)
   answerBy starts x (has i p) = cond (ltb i (v .seats)) (cond (ltb p (v .pieces)) (taken (holds (x .hasIt i p))) (no beyond)) (no seat)
   answerBy starts x (count p) = cond (ltb p (v .pieces)) (taken (heldBy (x .held p))) (no beyond)
+  answerBy starts x round = taken (unchoked (x .unchokes))
 
 -- ---- by the history
 
@@ -136,9 +144,10 @@ abbrev pub looksOf : Fixed → History → Looks
 looksOf fixed h = record {
   page = pageFrom fixed h;
   scarcestPiece = leastOf (holders fixed h) (pieces h);
-  recordAt = recordOf h;
+  recordAt = recordOf fixed h;
   hasIt = hasPiece h;
   held = holders fixed h;
+  unchokes = unchokes fixed h;
 }
 
 abbrev pub answer : Fixed → History → Call → Outcome Said
@@ -157,6 +166,7 @@ writes fixed h scarcest = []
 writes fixed h (look i) = []
 writes fixed h (has i p) = []
 writes fixed h (count p) = []
+writes fixed h round = []
 
 abbrev pub output : Fixed → History → Call → List ℕ
 output fixed h c = ifTaken (answer fixed h c) (writes fixed h c)

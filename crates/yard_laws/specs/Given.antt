@@ -9,10 +9,10 @@ use lib.ListN.{take}
 use Rattle.peer_wire.specs.Message.{Message, request}
 use Rattle.peer_wire.specs.Causes.{Few, Cut}
 use Rattle.yard_tables.specs.Counting.{Least}
-use Rattle.yard_tables.specs.Tables.{Said, wait, done, used, serve, dropped, wrote, listed, shows, holds, heldBy, scarce, seated as givesSeat}
-use Rattle.yard_tables.specs.Step.{Call, start, sit, leave, feed, choke, interest, missing, scarcest, look, has, count, chokeFrame, interestFrame}
+use Rattle.yard_tables.specs.Tables.{Said, wait, done, used, serve, dropped, wrote, listed, shows, holds, heldBy, scarce, unchoked, seated as givesSeat}
+use Rattle.yard_tables.specs.Step.{Call, start, sit, leave, feed, choke, interest, missing, scarcest, look, has, count, round, chokeFrame, interestFrame}
 use Rattle.yard_laws.specs.History.{History, Fixed, sizesOf, seated, pieces}
-use Rattle.yard_laws.specs.Says.{hasPiece, recordOf, holders, Missing, pageOf, Lowest}
+use Rattle.yard_laws.specs.Says.{hasPiece, recordOf, holders, unchokes, Missing, pageOf, Lowest}
 use Rattle.yard_laws.specs.View.{StartFits}
 use Rattle.yard_laws.specs.Causes.{Sits, Marks, Says, Cause, Asks, Welcome}
 
@@ -35,9 +35,11 @@ pub data Gives (fixed : Fixed) (h : History) : Call → Said → Type 0 where
   -- looks: a page, the smallest number among the pieces with fewest holders, a seat's record, whether its truck has a piece, how many trucks have one
   lists : (first space : ℕ) (l : List ℕ) → first ≤ fixed .seats → Missing fixed h first l → Gives fixed h (missing first space) (listed (pageOf fixed h space l))
   picks : (p : ℕ) → Least (holders fixed h) (pieces h) p → Gives fixed h scarcest (scarce p)
-  records : (i : ℕ) → i < fixed .seats → Gives fixed h (look i) (shows (recordOf h i))
+  records : (i : ℕ) → i < fixed .seats → Gives fixed h (look i) (shows (recordOf fixed h i))
   tells : (i p : ℕ) → i < fixed .seats → p < pieces h → Gives fixed h (has i p) (holds (hasPiece h i p))
   counts : (p : ℕ) → p < pieces h → Gives fixed h (count p) (heldBy (holders fixed h p))
+  -- a round: how many trucks it unchokes
+  turns : Gives fixed h round (unchoked (unchokes fixed h))
 
 -- ---- what is written
 
@@ -51,6 +53,7 @@ pub data Silent : Call → Type 0 where
   looking : (i : ℕ) → Silent (look i)
   asking : (i p : ℕ) → Silent (has i p)
   counting : (p : ℕ) → Silent (count p)
+  turning : Silent round
 
 -- what a call writes into what is lent for it, from its start on
 pub data Writes (fixed : Fixed) (h : History) : Call → List ℕ → Type 0 where

@@ -2,16 +2,18 @@
 use mathlib.Core.Path.{_≡_}
 use mathlib.Core.Bool.{Bool, true, false, not, cond, _&&_, _||_}
 use mathlib.Core.List.{List, [], _∷_, _++_, List·Memᴰ as In}
-use Prim.Native.Nat.{ℕ}
+use Prim.Native.Nat.{ℕ, _+_, _-_}
 use lib.Dec.{eqb}
+use lib.ListN.{length}
 use Rattle.refusal.specs.Paper.{Outcome, taken, refused}
 use Rattle.peer_wire.specs.Message.{Message, keepalive, choke, unchoke, interested, notInterested, have, bitfield, request, piece, cancel, other, body}
 use Rattle.peer_wire.specs.Frames.{Found, wait, found, readOf, meant}
 use Rattle.yard_tables.specs.Rows.{bitAt}
-use Rattle.yard_tables.specs.Tables.{Said, done, used, serve, dropped, wrote, listed, holds, heldBy, scarce}
+use Rattle.yard_tables.specs.Rounds.{nobody, freeThen, lastThen, served, nextRound}
+use Rattle.yard_tables.specs.Tables.{Said, done, used, serve, dropped, wrote, listed, holds, heldBy, scarce, unchoked}
 use Rattle.yard_tables.specs.Tables.{shows as showsSeat}
 use Rattle.yard_tables.specs.Tables.{wait as waits, seated as givesSeat}
-use Rattle.yard_tables.specs.Step.{Call, start, sit, leave, feed, interest, missing, scarcest, look, has, count}
+use Rattle.yard_tables.specs.Step.{Call, start, sit, leave, feed, interest, missing, scarcest, look, has, count, round}
 use Rattle.yard_tables.specs.Step.{choke as chokesAt}
 
 -- a call, its answer, and what it wrote into what was lent for it
@@ -69,6 +71,8 @@ pub data Event : Type 0 where
   -- our own marks were set
   weChoke : Bool → Event
   weWant : Bool → Event
+  -- a round took place
+  turned : Event
 
 -- the message of bytes that were taken; a wait takes none
 abbrev pub heardIn : List ℕ → Outcome Found → Event
@@ -90,6 +94,7 @@ gives (showsSeat s) i = false
 gives (holds b) i = false
 gives (heldBy n) i = false
 gives (scarce p) i = false
+gives (unchoked n) i = false
 
 -- what a taken call means for seat i: a start empties every seat
 abbrev pub meaning : ℕ → Call → Said → Event
@@ -104,6 +109,7 @@ meaning i scarcest a = nothing
 meaning i (look j) a = nothing
 meaning i (has j p) a = nothing
 meaning i (count p) a = nothing
+meaning i round a = turned
 
 -- a refused call means nothing
 abbrev pub eventOf : ℕ → Call → Outcome Said → Event
@@ -123,6 +129,7 @@ seatedBy gone b = false
 seatedBy (heard m) b = b
 seatedBy (weChoke c) b = b
 seatedBy (weWant c) b = b
+seatedBy turned b = b
 
 abbrev pub seated : History → ℕ → Bool
 seated [] i = false
@@ -147,6 +154,7 @@ announcedBy gone p b = b
 announcedBy (heard m) p b = b || announces m p
 announcedBy (weChoke c) p b = b
 announcedBy (weWant c) p b = b
+announcedBy turned p b = b
 
 abbrev pub announced : History → ℕ → ℕ → Bool
 announced [] i p = false
@@ -166,6 +174,7 @@ freshBy gone b = false
 freshBy (heard m) b = not (hasId (body m)) && b
 freshBy (weChoke c) b = b
 freshBy (weWant c) b = b
+freshBy turned b = b
 
 abbrev pub fresh : History → ℕ → Bool
 fresh [] i = false
@@ -182,20 +191,7 @@ pub record Spoke (h : History) (i : ℕ) : Type 0 where
   pub with-id : hasId (body message) ≡ true
   pub nobody-came : (e : Entry) → In e later → event i e ≡ came → ⊥
 
--- ---- the four marks: who sits down finds both sides choking and uninterested
-
-abbrev pub chokingBy : Event → Bool → Bool
-chokingBy nothing b = b
-chokingBy came b = true
-chokingBy gone b = false
-chokingBy (heard m) b = b
-chokingBy (weChoke c) b = c
-chokingBy (weWant c) b = b
-
--- we choke the truck of seat i
-abbrev pub weAreChoking : History → ℕ → Bool
-weAreChoking [] i = false
-weAreChoking (e ∷ h) i = chokingBy (event i e) (weAreChoking h i)
+-- ---- three of the four marks: who sits down finds both sides choking and uninterested
 
 abbrev pub wantingBy : Event → Bool → Bool
 wantingBy nothing b = b
@@ -204,6 +200,7 @@ wantingBy gone b = false
 wantingBy (heard m) b = b
 wantingBy (weChoke c) b = b
 wantingBy (weWant c) b = c
+wantingBy turned b = b
 
 -- we are interested in it
 abbrev pub weAreInterested : History → ℕ → Bool
@@ -225,6 +222,7 @@ chokedBy gone b = false
 chokedBy (heard m) b = chokeAfter (sortOf m) b
 chokedBy (weChoke c) b = b
 chokedBy (weWant c) b = b
+chokedBy turned b = b
 
 -- it chokes us
 abbrev pub theyAreChoking : History → ℕ → Bool
@@ -246,14 +244,16 @@ wantedBy gone b = false
 wantedBy (heard m) b = interestAfter (sortOf m) b
 wantedBy (weChoke c) b = b
 wantedBy (weWant c) b = b
+wantedBy turned b = b
 
 -- it is interested in us
 abbrev pub theyAreInterested : History → ℕ → Bool
 theyAreInterested [] i = false
 theyAreInterested (e ∷ h) i = wantedBy (event i e) (theyAreInterested h i)
 
--- ---- the sizes that the last accepted start set
+-- ---- what a call means for the whole yard
 
+-- the sizes that a start sets
 pub record Sizes : Type 0 where
   pub pieces : ℕ
   pub pieceLength : ℕ
@@ -262,29 +262,170 @@ pub record Sizes : Type 0 where
 abbrev pub sizesOf : ℕ → ℕ → ℕ → Sizes
 sizesOf p l k = record { pieces = p; pieceLength = l; lastLength = k }
 
-abbrev pub sizesBy : Call → Said → Sizes → Sizes
-sizesBy (start p l k) a z = sizesOf p l k
-sizesBy sit a z = z
-sizesBy (leave j) a z = z
-sizesBy (feed j s) a z = z
-sizesBy (chokesAt j b space) a z = z
-sizesBy (interest j b space) a z = z
-sizesBy (missing first space) a z = z
-sizesBy scarcest a z = z
-sizesBy (look j) a z = z
-sizesBy (has j p) a z = z
-sizesBy (count p) a z = z
+-- it starts anew, a round takes place, or neither
+pub data Phase : Type 0 where
+  still : Phase
+  begins : Sizes → Phase
+  turns : Phase
 
-abbrev pub sizesAfter : Call → Outcome Said → Sizes → Sizes
-sizesAfter c (taken a) z = sizesBy c a z
-sizesAfter c (refused n p) z = z
+abbrev pub phaseBy : Call → Phase
+phaseBy (start p l k) = begins (sizesOf p l k)
+phaseBy sit = still
+phaseBy (leave j) = still
+phaseBy (feed j s) = still
+phaseBy (chokesAt j b space) = still
+phaseBy (interest j b space) = still
+phaseBy (missing first space) = still
+phaseBy scarcest = still
+phaseBy (look j) = still
+phaseBy (has j p) = still
+phaseBy (count p) = still
+phaseBy round = turns
 
-unfoldable pub sizesWith : Entry → Sizes → Sizes
-sizesWith e z = sizesAfter (e .call) (e .answer) z
+-- a refused call means nothing
+abbrev pub phaseOf : Call → Outcome Said → Phase
+phaseOf c (taken a) = phaseBy c
+phaseOf c (refused n p) = still
+
+unfoldable pub phase : Entry → Phase
+phase e = phaseOf (e .call) (e .answer)
+
+-- ---- the sizes that the last accepted start set
+
+abbrev pub sizesBy : Phase → Sizes → Sizes
+sizesBy still z = z
+sizesBy (begins x) z = x
+sizesBy turns z = z
 
 abbrev pub sizesSet : History → Sizes
 sizesSet [] = sizesOf 0 0 0
-sizesSet (e ∷ h) = sizesWith e (sizesSet h)
+sizesSet (e ∷ h) = sizesBy (phase e) (sizesSet h)
 
 abbrev pub pieces : History → ℕ
 pieces h = sizesSet h .pieces
+
+-- ---- the bytes of blocks that the truck of seat i sent since the last round, or since it sat down
+
+abbrev pub blockBytes : Sort → ℕ
+blockBytes quiet = 0
+blockBytes (chokes c) = 0
+blockBytes (wants c) = 0
+blockBytes (shows these) = 0
+blockBytes (sends q o block) = length block
+
+-- a round is of the trucks that sit: at a free seat nothing happens
+abbrev pub sentBy : Event → Bool → ℕ → ℕ
+sentBy nothing sits k = k
+sentBy came sits k = 0
+sentBy gone sits k = 0
+sentBy (heard m) sits k = k + blockBytes (sortOf m)
+sentBy (weChoke c) sits k = k
+sentBy (weWant c) sits k = k
+sentBy turned sits k = cond sits 0 k
+
+abbrev pub sent : History → ℕ → ℕ
+sent [] i = 0
+sent (e ∷ h) i = sentBy (event i e) (seated h i) (sent h i)
+
+-- ---- rounds
+
+-- a truck sits at seat i and is interested
+abbrev pub wanting : History → ℕ → Bool
+wanting h i = seated h i && theyAreInterested h i
+
+-- the number of the next round, modulo 3
+abbrev pub numberBy : Phase → ℕ → ℕ
+numberBy still k = k
+numberBy (begins z) k = 0
+numberBy turns k = nextRound k
+
+abbrev pub roundNumber : History → ℕ
+roundNumber [] = 0
+roundNumber (e ∷ h) = numberBy (phase e) (roundNumber h)
+
+-- where the free place last was: at a start, and before any, the last seat; `after` is what a round makes of it
+abbrev pub lastBy : Phase → ℕ → ℕ → ℕ → ℕ
+lastBy still first after k = k
+lastBy (begins z) first after k = first
+lastBy turns first after k = after
+
+abbrev pub lastPlace : Fixed → History → ℕ
+lastPlace fixed [] = fixed .seats - 1
+lastPlace fixed (e ∷ h) = lastBy (phase e) (fixed .seats - 1) (lastThen (fixed .seats) (wanting h) (roundNumber h) (lastPlace fixed h)) (lastPlace fixed h)
+
+-- the free place, by what a call means for its holder: leaving gives it up
+abbrev pub freeBy : Event → ℕ → ℕ → ℕ
+freeBy nothing after k = k
+freeBy came after k = k
+freeBy gone after k = nobody
+freeBy (heard m) after k = k
+freeBy (weChoke c) after k = k
+freeBy (weWant c) after k = k
+freeBy turned after k = after
+
+-- whose it is after a round, k being its holder before
+abbrev pub turnOf : Fixed → History → ℕ → ℕ
+turnOf fixed h k = freeThen (fixed .seats) (wanting h) (roundNumber h) k (lastPlace fixed h)
+
+abbrev pub freePlace : Fixed → History → ℕ
+freePlace fixed [] = nobody
+freePlace fixed (e ∷ h) = freeBy (event (freePlace fixed h) e) (turnOf fixed h (freePlace fixed h)) (freePlace fixed h)
+
+-- seat i is unchoked by a round
+abbrev pub servedAt : Fixed → History → ℕ → Bool
+servedAt fixed h i = served (fixed .seats) (wanting h) (sent h) (turnOf fixed h (freePlace fixed h)) i
+
+-- ---- our choke: a round sets it at each truck that sits
+
+abbrev pub chokingBy : Event → Bool → Bool → Bool → Bool
+chokingBy nothing sits serve b = b
+chokingBy came sits serve b = true
+chokingBy gone sits serve b = false
+chokingBy (heard m) sits serve b = b
+chokingBy (weChoke c) sits serve b = c
+chokingBy (weWant c) sits serve b = b
+chokingBy turned sits serve b = cond sits (not serve) b
+
+-- we choke the truck of seat i
+abbrev pub weAreChoking : Fixed → History → ℕ → Bool
+weAreChoking fixed [] i = false
+weAreChoking fixed (e ∷ h) i = chokingBy (event i e) (seated h i) (servedAt fixed h i) (weAreChoking fixed h i)
+
+-- ---- the bytes of blocks that came in since the last round, a start counting as one
+
+abbrev pub bytesIn : Event → ℕ
+bytesIn nothing = 0
+bytesIn came = 0
+bytesIn gone = 0
+bytesIn (heard m) = blockBytes (sortOf m)
+bytesIn (weChoke c) = 0
+bytesIn (weWant c) = 0
+bytesIn turned = 0
+
+-- those of a call that is taken: the block of a piece frame
+abbrev pub blockIn : Call → ℕ
+blockIn (start p l k) = 0
+blockIn sit = 0
+blockIn (leave j) = 0
+blockIn (feed j s) = bytesIn (heardIn s (readOf s))
+blockIn (chokesAt j b space) = 0
+blockIn (interest j b space) = 0
+blockIn (missing first space) = 0
+blockIn scarcest = 0
+blockIn (look j) = 0
+blockIn (has j p) = 0
+blockIn (count p) = 0
+blockIn round = 0
+
+abbrev pub broughtBy : Call → Outcome Said → ℕ
+broughtBy c (taken a) = blockIn c
+broughtBy c (refused n p) = 0
+
+abbrev pub cameBy : Phase → ℕ → ℕ → ℕ
+cameBy still b k = k + b
+cameBy (begins z) b k = 0
+cameBy turns b k = 0
+
+abbrev pub cameIn : History → ℕ
+cameIn [] = 0
+cameIn (e ∷ h) = cameBy (phase e) (broughtBy (e .call) (e .answer)) (cameIn h)

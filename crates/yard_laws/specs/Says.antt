@@ -10,7 +10,7 @@ use Rattle.yard_tables.specs.Looks.{firstOr}
 use Rattle.yard_tables.specs.declared.Head.{Head}
 use Rattle.yard_tables.specs.declared.Seat.{Seat}
 use Rattle.yard_tables.specs.declared.Page.{Page}
-use Rattle.yard_laws.specs.History.{History, Fixed, seated, announced, fresh, weAreChoking, weAreInterested, theyAreChoking, theyAreInterested, sizesSet, pieces}
+use Rattle.yard_laws.specs.History.{History, Fixed, seated, announced, fresh, weAreChoking, weAreInterested, theyAreChoking, theyAreInterested, sent, roundNumber, freePlace, lastPlace, servedAt, sizesSet, pieces}
 
 -- every k below n has f
 abbrev pub allOf : ℕ → (ℕ → Bool) → Bool
@@ -36,15 +36,16 @@ abbrev pub lacking : History → ℕ → Bool
 lacking h i = seated h i && some (pieces h) (λ p. not (announced h i p))
 
 -- all that is to be known of seat i
-abbrev pub recordOf : History → ℕ → Seat
-recordOf h i = record {
+abbrev pub recordOf : Fixed → History → ℕ → Seat
+recordOf fixed h i = record {
   taken = bit (seated h i);
   fresh = bit (fresh h i);
-  «am_choking» = bit (weAreChoking h i);
+  «am_choking» = bit (weAreChoking fixed h i);
   «am_interested» = bit (weAreInterested h i);
   «peer_choking» = bit (theyAreChoking h i);
   «peer_interested» = bit (theyAreInterested h i);
   held = held h i;
+  bytes = sent h i;
 }
 
 -- ---- counts over the seats
@@ -66,7 +67,14 @@ headOf fixed h = record {
   «last_length» = sizesSet h .lastLength;
   taken = takenSeats fixed h;
   complete = completeSeats fixed h;
+  round = roundNumber h;
+  free = freePlace fixed h;
+  last = lastPlace fixed h;
 }
+
+-- how many trucks a round unchokes
+abbrev pub unchokes : Fixed → History → ℕ
+unchokes fixed h = count (fixed .seats) (λ i. seated h i && servedAt fixed h i)
 
 -- ---- the missing list
 

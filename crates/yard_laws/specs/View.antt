@@ -10,16 +10,17 @@ use Rattle.yard_tables.specs.Rows.{width}
 use Rattle.yard_tables.specs.Seats.{on, cleared}
 use Rattle.yard_tables.specs.Tables.{Yard}
 use Rattle.yard_tables.specs.Frames.{pieceSize}
-use Rattle.yard_laws.specs.History.{History, Fixed, seated, fresh, weAreChoking, theyAreInterested, Sizes, sizesSet}
+use Rattle.yard_laws.specs.History.{History, Fixed, seated, fresh, weAreChoking, theyAreInterested, sent, Sizes, sizesSet}
 use Rattle.yard_laws.specs.History.{pieces as piecesIn}
 
 pub record View : Type 1 where
   pub seats : ℕ
-  -- of each seat: a truck sits there, no frame of it with an id was taken yet, we choke it, it is interested
+  -- of each seat: a truck sits there, no frame of it with an id was taken yet, we choke it, it is interested; the bytes of blocks that it sent since the last round
   pub sitsAt : ℕ → Bool
   pub silent : ℕ → Bool
   pub choked : ℕ → Bool
   pub interested : ℕ → Bool
+  pub bytes : ℕ → ℕ
   -- how many pieces there are, and how long each is
   pub pieces : ℕ
   pub longs : ℕ → ℕ
@@ -41,8 +42,9 @@ byHistory fixed h = record {
   seats = fixed .seats;
   sitsAt = seated h;
   silent = fresh h;
-  choked = weAreChoking h;
+  choked = weAreChoking fixed h;
   interested = theyAreInterested h;
+  bytes = sent h;
   pieces = piecesIn h;
   longs = lengthOf h;
   MayStart = StartFits h;
@@ -69,6 +71,7 @@ byTables y = record {
   silent = λ i. on (getD (y .seats) i cleared .fresh);
   choked = λ i. on (getD (y .seats) i cleared .«am_choking»);
   interested = λ i. on (getD (y .seats) i cleared .«peer_interested»);
+  bytes = λ i. getD (y .seats) i cleared .bytes;
   pieces = y .head .pieces;
   longs = pieceSize (y .head);
   MayStart = λ z. SizesFit z y;

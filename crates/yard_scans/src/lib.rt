@@ -1,4 +1,4 @@
-// Thin functions over lent seats: one seat taken out or put back, and the three passes over all of them.
+// Thin functions over lent seats: one seat taken out or put back, and the five passes over all of them.
 ghost use mathlib.Core.Path.{_≡_};
 ghost use mathlib.Core.Bool.{cond, _||_};
 ghost use Prim.Native.Nat.{_+_, _<_, _≤_, _^_, min};
@@ -6,6 +6,8 @@ ghost use lib.Dec.{ltb};
 ghost use lib.ListN.{length, getD, set, replicate};
 ghost use lib.Seq.{sets};
 ghost use Rattle.yard_tables.specs.Seats.{on, cleared};
+ghost use Rattle.yard_tables.specs.Counting.{each};
+ghost use Rattle.yard_tables.specs.Ranks.{ranked, markStep};
 ghost use Rattle.yard_tables.specs.Seating.{lowestFree};
 ghost use Rattle.yard_tables.specs.Looks.{pageOf, linesOf};
 ghost use Rattle.yard_scans.specs.Pages.{emptyPage, pageStep, lineStep, lineOf, asLines};
@@ -14,6 +16,11 @@ use yard_tables::Seat;
 use yard_tables::cleared_seat;
 use yard_tables::held;
 use yard_tables::on;
+use yard_tables::rank::Ranking;
+use yard_tables::rank::rank_step;
+use yard_tables::rank::unranked;
+use yard_tables::round::Marks;
+use yard_tables::round::mark;
 use yard_tables::sizes::wide;
 
 // The seat at i, and a cleared one past the end.
@@ -80,6 +87,30 @@ fn clear_step(wanted: bool, s: Seat) -> Seat
         return cleared_seat();
     }
     s
+}
+
+// The seats ranked: the four that want the uplink and sent most, and whose turn the free place is.
+pub fn rank_seats(seats: &[Seat], h: Head) -> Ranking
+    ensures { λ r. ⌜ r ≡ ranked (h .last) (now (seats .entry)) ⌝ }
+{
+    let mut best = unranked();
+    let mut i: usize = 0;
+    while i < seats.len() {
+        best = rank_step(best, seats[i], i, h);
+        i += 1;
+    }
+    best
+}
+
+// The marks of a round at every seat.
+pub fn mark_seats(seats: &mut [Seat], marks: Marks)
+    ensures { λ _. ⌜ now (seats .exit) ≡ each (λ i s. markStep marks s i) (now (seats .entry)) ⌝ }
+{
+    let mut i: usize = 0;
+    while i < seats.len() {
+        seats[i] = mark(marks, seats[i], i);
+        i += 1;
+    }
 }
 
 // Which page of the missing list is asked for: the trucks that lack one of so many pieces, from a first seat on, on at

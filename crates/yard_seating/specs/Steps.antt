@@ -10,6 +10,7 @@ use Rattle.yard_tables.specs.Counting.{bit, some}
 use Rattle.yard_tables.specs.Replies.{refusing, stepped}
 use Rattle.yard_tables.specs.Rows.{digit}
 use Rattle.yard_tables.specs.Seats.{on, cleared}
+use Rattle.yard_tables.specs.Rounds.{nobody}
 use Rattle.yard_tables.specs.Tables.{paper, Out, yardOf, sizesFit}
 use Rattle.yard_tables.specs.declared.Head.{Head}
 use Rattle.yard_tables.specs.declared.Seat.{Seat}
@@ -19,7 +20,7 @@ use Rattle.yard_seating.specs.declared.Begun.{Begun}
 
 -- the head of a yard of these sizes with nobody in it
 abbrev pub emptyHead : ℕ → ℕ → ℕ → Head
-emptyHead pieces pieceLength lastLength = record { pieces = pieces; «piece_length» = pieceLength; «last_length» = lastLength; taken = 0; complete = 0 }
+emptyHead pieces pieceLength lastLength = record { pieces = pieces; «piece_length» = pieceLength; «last_length» = lastLength; taken = 0; complete = 0; round = 0; free = nobody; last = 0 }
 
 -- the seats, cleared where that is wanted
 abbrev pub clearedIf : Bool → List Seat → List Seat

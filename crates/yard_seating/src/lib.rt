@@ -4,7 +4,7 @@
 ghost use mathlib.Core.Path.{_≡_};
 ghost use mathlib.Core.Bool.{true, false, cond};
 ghost use mathlib.Core.List.{List, [], _∷_};
-ghost use Prim.Native.Nat.{_<_, _+_, _-_, _*_};
+ghost use Prim.Native.Nat.{_<_, _≤_, _+_, _-_, _*_};
 ghost use lib.Dec.{eqb};
 ghost use lib.ListN.{length};
 ghost use lib.Seq.{sets};
@@ -12,7 +12,7 @@ ghost use Rattle.refusal.specs.Numbers.{sizes};
 ghost use Rattle.peer_wire.specs.Message.{framed};
 ghost use Rattle.yard_tables.specs.Counting.{bit};
 ghost use Rattle.yard_tables.specs.Rows.{width};
-ghost use Rattle.yard_tables.specs.Seats.{cleared, arrived, counted, weChoke, weWant};
+ghost use Rattle.yard_tables.specs.Seats.{cleared, arrived, counted, placed, weChoke, weWant};
 ghost use Rattle.yard_tables.specs.Tables.{paper, around, turn, yardOf, sizesFit};
 ghost use Rattle.yard_tables.specs.Seating.{startOf, sitOf, leaveOf, markOf};
 ghost use Rattle.yard_tables.specs.Step.{chokeFrame, interestFrame, ifTaken};
@@ -60,7 +60,7 @@ pub fn start_step(
     }
     row::clear(rows, 0, row_bytes);
     row::clear_counts(holders);
-    begin(empty)
+    begin(empty, n)
 }
 
 // A truck sits down at the lowest free seat i, which is n where none is free.
@@ -110,7 +110,7 @@ pub fn leave_step(
     }
     row::lower(rows, holders, at, counts);
     row::clear(rows, at, w);
-    gone(h, s)
+    gone(leaving::give_up(h, i), s)
 }
 
 // We choke the truck of seat i, or no longer: the frame is written.
@@ -212,14 +212,21 @@ fn empty_head(pieces: u32, piece_length: u32, last_length: u32) -> Head
         last_length,
         taken: 0,
         complete: 0,
+        round: 0,
+        free: 4294967295,
+        last: 0,
     }
 }
 
-fn begin(empty: Head) -> Begun
-    ensures { λ r. ⌜ r ≡ record { head = empty; clear = true; answer = Answer.Done } ⌝ }
+// The free place was last at the last of n seats, so that it comes to the first.
+fn begin(empty: Head, n: usize) -> Begun
+    requires { ⌜ (1 ≤ n) × (n ≤ 2000) ⌝ }
+    ensures { λ r. ⌜ r ≡ record { head = placed (empty .round) (empty .free) (n - 1) empty; clear = true; answer = Answer.Done } ⌝ }
 {
+    let mut h = empty;
+    h.last = (n - 1) as u32;
     Begun {
-        head: empty,
+        head: h,
         clear: true,
         answer: Answer::Done,
     }

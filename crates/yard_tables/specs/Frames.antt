@@ -6,12 +6,13 @@ use lib.Dec.{eqb, ltb, leb}
 use lib.ListN.{length, getD}
 use Rattle.refusal.specs.Paper.{Outcome, taken, refused}
 use Rattle.refusal.specs.Numbers.{late, beyond, bitfield, spare, outside, damaged}
+use Rattle.refusal.specs.Limits.{mostSent}
 use Rattle.torrent_blocks.specs.Answers.{lies}
 use Rattle.peer_wire.specs.Message.{Message, keepalive, choke, unchoke, interested, notInterested, have, request, piece, cancel, other}
 use Rattle.peer_wire.specs.Frames.{Found, wait, found, readOf, meant}
 use Rattle.yard_tables.specs.Counting.{bit, count, some, each}
 use Rattle.yard_tables.specs.Rows.{width, bitAt, hasIn, withBit, withBits}
-use Rattle.yard_tables.specs.Seats.{on, spoken, theyChoke, theyWant, holding, counted}
+use Rattle.yard_tables.specs.Seats.{on, spoken, theyChoke, theyWant, holding, having, counted}
 use Rattle.yard_tables.specs.Tables.{Said, used, serve, dropped, Around, Turn, around, refuse, says, sized, sitting}
 use Rattle.yard_tables.specs.declared.Head.{Head}
 use Rattle.yard_tables.specs.declared.Seat.{Seat}
@@ -87,11 +88,20 @@ pieceSize h p = cond (eqb (p + 1) (h .pieces)) (h .«last_length») (h .«piece_
 abbrev pub blockFits : Head → ℕ → ℕ → ℕ → Bool
 blockFits h p begin len = lies (pieceSize h p) begin len
 
--- a frame that speaks of a block
+-- a request or a cancel: a frame that speaks of a block
 unfoldable pub blockOf : ℕ → ℕ → ℕ → Said → Around → Turn
 blockOf p begin len a x =
     cond (ltb p (x .head .pieces))
     (cond (blockFits (x .head) p begin len) (says a (passed x)) (refuse outside x))
+    (refuse beyond x)
+
+-- a piece: its block's bytes are counted, of which one truck sends at most 2^53 between rounds
+unfoldable pub pieceOf : ℕ → ℕ → ℕ → ℕ → Around → Turn
+pieceOf p begin len bytes x =
+    cond (ltb p (x .head .pieces))
+    (cond (blockFits (x .head) p begin len)
+    (cond (ltb mostSent (x .seat .bytes + len)) (refuse damaged x) (says (used bytes) (hears (having (x .seat .bytes + len)) x)))
+    (refuse outside x))
     (refuse beyond x)
 
 -- a request is served exactly if we don't choke and they are interested
@@ -109,7 +119,7 @@ messageOf n i bytes notInterested x = says (used bytes) (hears (theyWant false) 
 messageOf n i bytes (have p) x = haveOf n i bytes p x
 messageOf n i bytes (Message.bitfield bits) x = bitfieldOf n i bytes bits x
 messageOf n i bytes (request p b l) x = blockOf p b l (requested bytes (x .seat)) x
-messageOf n i bytes (piece p b block) x = blockOf p b (length block) (used bytes) x
+messageOf n i bytes (piece p b block) x = pieceOf p b (length block) bytes x
 messageOf n i bytes (cancel p b l) x = blockOf p b l (used bytes) x
 messageOf n i bytes (other id payload) x = says (used bytes) (passed x)
 

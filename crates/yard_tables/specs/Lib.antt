@@ -5,6 +5,8 @@ pub mod Seats
 pub mod Tables
 pub mod Replies
 pub mod Frames
+pub mod Rounds
+pub mod Ranks
 pub mod Seating
 pub mod Looks
 pub mod Step

@@ -8,14 +8,16 @@ use Rattle.refusal.specs.Paper.{taken, refused}
 use Rattle.refusal.specs.Numbers.{full, room, sizes, damaged}
 use Rattle.yard_tables.specs.Counting.{bit, some, each}
 use Rattle.yard_tables.specs.Rows.{width, hasIn, withoutBits}
-use Rattle.yard_tables.specs.Seats.{on, cleared, arrived, counted}
+use Rattle.yard_tables.specs.Seats.{on, cleared, arrived, counted, placed}
 use Rattle.yard_tables.specs.Tables.{Yard, done, seated, wrote, Around, Turn, around, refuse, says, sizesFit, sized, sitting, Out}
+use Rattle.yard_tables.specs.Rounds.{nobody}
+use Rattle.yard_tables.specs.declared.Head.{Head}
 use Rattle.yard_tables.specs.declared.Seat.{Seat}
 
 -- a yard of these sizes with nobody in it, in the tables of y
 abbrev pub emptied : ℕ → ℕ → ℕ → Yard → Yard
 emptied pieces pieceLength lastLength y = record {
-  head = record { pieces = pieces; «piece_length» = pieceLength; «last_length» = lastLength; taken = 0; complete = 0 };
+  head = record { pieces = pieces; «piece_length» = pieceLength; «last_length» = lastLength; taken = 0; complete = 0; round = 0; free = nobody; last = length (y .seats) - 1 };
   seats = replicate (length (y .seats)) cleared;
   rows = replicate (length (y .rows)) 0;
   holders = replicate (length (y .holders)) 0;
@@ -54,9 +56,13 @@ atZero i x =
     || ((isComplete x && eqb (x .head .complete) 0)
     || some (x .head .pieces) (λ p. hasIn (width (x .head .pieces)) (x .rows) i p && eqb (getD (x .holders) p 0) 0))
 
+-- who leaves gives the free place up
+abbrev pub givenUp : ℕ → Head → Head
+givenUp i h = placed (h .round) (cond (eqb (h .free) i) nobody (h .free)) (h .last) h
+
 unfoldable pub left : ℕ → Around → Around
 left i x = record {
-  head = counted (x .head .taken - 1) (x .head .complete - bit (isComplete x)) (x .head);
+  head = counted (x .head .taken - 1) (x .head .complete - bit (isComplete x)) (givenUp i (x .head));
   seat = cleared;
   rows = withoutBits (width (x .head .pieces)) i (x .rows);
   holders = each (λ p k. k - bit (hasIn (width (x .head .pieces)) (x .rows) i p)) (x .holders);

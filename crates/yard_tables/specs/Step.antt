@@ -8,6 +8,7 @@ use Rattle.yard_tables.specs.Seats.{weChoke, weWant}
 use Rattle.yard_tables.specs.Tables.{Yard, Out, atSeat}
 use Rattle.yard_tables.specs.Frames.{feedOf}
 use Rattle.yard_tables.specs.Seating.{startOf, lowestFree, sitOf, leaveOf, markOf}
+use Rattle.yard_tables.specs.Rounds.{roundOf}
 use Rattle.yard_tables.specs.Looks.{linesOf, missingOf, scarcestOf, seatOf, hasOf, countOf}
 
 pub data Call : Type 0 where
@@ -28,6 +29,7 @@ pub data Call : Type 0 where
   look : ℕ → Call
   has : ℕ → ℕ → Call
   count : ℕ → Call
+  round : Call
 
 -- what a call answers and leaves
 unfoldable pub step : Call → Yard → Out
@@ -42,6 +44,7 @@ step scarcest y = atSeat 0 scarcestOf y
 step (look i) y = atSeat i (seatOf i) y
 step (has i p) y = atSeat i (hasOf i p) y
 step (count p) y = atSeat 0 (countOf p) y
+step round y = roundOf y
 
 -- the frames of our own marks
 abbrev pub chokeFrame : Bool → List ℕ
@@ -63,6 +66,7 @@ writes scarcest y = []
 writes (look i) y = []
 writes (has i p) y = []
 writes (count p) y = []
+writes round y = []
 
 -- a refused call writes nothing
 abbrev pub ifTaken : {A : Type 0} → Outcome A → List ℕ → List ℕ

@@ -16,7 +16,7 @@ use Rattle.yard_tables.specs.declared.Seat.{Seat}
 use Rattle.yard_tables.specs.declared.Page.{Page}
 use Rattle.yard_tables.specs.declared.Stepped.{Stepped}
 use Rattle.yard_tables.specs.declared.Answer.{Answer}
-use Rattle.yard_tables.specs.declared.Answer.the-variants.{Refused, Wait, Done, Taken, Serve, Dropped, Seated, Wrote, Listed, Record, Holds, Holders, Piece}
+use Rattle.yard_tables.specs.declared.Answer.the-variants.{Refused, Wait, Done, Taken, Serve, Dropped, Seated, Wrote, Listed, Record, Holds, Holders, Piece, Unchoked}
 
 pub record Yard : Type 0 where
   pub head : Head
@@ -25,7 +25,7 @@ pub record Yard : Type 0 where
   pub holders : List ℕ
 
 -- what a call says that is not refused: that more bytes are needed; that it is done; the bytes that a frame used, a request to be
--- served or dropped among them; the seat that was given; the bytes written; a page's lines, total and next; what was looked at
+-- served or dropped among them; the seat that was given; the bytes written; a page's lines, total and next; what was looked at; how many trucks a round unchokes
 pub data Said : Type 0 where
   wait : Said
   done : Said
@@ -39,6 +39,7 @@ pub data Said : Type 0 where
   holds : Bool → Said
   heldBy : ℕ → Said
   scarce : ℕ → Said
+  unchoked : ℕ → Said
 
 -- the code's answer in these words
 abbrev pub paper : Answer → Outcome Said
@@ -55,6 +56,7 @@ paper (Record s) = taken (shows s)
 paper (Holds b) = taken (holds b)
 paper (Holders n) = taken (heldBy n)
 paper (Piece p) = taken (scarce p)
+paper (Unchoked n) = taken (unchoked n)
 
 -- ---- a call at one seat
 

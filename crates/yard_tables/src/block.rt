@@ -1,9 +1,13 @@
 // Frames that speak of a block.
 ghost use mathlib.Core.Path.{_≡_};
+ghost use Prim.Native.Nat.{_+_, _≤_};
+ghost use lib.Dec.{ltb};
+ghost use Rattle.refusal.specs.Limits.{mostSent};
 ghost use Rattle.refusal.specs.Paper.{taken};
 ghost use Rattle.yard_tables.specs.Tables.{paper};
 ghost use Rattle.yard_tables.specs.Frames.{pieceSize, blockFits, requested};
-ghost use Rattle.yard_tables.specs.Replies.{blockStep};
+ghost use Rattle.yard_tables.specs.Replies.{blockStep, pieceStep};
+ghost use Rattle.yard_tables.specs.Seats.{having};
 use crate::Answer;
 use crate::Head;
 use crate::Seat;
@@ -32,6 +36,42 @@ pub fn block_step(h: Head, s: Seat, p: PieceNumber, fits: bool, a: Answer) -> St
         seat: reply::spoken(s),
         answer: a,
     }
+}
+
+// A piece, whose block's bytes are counted up to 2^53.
+pub fn piece_step(h: Head, s: Seat, p: PieceNumber, fits: bool, len: usize, used: usize) -> Stepped
+    ensures { λ r. ⌜ r ≡ pieceStep h s (p .0) fits len used ⌝ }
+{
+    if h.pieces <= p.0 {
+        return reply::refused(h, s, number::BEYOND);
+    }
+    if !fits {
+        return reply::refused(h, s, number::OUTSIDE);
+    }
+    if too_much(s, len) {
+        return reply::refused(h, s, number::DAMAGED);
+    }
+    reply::passed(h, sent(s, len), used)
+}
+
+// Whether so many bytes more are more than 2^53.
+fn too_much(s: Seat, len: usize) -> bool
+    ensures { λ r. ⌜ r ≡ ltb mostSent (s .bytes + len) ⌝ }
+{
+    if limit::SENT < s.bytes {
+        return true;
+    }
+    limit::SENT - s.bytes < len as u64
+}
+
+// With so many bytes more.
+fn sent(s: Seat, len: usize) -> Seat
+    requires { ⌜ s .bytes + len ≤ mostSent ⌝ }
+    ensures { λ r. ⌜ r ≡ having (s .bytes + len) s ⌝ }
+{
+    let mut t = s;
+    t.bytes = s.bytes + len as u64;
+    t
 }
 
 // Serve exactly if we don't choke and they are interested.

@@ -3,6 +3,7 @@ ghost use mathlib.Core.Path.{_≡_};
 ghost use Prim.Native.Nat.{_-_};
 ghost use Rattle.yard_tables.specs.Counting.{bit};
 ghost use Rattle.yard_tables.specs.Replies.{headAtZero};
+ghost use Rattle.yard_tables.specs.Seating.{givenUp};
 use crate::Head;
 use crate::Seat;
 use crate::held;
@@ -19,6 +20,18 @@ pub fn head_at_zero(h: Head, s: Seat) -> bool
         return h.complete == 0;
     }
     false
+}
+
+// Who leaves gives the free place up.
+pub fn give_up(h: Head, i: usize) -> Head
+    ensures { λ r. ⌜ r ≡ givenUp i h ⌝ }
+{
+    let mut g = h;
+    if wide(h.free) == i {
+        g.free = 4294967295;
+        return g;
+    }
+    g
 }
 
 // The holders of a piece without one that has it or not.

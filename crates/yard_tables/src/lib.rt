@@ -6,10 +6,13 @@ use refusal::Refusal;
 pub mod bits;
 pub mod block;
 pub mod leaving;
+pub mod rank;
 pub mod reply;
+pub mod round;
 pub mod sizes;
 
-// The yard's head record: its sizes, and how many of its seats are taken and how many hold every piece.
+// The yard's head record: its sizes, how many of its seats are taken and how many hold every piece, the number of the next
+// round modulo 3, and the free place, a seat's or nobody's (`round::NOBODY`), with the seat that it last was.
 #[repr(C)]
 pub struct Head {
     pub pieces: u32,
@@ -17,10 +20,13 @@ pub struct Head {
     pub last_length: u32,
     pub taken: u32,
     pub complete: u32,
+    pub round: u32,
+    pub free: u32,
+    pub last: u32,
 }
 
 // One seat. Fresh: no frame of its truck with an id was taken yet. The marks are BEP 3's, `am` ours and `peer` the
-// truck's. The flags and `held` are one word of 64 bits; further fields follow as whole words, so that no byte is padding.
+// truck's. The flags and `held` are one word of 64 bits, and `bytes`, those of its blocks since the last round, another, so that no byte is padding.
 #[repr(C)]
 pub struct Seat {
     pub taken: u8,
@@ -30,6 +36,7 @@ pub struct Seat {
     pub peer_choking: u8,
     pub peer_interested: u8,
     pub held: u16,
+    pub bytes: u64,
 }
 
 // A page of the missing list: how many lines were written, how many trucks of the whole yard lack a piece, and the
@@ -61,6 +68,8 @@ pub enum Answer {
     Holds(bool),
     Holders(usize),
     Piece(usize),
+    // How many trucks a round unchokes.
+    Unchoked(usize),
 }
 
 // What a call at one seat makes of the head and the seat, and its answer.
@@ -96,6 +105,7 @@ pub fn cleared_seat() -> Seat
         peer_choking: 0,
         peer_interested: 0,
         held: 0,
+        bytes: 0,
     }
 }
 
@@ -111,5 +121,6 @@ pub fn arrived_seat() -> Seat
         peer_choking: 1,
         peer_interested: 0,
         held: 0,
+        bytes: 0,
     }
 }

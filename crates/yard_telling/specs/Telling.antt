@@ -3,7 +3,7 @@ use mathlib.Core.Path.{_≡_}
 use mathlib.Core.Bool.{cond}
 use Prim.Native.Nat.{ℕ}
 use Rattle.refusal.specs.Paper.{Outcome, taken, refused}
-use Rattle.yard_tables.specs.Tables.{Yard, Out, Said, wait, done, used, serve, dropped, seated, wrote, listed, shows, holds, heldBy, scarce}
+use Rattle.yard_tables.specs.Tables.{Yard, Out, Said, wait, done, used, serve, dropped, seated, wrote, listed, shows, holds, heldBy, scarce, unchoked}
 use Rattle.yard_tables.specs.declared.Seat.{Seat}
 use Rattle.yard_telling.specs.declared.Told.{Told}
 
@@ -21,6 +21,7 @@ codeOfSaid (shows s) = 0
 codeOfSaid (holds b) = 0
 codeOfSaid (heldBy n) = 0
 codeOfSaid (scarce p) = 0
+codeOfSaid (unchoked n) = 0
 
 -- these, or document 01's number of the refusal
 abbrev pub codeOf : Outcome Said → ℕ
@@ -44,6 +45,7 @@ toldOfSaid (shows s) was = was
 toldOfSaid (holds b) was = one (cond b 1 0)
 toldOfSaid (heldBy n) was = one n
 toldOfSaid (scarce p) was = one p
+toldOfSaid (unchoked n) was = one n
 
 -- a refusal leaves what was lent for it
 abbrev pub toldOf : Outcome Said → Told → Told
@@ -64,6 +66,7 @@ shownOfSaid (shows s) was = s
 shownOfSaid (holds b) was = was
 shownOfSaid (heldBy n) was = was
 shownOfSaid (scarce p) was = was
+shownOfSaid (unchoked n) was = was
 
 abbrev pub shownOf : Outcome Said → Seat → Seat
 shownOf (taken a) was = shownOfSaid a was

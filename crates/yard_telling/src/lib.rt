@@ -36,6 +36,7 @@ pub fn code(a: Answer) -> u64
         Answer::Holds(_) => 0,
         Answer::Holders(_) => 0,
         Answer::Piece(_) => 0,
+        Answer::Unchoked(_) => 0,
     }
 }
 
@@ -57,6 +58,7 @@ pub fn tell(a: Answer, was: Told) -> Told
         Answer::Holds(b) => held(b),
         Answer::Holders(n) => one(n as u64),
         Answer::Piece(p) => one(p as u64),
+        Answer::Unchoked(n) => one(n as u64),
     }
 }
 
@@ -78,6 +80,7 @@ pub fn shown(a: Answer, seen: Seat) -> Seat
         Answer::Holds(_) => seen,
         Answer::Holders(_) => seen,
         Answer::Piece(_) => seen,
+        Answer::Unchoked(_) => seen,
     }
 }
 

@@ -1,0 +1,142 @@
+// The seats that want the uplink, ranked in one pass: the four that sent most bytes, and whose turn the free place is.
+ghost use mathlib.Core.Path.{_≡_};
+ghost use mathlib.Core.Bool.{cond, _&&_};
+ghost use lib.Dec.{eqb};
+ghost use Rattle.yard_tables.specs.Rounds.{nobody};
+ghost use Rattle.yard_tables.specs.Ranks.{noPlace, unranked, wantsIt, beaten, inserted, noted, rankStep};
+use crate::Head;
+use crate::Seat;
+use crate::on;
+use crate::sizes::wide;
+
+// What stands where there is no seat.
+pub const NOBODY: usize = 4294967295;
+
+// A seat and the bytes that it sent, or NOBODY.
+pub struct Place {
+    pub seat: usize,
+    pub bytes: u64,
+}
+
+// The four so far, the best first; the lowest seat that wants the uplink, and the lowest after the one that last had the
+// free place.
+pub struct Ranking {
+    pub first: Place,
+    pub second: Place,
+    pub third: Place,
+    pub fourth: Place,
+    pub lowest: usize,
+    pub next: usize,
+}
+
+// Before the first seat.
+pub fn unranked() -> Ranking
+    ensures { λ r. ⌜ r ≡ unranked ⌝ }
+{
+    Ranking {
+        first: no_place(),
+        second: no_place(),
+        third: no_place(),
+        fourth: no_place(),
+        lowest: NOBODY,
+        next: NOBODY,
+    }
+}
+
+// One seat more, number i.
+pub fn rank_step(r: Ranking, s: Seat, i: usize, h: Head) -> Ranking
+    ensures { λ t. ⌜ t ≡ rankStep (h .last) r s i ⌝ }
+{
+    if wants(s) {
+        return insert(note(r, i, h), standing(i, s));
+    }
+    r
+}
+
+// A truck sits there, and is interested.
+fn wants(s: Seat) -> bool
+    ensures { λ r. ⌜ r ≡ wantsIt s ⌝ }
+{
+    if on(s.taken) {
+        return on(s.peer_interested);
+    }
+    false
+}
+
+// The lowest seats, with one more that wants the uplink.
+fn note(r: Ranking, i: usize, h: Head) -> Ranking
+    ensures { λ t. ⌜ t ≡ noted (h .last) i r ⌝ }
+{
+    let mut t = r;
+    t.lowest = kept(r.lowest, true, i);
+    t.next = kept(r.next, wide(h.last) < i, i);
+    t
+}
+
+// The four, with one more that comes after all that sent as many bytes.
+fn insert(r: Ranking, new: Place) -> Ranking
+    ensures { λ t. ⌜ t ≡ inserted new r ⌝ }
+{
+    let mut t = r;
+    if !beaten(r.fourth, new) {
+        return t;
+    }
+    t.fourth = new;
+    if !beaten(r.third, new) {
+        return t;
+    }
+    t.fourth = r.third;
+    t.third = new;
+    if !beaten(r.second, new) {
+        return t;
+    }
+    t.third = r.second;
+    t.second = new;
+    if !beaten(r.first, new) {
+        return t;
+    }
+    t.second = r.first;
+    t.first = new;
+    t
+}
+
+// Nobody, or one that sent fewer bytes.
+fn beaten(p: Place, new: Place) -> bool
+    ensures { λ r. ⌜ r ≡ beaten p new ⌝ }
+{
+    if p.seat == NOBODY {
+        return true;
+    }
+    p.bytes < new.bytes
+}
+
+// The first seat that is found is kept.
+fn kept(found: usize, counts: bool, i: usize) -> usize
+    ensures { λ r. ⌜ r ≡ cond (eqb found nobody && counts) i found ⌝ }
+{
+    if found == NOBODY {
+        if counts {
+            return i;
+        }
+        return found;
+    }
+    found
+}
+
+fn standing(i: usize, s: Seat) -> Place
+    ensures { λ r. ⌜ r ≡ record { seat = i; bytes = s .bytes } ⌝ }
+{
+    Place {
+        seat: i,
+        bytes: s.bytes,
+    }
+}
+
+fn no_place() -> Place
+    ensures { λ r. ⌜ r ≡ noPlace ⌝ }
+{
+    Place {
+        seat: NOBODY,
+        bytes: 0,
+    }
+}
