@@ -262,6 +262,15 @@ def answer_interest(yard, seat, on, room):
     return to_hex(yard.set_interest(int(seat), on == "1", int(room)))
 
 
+def answer_round(yard):
+    return f"unchoked {yard.round()} free {seat_of_holder(yard)}"
+
+
+def seat_of_holder(yard):
+    holder = yard.holder()
+    return holder.seat if holder else "nobody"
+
+
 def answer_missing(yard, first, room):
     page = yard.missing(int(first), int(room))
     seats = ",".join(str(seat) for seat in page.seats) or "-"
@@ -273,7 +282,7 @@ def answer_scarcest(yard):
 
 
 def answer_head(yard):
-    return f"{yard.taken()} {yard.complete()}"
+    return f"{yard.taken()} {yard.complete()} {yard.round_number()} {seat_of_holder(yard)} {yard.last()}"
 
 
 def answer_count(yard, piece):
@@ -286,7 +295,7 @@ def answer_seat(yard, seat):
         return "free"
     ours = f"{truck.we_choke:d} {truck.we_are_interested:d}"
     theirs = f"{truck.they_choke:d} {truck.they_are_interested:d}"
-    return f"{'fresh' if truck.fresh else 'used'} {truck.held()} {ours} {theirs}"
+    return f"{'fresh' if truck.fresh else 'used'} {truck.held()} {ours} {theirs} {yard.sent(truck)}"
 
 
 TEXT_CALLS = {
@@ -327,6 +336,7 @@ YARD_CALLS = {
     "feed": answer_feed,
     "choke": answer_choke,
     "interest": answer_interest,
+    "round": answer_round,
     "missing": answer_missing,
     "scarcest": answer_scarcest,
     "head": answer_head,

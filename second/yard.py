@@ -1,8 +1,9 @@
-"""The yard: who sits where, and which pieces each truck has announced.
+"""The yard: who sits where, which pieces each truck has announced, and whom the rounds unchoke.
 
 Nothing is counted along the way. Seats taken, seats complete, pieces held and holders of a piece are worked out, when
-they are asked for, from what the trucks now seated have announced since they sat down. So no count can be damaged,
-and 39 is never given.
+they are asked for, from what the trucks now seated have announced since they sat down; a truck's bytes from the blocks
+that came, the round number and the free place from the rounds that were. So no count can be damaged, and 39 is given
+for nothing but blocks of more than 2^53 bytes between two rounds.
 """
 
 from collections import namedtuple
@@ -12,9 +13,14 @@ import wire
 from refusal import refuse_unless
 
 MOST_SEATS = 2_000
+MOST_BYTES = 2**53
+# The free place goes on at the first round and at every third after it; so many trucks are unchoked for their bytes.
+ROUNDS, PLACES = 3, 4
 
 # seats: those that fit; total: of the whole yard; next: the first one that is not listed, or the number of seats.
 Page = namedtuple("Page", "seats total next")
+# Who has the free place after a round: the seat, and the truck that sat there.
+Holder = namedtuple("Holder", "seat truck")
 
 
 class Truck:
@@ -27,12 +33,17 @@ class Truck:
         self.they_choke = True
         self.they_are_interested = False
         self.has = bytearray(pieces)
+        # The block of each piece frame taken: after how many rounds it came, and its bytes.
+        self.blocks = []
 
     def held(self):
         return self.has.count(1)
 
     def is_complete(self):
         return self.held() == len(self.has)
+
+    def sent_after(self, rounds):
+        return sum(length for after, length in self.blocks if after == rounds)
 
 
 class Yard:
@@ -46,6 +57,8 @@ class Yard:
         self.last_length = last_length
         # A free seat is None.
         self.seats = [None] * seats
+        # The holder of the free place, or None, after each round.
+        self.rounds = []
 
     def sit(self):
         """The lowest free seat, now taken."""
@@ -81,6 +94,17 @@ class Yard:
         truck.we_are_interested = on
         return frame
 
+    def round(self):
+        """How many trucks are now unchoked."""
+        holder = self.next_holder() if self.round_number() == 0 else self.holder()
+        best = sorted(self.interested(), key=lambda seat: (-self.sent(self.seats[seat]), seat))[:PLACES]
+        unchoked = {*best, holder.seat} if holder else {*best}
+        for seat, truck in enumerate(self.seats):
+            if truck:
+                truck.we_choke = seat not in unchoked
+        self.rounds.append(holder)
+        return len(unchoked)
+
     def missing(self, first, room):
         refuse_unless(first <= len(self.seats), 36)
         missing = [seat for seat, truck in enumerate(self.seats) if truck and not truck.is_complete()]
@@ -99,6 +123,32 @@ class Yard:
 
     def complete(self):
         return sum(truck.is_complete() for truck in self.trucks())
+
+    def round_number(self):
+        return len(self.rounds) % ROUNDS
+
+    def holder(self):
+        """Who has the free place, or None: the truck that had it after the last round, if it still sits."""
+        holder = self.rounds[-1] if self.rounds else None
+        return holder if holder and self.seats[holder.seat] is holder.truck else None
+
+    def last(self):
+        """The seat of the last one that had the free place, or the last seat."""
+        had = [holder.seat for holder in self.rounds if holder]
+        return had[-1] if had else len(self.seats) - 1
+
+    def next_holder(self):
+        """The first one that is interested, going round from the seat after the last one's, or None."""
+        last, interested = self.last(), self.interested()
+        ahead = [seat for seat in interested if seat > last] + [seat for seat in interested if seat <= last]
+        return Holder(ahead[0], self.seats[ahead[0]]) if ahead else None
+
+    def interested(self):
+        return [seat for seat, truck in enumerate(self.seats) if truck and truck.they_are_interested]
+
+    def sent(self, truck):
+        """The bytes of blocks that a truck has sent since the last round, or since it sat down."""
+        return truck.sent_after(len(self.rounds))
 
     def holders(self, piece):
         refuse_unless(piece < self.pieces, 31)
@@ -129,7 +179,7 @@ class Yard:
         elif frame.id in (wire.REQUEST, wire.CANCEL):
             self.check_block(frame.payload, number_at(frame.payload, 8))
         elif frame.id == wire.PIECE:
-            self.check_block(frame.payload, len(frame.payload) - 8)
+            self.take_block(truck, frame.payload, len(frame.payload) - 8)
         if frame.id != wire.REQUEST:
             return "taken"
         return "serve" if truck.they_are_interested and not truck.we_choke else "drop"
@@ -147,6 +197,11 @@ class Yard:
         refuse_unless("1" not in bits[self.pieces :], 33)
         # A fresh truck has announced nothing, so these are all it has.
         truck.has = bytearray(bit == "1" for bit in bits[: self.pieces])
+
+    def take_block(self, truck, payload, length):
+        self.check_block(payload, length)
+        refuse_unless(self.sent(truck) + length <= MOST_BYTES, 39)
+        truck.blocks.append((len(self.rounds), length))
 
     def check_block(self, payload, length):
         piece = number_at(payload, 0)

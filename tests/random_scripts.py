@@ -631,7 +631,8 @@ class YardCalls:
         self.pieces, self.seats = rng.choice([
             (rng.randint(1, 9), rng.randint(1, 4)),
             (rng.randint(1, 9), rng.randint(1, 4)),
-            (rng.randint(1, 20), rng.randint(1, 9)),
+            (rng.randint(1, 9), rng.randint(5, 9)),
+            (rng.randint(1, 20), rng.randint(5, 9)),
             (rng.randint(1, 300), rng.randint(1, 60)),
             (rng.randint(16_300, 16_384), rng.randint(1, 2_000)) if rng.random() < 0.2 else (8, 3),
         ])
@@ -644,7 +645,7 @@ class YardCalls:
     def calls(self):
         rng = self.rng
         if rng.random() < 0.3:
-            yield rng.choice(["sit", "head", "missing 0 1", "leave 0", "seat 0", "scarcest"])
+            yield rng.choice(["sit", "head", "missing 0 1", "leave 0", "seat 0", "scarcest", "round"])
         yield from self.opening()
         ways = [self.sit, self.leave, self.feed, self.mark, self.look]
         while True:
@@ -653,6 +654,8 @@ class YardCalls:
                 yield from self.opening()
             elif rng.random() < 0.004:
                 yield self.refused_start()
+            elif rng.random() < 0.06:
+                yield from self.round()
             else:
                 yield rng.choices(ways, [12, 5, 60, 8, 15])[0]()
 
@@ -660,6 +663,26 @@ class YardCalls:
         yield self.start()
         for _ in range(self.rng.choice([0, 1, self.seats // 2, self.seats, 2 * self.seats]) % 500):
             yield self.sit()
+        if self.rng.random() < 0.4:
+            yield from self.all_interested()
+
+    def all_interested(self):
+        """Each seated truck says that it is interested, which ends fresh."""
+        for seat in sorted(self.taken):
+            self.fresh.discard(seat)
+            yield f"feed {seat} {to_hex(frame(2))}"
+
+    def round(self):
+        """A round; now and then what it left, and trucks that want and send before the next one."""
+        rng = self.rng
+        yield "round"
+        if rng.random() < 0.2:
+            yield from self.all_interested()
+        if rng.random() < 0.4:
+            yield "head"
+            yield from (f"seat {seat}" for seat in range(min(self.seats, 9)))
+        if rng.random() < 0.4:
+            yield from (f"feed {seat} {to_hex(self.block())}" for seat in sorted(self.taken) if rng.random() < 0.7)
 
     def start(self):
         return f"start {self.pieces} {self.piece_length} {self.last_length} {self.seats}"
@@ -727,7 +750,7 @@ class YardCalls:
     def frame(self):
         return self.rng.choices(
             [self.have, self.bitfield, self.request, self.block, self.plain, self.keepalive, self.other],
-            [40, 12, 12, 5, 15, 2, 2],
+            [40, 12, 12, 10, 20, 2, 2],
         )[0]()
 
     def have(self):
@@ -753,10 +776,10 @@ class YardCalls:
 
     def block(self):
         piece, offset, length = self.block_numbers()
-        return frame(7, number(piece) + number(offset) + bytes(min(length, self.rng.choice([1, 30, 30, 16_384]))))
+        return frame(7, number(piece) + number(offset) + bytes(min(length, self.rng.choice([1, 1, 2, 2, 3, 30, 30, 16_384]))))
 
     def plain(self):
-        return frame(self.rng.choice([0, 1, 2, 2, 3]))
+        return frame(self.rng.choice([0, 1, 2, 2, 2, 3]))
 
     def keepalive(self):
         return bytes(4)

@@ -1,4 +1,4 @@
-"""Writes the walks of `yard_scans`' three passes over all seats: a `while` over the seats that calls a covered step.
+"""Writes the walks of `yard_scans`' five passes over all seats: a `while` over the seats that calls a covered step.
 
 Of the step a walk knows the contract alone, and no field of a seat is named. A pass reads the seats or writes them, may carry a value
 along, and may lend a slice of numbers to each step.
@@ -9,17 +9,38 @@ from walker import Author, GIVEN, RUNS, TABLES, W_, X, key, par, tup
 CRATE = 'yard_scans'
 
 
+def pathed(name): return name if '::' in name else f'{CRATE}::{name}'
+
+
 class Pass(Author):
-    """fn: the pass; step: its covered step; roles: what each parameter of the step is given; acc: the local that carries a value along,
+    """fn: the pass; step: its covered step; first: what gives the first value that is carried along, if a function does; both with the path where
+    they stand in another crate; roles: what each parameter of the step is given; acc: the local that carries a value along,
     and its type. locals: MIR types as text. at: local numbers of i, len, test, place and seat, and of lent, sent, new, len2 and place2
     where there are such. tails: the names of the loop and of what follows it. turn: fields of a turn beside i and le; start, next: their
     values; end: that the contract holds at exit; before: what the walk does before the loop; laws: what these cite."""
     def __init__(s, table): super().__init__(f"{CRATE}::{table['fn']}"); s.table = table
+    def starts(s, w, given):
+        """The call of `first`, whose answer goes to the local that is carried along. given: of each argument its type, value, Is and local."""
+        l, t = s.table['acc']; path = pathed(s.table['first']); args = tup(x for _, x, _, _ in given)
+        to = f"((tt, tt, tt, {args}, {tup(s.low(u, x) + ' ∷ []' for u, x, _, _ in given)}), tt)"
+        e = Walk([]); e.line("nothing ! $"); e.c = ['t']; e.line("nothing ! $"); e.c = ['o'] + e.c
+        for u, x, i, _ in reversed(given): e.line(f"owned ! {s.owned(u, x, i)} $"); e.c = ['new'] + e.c; e.fjoin('new', 'o', 'o')
+        e.join('t', 'o', 'z')
+        w.line(f"use0 W (raw (Fst {X} .pre {to})) (qed W [] ∵ {e.inline('frame ! $ done !')}) $"); w.c = ['pre'] + w.c
+        w.bind(f"calls-at ! (fmOf 𝓤 H (W .laws) 𝓣) (Fst {X}) known-k {to} {w.opds(*[w.var(at) for _, _, _, at in given])} (λ v₀."); w.head('post')
+        w.use(f"later (some (λ (r₀ : {t}). (‵ ftrue ⊛ ‵ ({s.row(t)} .own r₀ (v₀ ∷ []))) ⊛ raw (ensured 𝓤 H A k.ended (k.clauses {X}) tt {args} tt r₀)))", "id⊢ 𝓤 _", ['post'], ['post'])
+        w.bind("await ! tt $ pick ! (λ r₀."); w.split('post', 'back', 'ens')
+        F = f"({s.facts(path, 'r₀', {p[0]: x for p, (_, x, _, _) in zip(s.fn(path).params, given)}, {})[0]})"
+        w.use(f"some (λ (ws : Lasts k.ended tt {args}). ‵ (lasts k.ended tt {args} ws) ⊛ raw (fact 𝓤 {F}))", "id⊢ 𝓤 _", ['ens'], ['ens'])
+        w.bind("pick ! (λ ws₀."); w.split('ens', 'lasts', 'fact₁'); w.move('fact₁'); w.bind(f"heard ! {F} (λ e₀."); w.c = w.c[1:]
+        w.drop('lasts'); w.split('back', 't', 'own'); w.drop('t'); w.move('own'); w.bind(f"{s.peek(t, 'r₀', 'v₀')} (λ is₀."); w.drop('own')
+        w.line(f"land ! (from ! (stop !)) {w.init(f'_{l}', s.landed(t, 'r₀', 'is₀'))} $")
+        w.line(f"rewrite ! {w.p(f'_{l}')} (λ (u : Val). ‵ (fat fullShare L-{t}.mir l{l} 0 u)) ({s.tellsv(t, 'r₀', 'is₀')}) refl $")
     def gen(s):
-        P = s.table; G = s.fn(f"{CRATE}::{P['step']}"); ps, res, sp = s.ps, s.fn(s.path).result, G.params
+        P = s.table; G = s.fn(pathed(P['step'])); ps, res, sp = s.ps, s.fn(s.path).result, G.params
         page = next((p for p in ps if p[1] == 'mslice' and p is not ps[0]), None)
         writes = ps[0][1] == 'mslice'; acc = P.get('acc'); L = P['at']; N = len(P['locals']); K = f'Stp {X}'
-        callees = {'g': G.path} | ({'k': f"{CRATE}::{P['first']}"} if 'first' in P else {}); contract = {'g': 'Stp', 'k': 'Fst'}
+        callees = {'g': G.path} | ({'k': pathed(P['first'])} if 'first' in P else {}); contract = {'g': 'Stp', 'k': 'Fst'}
         used = s.used([s.path, *callees.values()])
         vals = [p for p in ps if p[1] == 'val']; tel = ' '.join(f'({p[0]} : {s.den(p[2])})' for p in vals)
         TURN = f"Turn {' '.join(['ys'] + (['cs'] if page else []) + [p[0] for p in vals])}".strip()
@@ -210,31 +231,36 @@ LOWEST_FREE = dict(
     start='acc = length ys; is = (refl, gs .0); so = free-all ys')
 
 CLEAR_SEATS = dict(
-    laws='use mathlib.Core.List.{_++_, map}\n' + PROOFS + 'Passes.{clearBy, clear-next, clear-end}', fn='clear_seats', step='clear_step', roles=['wanted', 'seat'],
+    laws='use mathlib.Core.List.{_++_}\nuse Rattle.yard_tables.specs.Counting.{eachFrom, each}\n' + PROOFS + 'Passes.{clearBy, each-next, clear-end}', fn='clear_seats', step='clear_step', roles=['wanted', 'seat'],
     locals=['tyUnit', 'SeatsTy', 'tyBool', 'tyInt w64', 'tyInt w64', 'tyBool', 'L-Seat.mir', 'tyPtr', 'L-Seat.mir', 'tyInt w64', 'tyPtr'],
     at=dict(i=3, len=4, test=5, new=6, place=7, seat=8, len2=9, place2=10), tails=('t-2', 't-3'),
-    turn=['zs : List Seat', 'ns : length zs ≡ length ys', 'so : take i zs ++ map (clearBy wanted) (dropped i zs) ≡ map (clearBy wanted) ys'],
-    next=lambda z, better: 'zs = set (x .zs) (x .i) r; ns = length-set (x .zs) (x .i) r ∙ x .ns; so = clear-next wanted (x .zs) (x .i) r lz e ∙ x .so',
+    turn=['zs : List Seat', 'ns : length zs ≡ length ys', 'so : take i zs ++ eachFrom i (clearBy wanted) (dropped i zs) ≡ each (clearBy wanted) ys'],
+    next=lambda z, better: 'zs = set (x .zs) (x .i) r; ns = length-set (x .zs) (x .i) r ∙ x .ns; so = each-next (clearBy wanted) (x .zs) (x .i) r lz e ∙ x .so',
     end='clear-end wanted ys (x .zs) (x .i) (subst (λ (m : ℕ). m ≤ x .i) (sym (x .ns)) l) (x .so)',
+    before=lambda s, w: None, start='zs = ys; ns = refl; so = refl')
+
+RANK_SEATS = dict(
+    laws='use Rattle.yard_tables.specs.Ranks.{rankFrom}\n' + PROOFS + 'Passes.{rank-next, rank-end}', fn='rank_seats', step='yard_tables::rank::rank_step',
+    first='yard_tables::rank::unranked', roles=['acc', 'seat', 'i', 'h'], acc=(3, 'Ranking'),
+    locals=['L-Ranking.mir', 'SeatsTy', 'L-Head.mir', 'L-Ranking.mir', 'tyInt w64', 'tyInt w64', 'tyBool', 'tyPtr', 'L-Seat.mir'], at=dict(i=4, len=5, test=6, place=7, seat=8), tails=('t-3', 't-4'),
+    turn=['acc : Ranking', 'is : Is R-Ranking acc (L-Ranking.lowered acc ∷ [])', 'so : rankFrom (h .last) (dropped i ys) i acc ≡ ranked (h .last) ys'],
+    next=lambda z, better: f'acc = r; is = {better}; so = ap (λ (k : Ranking). rankFrom (h .last) (dropped (x .i + 1) ys) (x .i + 1) k) e ∙ rank-next (h .last) ys (x .i) (x .acc) l ∙ x .so',
+    end='rank-end (h .last) ys (x .i) (x .acc) l ∙ x .so',
+    before=lambda s, w: s.starts(w, []),
+    start='acc = r₀; is = subst (Is R-Ranking r₀) (L-Ranking.lowers .val-is r₀ _ is₀) is₀; so = ap (λ (k : Ranking). rankFrom (h .last) ys 0 k) e₀')
+
+CHOKE_SEATS = dict(
+    laws='use mathlib.Core.List.{_++_}\nuse Rattle.yard_tables.specs.Counting.{eachFrom}\n' + PROOFS + 'Passes.{chokeBy, each-next, each-end}', fn='choke_seats', step='yard_tables::round::choke',
+    roles=['wanted', 'seat'], locals=CLEAR_SEATS['locals'], at=CLEAR_SEATS['at'], tails=CLEAR_SEATS['tails'],
+    turn=['zs : List Seat', 'ns : length zs ≡ length ys', 'so : take i zs ++ eachFrom i (chokeBy wanted) (dropped i zs) ≡ each (chokeBy wanted) ys'],
+    next=lambda z, better: 'zs = set (x .zs) (x .i) r; ns = length-set (x .zs) (x .i) r ∙ x .ns; so = each-next (chokeBy wanted) (x .zs) (x .i) r lz e ∙ x .so',
+    end='each-end (chokeBy wanted) ys (x .zs) (x .i) (subst (λ (m : ℕ). m ≤ x .i) (sym (x .ns)) l) (x .so)',
     before=lambda s, w: None, start='zs = ys; ns = refl; so = refl')
 
 def from_empty(s, w):
     """The length, and `empty_page` of it."""
     w.assign(f"(of-opd ! {w.fld('_1', 1)})", '_6', '(tt, record { fits = gs .0 })')
-    n = '(length ys)'
-    to = f'((tt, tt, tt, ({n}, tt), (vint w64 {n} ∷ [], tt)), tt)'
-    e = Walk([]); e.line("nothing ! $"); e.c = ['t']; e.line("nothing ! $"); e.c = ['o'] + e.c
-    e.line(f"owned ! {s.owned('usize', n, '(refl, gs .0)')} $"); e.c = ['new'] + e.c; e.fjoin('new', 'o', 'o'); e.join('t', 'o', 'z')
-    w.line(f"use0 W (raw (Fst {X} .pre {to})) (qed W [] ∵ {e.inline('frame ! $ done !')}) $"); w.c = ['pre'] + w.c
-    w.bind(f"calls-at ! (fmOf 𝓤 H (W .laws) 𝓣) (Fst {X}) known-k {to} {w.opds(w.var('_6'))} (λ v₀."); w.head('post')
-    w.use(f"later (some (λ (r₀ : Page). (‵ ftrue ⊛ ‵ (R-Page .own r₀ (v₀ ∷ []))) ⊛ raw (ensured 𝓤 H A k.ended (k.clauses {X}) tt ({n}, tt) tt r₀)))", "id⊢ 𝓤 _", ['post'], ['post'])
-    w.bind("await ! tt $ pick ! (λ r₀."); w.split('post', 'back', 'ens')
-    F = f"({s.facts(f'{CRATE}::empty_page', 'r₀', {'n': n}, {})[0]})"
-    w.use(f"some (λ (ws : Lasts k.ended tt ({n}, tt)). ‵ (lasts k.ended tt ({n}, tt) ws) ⊛ raw (fact 𝓤 {F}))", "id⊢ 𝓤 _", ['ens'], ['ens'])
-    w.bind("pick ! (λ ws₀."); w.split('ens', 'lasts', 'fact₁'); w.move('fact₁'); w.bind(f"heard ! {F} (λ e₀."); w.c = w.c[1:]
-    w.drop('lasts'); w.split('back', 't', 'own'); w.drop('t'); w.move('own'); w.bind(f"{s.peek('Page', 'r₀', 'v₀')} (λ is₀."); w.drop('own')
-    w.line(f"land ! (from ! (stop !)) {w.init('_4', s.landed('Page', 'r₀', 'is₀'))} $")
-    w.line(f"rewrite ! {w.p('_4')} (λ (u : Val). ‵ (fat fullShare L-Page.mir l4 0 u)) ({s.tellsv('Page', 'r₀', 'is₀')}) refl $")
+    s.starts(w, [('usize', '(length ys)', '(refl, gs .0)', '_6')])
     w.line(f"forget ! {w.p('_6')} refl $")
 
 WHOLE = 'pageOf (asked .pieces) (asked .first) (asked .lines) ys'; LINES = 'sets cs 0 (asLines (linesOf (asked .pieces) (asked .first) (asked .lines) ys))'
@@ -256,4 +282,4 @@ LIST_MISSING = dict(
 
 
 def walks():
-    for table in (LOWEST_FREE, CLEAR_SEATS, LIST_MISSING): yield f"{CRATE}::{table['fn']}", Pass(table).gen()
+    for table in (LOWEST_FREE, CLEAR_SEATS, RANK_SEATS, CHOKE_SEATS, LIST_MISSING): yield f"{CRATE}::{table['fn']}", Pass(table).gen()

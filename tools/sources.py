@@ -81,7 +81,7 @@ def owner(name, source, here):
     if "::" in name:
         return name.rpartition("::")[0]
     used = re.search(rf"^(?:pub )?use ([\w:]+)::{name};", source, re.M)
-    return used.group(1) if used else here
+    return re.sub("^crate(?=::|$)", here.partition("::")[0], used.group(1)) if used else here
 
 
 def source_of(crate, *modules):

@@ -228,7 +228,7 @@ class Thin(Author):
         return s.file('written by tools/walks.py. Of its callees the proof knows the\n-- contracts alone, and no field that the code does not name is named.',
                       [f"use {s.P(s.cr, 'Calls')}.{{{s.law()}}}"], types, s.callees, body)
 
-    def law(s): return f"{s.name.removeprefix('wardrail_yard_')}-is"
+    def law(s): return f"{dash(s.name.removeprefix('wardrail_yard_'))}-is"
     def ptr(s, p, x=None, γ=None): j = s.J[p[0]]; return f"ref b{j} o{j} {γ or f'γ{j}'} {par(x or p[0])}"
     def span(s, p, m=None): j = s.J[p[0]]; return f'sliceVal (b{j}, o{j}) {m or f"(length {p[0]})"}'
     def mach(s, p): return s.low(p[2], p[0]) if p[1] == 'val' else f'vptr b{s.J[p[0]]} o{s.J[p[0]]}' if p[1] == 'mref' else s.span(p)

@@ -14,6 +14,7 @@ def walks():
     """Each walk's place below crates/, and its text."""
     # the passes first: `rt mir yard` wants them proved
     for path, text in passes.walks(): yield place(path), text
+    for name in ('unchoke_seat', 'mark_seats'): yield place(f'yard_scans::{name}'), Thin(f'yard_scans::{name}').gen()
     for f in sources.public_functions():
         if f.crate == 'yard': yield place(f.path), Thin(f.path).gen()
 

@@ -14,6 +14,7 @@ import block_calls
 import case_table
 import link_texts
 import reply_texts
+import round_calls
 import sample_texts
 import sheet_texts
 import torrent_texts
@@ -23,7 +24,7 @@ import written_texts
 import yard_calls
 
 MODULES = [
-    bencode_texts, torrent_texts, reply_texts, sheet_texts, link_texts, week_texts, block_calls, wire_calls, written_texts, yard_calls, sample_texts,
+    bencode_texts, torrent_texts, reply_texts, sheet_texts, link_texts, week_texts, block_calls, wire_calls, written_texts, yard_calls, round_calls, sample_texts,
 ]
 
 

@@ -38,29 +38,29 @@ def document():
         ("sit", "seat 0"),
         ("sit", "seat 1"),
         ("sit", refused(35)),
-        ("head", "2 0"),
+        ("head", "2 0 0 nobody 1"),
         (f"feed 0 {bitfield('ffc1')}", refused(33)),
         (f"feed 0 {bitfield('ff')}", refused(32)),
-        ("seat 0", "fresh 0 1 0 1 0"),
+        ("seat 0", "fresh 0 1 0 1 0 0"),
         (f"feed 0 {bitfield('ffc0')}", "taken 7"),
-        ("head", "2 1"),
-        ("seat 0", "used 10 1 0 1 0"),
+        ("head", "2 1 0 nobody 1"),
+        ("seat 0", "used 10 1 0 1 0 0"),
         (f"feed 1 {have(9)}", "taken 9"),
         ("count 9", "2"),
         (f"feed 1 {have(10)}", refused(31)),
         (f"feed 1 {bitfield('ffc0')}", refused(30)),
         ("leave 0", "left"),
-        ("head", "1 0"),
+        ("head", "1 0 0 nobody 1"),
         ("count 9", "1"),
         ("sit", "seat 0"),
-        ("head", "2 0"),
+        ("head", "2 0 0 nobody 1"),
     )
 
 
 def before_start():
     yard_calls = [
-        "sit", "leave 0", f"feed 0 {KEEPALIVE}", "choke 0 1 5", "interest 0 1 5", "missing 0 1", "scarcest", "head",
-        "count 0", "seat 0",
+        "sit", "leave 0", f"feed 0 {KEEPALIVE}", "choke 0 1 5", "interest 0 1 5", "round", "missing 0 1", "scarcest",
+        "head", "count 0", "seat 0",
     ]
     return [case(call, "no yard") for call in yard_calls]
 
@@ -81,10 +81,10 @@ def starts():
             ("sit", "seat 0"),
             (f"feed 0 {have(6)}", "taken 9"),
             (f"start {wrong[0]}", refused(38)),
-            ("head", "1 0"),
+            ("head", "1 0 0 nobody 2"),
             ("count 6", "1"),
             ("start 7 32768 5 3", "started"),
-            ("head", "0 0"),
+            ("head", "0 0 0 nobody 2"),
             ("count 6", "0"),
             ("seat 0", "free"),
         ),
@@ -114,10 +114,10 @@ def seats():
         ("sit", "seat 1"),
         ("leave 2", "left"),
         ("leave 0", "left"),
-        ("head", "1 0"),
+        ("head", "1 0 0 nobody 2"),
         ("sit", "seat 0"),
         ("sit", "seat 2"),
-        ("head", "3 0"),
+        ("head", "3 0 0 nobody 2"),
     )
 
 
@@ -125,31 +125,31 @@ def marks():
     return steps(
         ("start 3 16384 16384 2", "started"),
         ("sit", "seat 0"),
-        ("seat 0", "fresh 0 1 0 1 0"),
+        ("seat 0", "fresh 0 1 0 1 0 0"),
         ("choke 0 0 5", UNCHOKE),
-        ("seat 0", "fresh 0 0 0 1 0"),
+        ("seat 0", "fresh 0 0 0 1 0 0"),
         ("interest 0 1 5", INTERESTED),
-        ("seat 0", "fresh 0 0 1 1 0"),
+        ("seat 0", "fresh 0 0 1 1 0 0"),
         ("choke 0 1 4", refused(37)),
         ("interest 0 0 0", refused(37)),
-        ("seat 0", "fresh 0 0 1 1 0"),
+        ("seat 0", "fresh 0 0 1 1 0 0"),
         ("choke 0 1 100", CHOKE),
         ("choke 0 1 5", CHOKE),
         ("interest 0 0 5", NOT_INTERESTED),
-        ("seat 0", "fresh 0 1 0 1 0"),
+        ("seat 0", "fresh 0 1 0 1 0 0"),
         (f"feed 0 {UNCHOKE}", "taken 5"),
-        ("seat 0", "used 0 1 0 0 0"),
+        ("seat 0", "used 0 1 0 0 0 0"),
         (f"feed 0 {INTERESTED}", "taken 5"),
-        ("seat 0", "used 0 1 0 0 1"),
+        ("seat 0", "used 0 1 0 0 1 0"),
         (f"feed 0 {CHOKE}", "taken 5"),
-        ("seat 0", "used 0 1 0 1 1"),
+        ("seat 0", "used 0 1 0 1 1 0"),
         (f"feed 0 {NOT_INTERESTED}", "taken 5"),
-        ("seat 0", "used 0 1 0 1 0"),
+        ("seat 0", "used 0 1 0 1 0 0"),
         ("choke 0 0 5", UNCHOKE),
         (f"feed 0 {INTERESTED}", "taken 5"),
         ("leave 0", "left"),
         ("sit", "seat 0"),
-        ("seat 0", "fresh 0 1 0 1 0"),
+        ("seat 0", "fresh 0 1 0 1 0 0"),
     )
 
 
@@ -190,7 +190,7 @@ def serving():
         (f"feed 0 {INTERESTED}", "taken 5"),
         ("choke 0 1 5", CHOKE),
         (f"feed 0 {ask}", "drop 17"),
-        ("seat 0", "used 0 1 0 1 1"),
+        ("seat 0", "used 0 1 0 1 1 6"),
     )
 
 
@@ -228,16 +228,16 @@ def freshness():
         (bitfield("f0"), refused(33)),
         (bitfield("e1"), refused(33)),
     ]:
-        pairs += [(f"feed 0 {frame}", answer), ("seat 0", "fresh 0 1 0 1 0")]
-    pairs += [(f"feed 0 {full}", "taken 6"), ("seat 0", "used 3 1 0 1 0"), ("head", "1 1")]
+        pairs += [(f"feed 0 {frame}", answer), ("seat 0", "fresh 0 1 0 1 0 0")]
+    pairs += [(f"feed 0 {full}", "taken 6"), ("seat 0", "used 3 1 0 1 0 0"), ("head", "1 1 0 nobody 0")]
     # 30 comes before 32 and 33, and 21 before all three; a keepalive makes nobody fresh.
     for frame, number in [(full, 30), (bitfield("e000"), 30), (bitfield("f0"), 30), (bitfield(""), 21)]:
-        pairs += [(f"feed 0 {frame}", refused(number)), ("seat 0", "used 3 1 0 1 0")]
-        pairs += [(f"feed 0 {KEEPALIVE}", "taken 4"), ("seat 0", "used 3 1 0 1 0")]
+        pairs += [(f"feed 0 {frame}", refused(number)), ("seat 0", "used 3 1 0 1 0 0")]
+        pairs += [(f"feed 0 {KEEPALIVE}", "taken 4"), ("seat 0", "used 3 1 0 1 0 0")]
     return steps(*pairs)
 
 
-SILENT, LOADED = ("seat 0", "fresh 0 1 0 1 0"), ("seat 0", "used 10 1 0 1 0")
+SILENT, LOADED = ("seat 0", "fresh 0 1 0 1 0 0"), ("seat 0", "used 10 1 0 1 0 0")
 KEPT = (f"feed 0 {KEEPALIVE}", "taken 4")
 AGAIN = [("leave 0", "left"), ("sit", "seat 0")]
 
@@ -245,8 +245,8 @@ AGAIN = [("leave 0", "left"), ("sit", "seat 0")]
 def loaded_after(count):
     """So many keepalives and then a bitfield, which is taken."""
     return [
-        *[KEPT] * count, SILENT, ("head", "1 0"), ("missing 0 2", "0 of 1 next 2"),
-        (f"feed 0 {bitfield('ffc0')}", "taken 7"), LOADED, ("head", "1 1"), ("missing 0 2", "- of 0 next 2"),
+        *[KEPT] * count, SILENT, ("head", "1 0 0 nobody 1"), ("missing 0 2", "0 of 1 next 2"),
+        (f"feed 0 {bitfield('ffc0')}", "taken 7"), LOADED, ("head", "1 1 0 nobody 1"), ("missing 0 2", "- of 0 next 2"),
     ]
 
 
@@ -262,16 +262,16 @@ def keepalives():
         pairs += [some, SILENT, KEPT, some, SILENT, (f"feed 0 {full}", "taken 7"), LOADED, *AGAIN]
     # After a frame with an id the bitfield is late, with keepalives between them too.
     for first, answer, then in [
-        (have(9), "taken 9", "used 1 1 0 1 0"),
-        (INTERESTED, "taken 5", "used 0 1 0 1 1"),
-        ("0000000114", "taken 5", "used 0 1 0 1 0"),
+        (have(9), "taken 9", "used 1 1 0 1 0 0"),
+        (INTERESTED, "taken 5", "used 0 1 0 1 1 0"),
+        ("0000000114", "taken 5", "used 0 1 0 1 0 0"),
     ]:
         pairs += [KEPT, (f"feed 0 {first}", answer), KEPT, KEPT, ("seat 0", then), (f"feed 0 {full}", refused(30)), ("seat 0", then), *AGAIN]
     # A refused frame leaves the truck fresh.
     pairs += [KEPT, (f"feed 0 {have(10)}", refused(31)), KEPT, (f"feed 0 {bitfield('ff')}", refused(32)), *loaded_after(1), *AGAIN]
     # Marks, counts and the other seat stay.
-    pairs += [("choke 0 0 5", UNCHOKE), ("interest 0 1 5", INTERESTED), KEPT, ("seat 0", "fresh 0 0 1 1 0"), (f"feed 0 {full}", "taken 7"), KEPT]
-    pairs += [("seat 0", "used 10 0 1 1 0"), ("head", "1 1"), ("count 9", "1"), (f"feed 1 {KEEPALIVE}", refused(36)), ("seat 1", "free")]
+    pairs += [("choke 0 0 5", UNCHOKE), ("interest 0 1 5", INTERESTED), KEPT, ("seat 0", "fresh 0 0 1 1 0 0"), (f"feed 0 {full}", "taken 7"), KEPT]
+    pairs += [("seat 0", "used 10 0 1 1 0 0"), ("head", "1 1 0 nobody 1"), ("count 9", "1"), (f"feed 1 {KEEPALIVE}", refused(36)), ("seat 1", "free")]
     return steps(*pairs)
 
 
@@ -291,31 +291,31 @@ def counting():
         ("count 1", "0"),
         (f"feed 0 {have(0)}", "taken 9"),
         ("count 0", "1"),
-        ("seat 0", "used 1 1 0 1 0"),
+        ("seat 0", "used 1 1 0 1 0 0"),
         ("scarcest", "piece 1"),
         (f"feed 1 {bitfield('7f80')}", "taken 7"),
         ("scarcest", "piece 0"),
-        ("seat 1", "used 8 1 0 1 0"),
-        ("head", "2 0"),
+        ("seat 1", "used 8 1 0 1 0 0"),
+        ("head", "2 0 0 nobody 2"),
         (f"feed 1 {have(0)}", "taken 9"),
-        ("head", "2 1"),
+        ("head", "2 1 0 nobody 2"),
         (f"feed 1 {have(0)}", "taken 9"),
-        ("head", "2 1"),
+        ("head", "2 1 0 nobody 2"),
         ("count 0", "2"),
         ("count 8", "1"),
         ("count 9", refused(31)),
         ("count 4294967296", refused(31)),
         ("leave 0", "left"),
         ("count 0", "1"),
-        ("head", "1 1"),
+        ("head", "1 1 0 nobody 2"),
         ("leave 1", "left"),
-        ("head", "0 0"),
+        ("head", "0 0 0 nobody 2"),
         *[(f"count {piece}", "0") for piece in range(9)],
         ("sit", "seat 0"),
-        ("seat 0", "fresh 0 1 0 1 0"),
+        ("seat 0", "fresh 0 1 0 1 0 0"),
         (f"feed 0 {bitfield('ff7f')}", refused(33)),
         (f"feed 0 {bitfield('ff00')}", "taken 7"),
-        ("head", "1 0"),
+        ("head", "1 0 0 nobody 2"),
         ("scarcest", "piece 8"),
     )
 
@@ -340,7 +340,7 @@ def pages():
         ("missing 7 5", refused(36)),
         ("missing 7 0", refused(36)),
         ("missing 4294967296 1", refused(36)),
-        ("head", "5 2"),
+        ("head", "5 2 0 nobody 5"),
     )
 
 
@@ -357,7 +357,7 @@ def full_yard():
         ("sit", refused(35)),
         ("missing 0 0", "- of 2000 next 0"),
         *[(f"feed {seat} {but_last if seat % 2 else everything}", "taken 2053") for seat in range(2000)],
-        ("head", "2000 1000"),
+        ("head", "2000 1000 0 nobody 1999"),
         ("count 0", "2000"),
         ("count 16383", "1000"),
         ("count 16384", refused(31)),
@@ -368,7 +368,7 @@ def full_yard():
         ("missing 2000 1", "- of 1000 next 2000"),
         ("missing 2001 1", refused(36)),
         (f"feed 1999 {have(16383)}", "taken 9"),
-        ("head", "2000 1001"),
+        ("head", "2000 1001 0 nobody 1999"),
         (f"feed 1999 {have(16384)}", refused(31)),
         (f"feed 1999 {everything}", refused(30)),
         (f"feed 2000 {KEEPALIVE}", refused(36)),
@@ -377,7 +377,7 @@ def full_yard():
         (f"feed 0 {request(16384, 0, 1)}", refused(31)),
         *[(f"leave {seat}", "left") for seat in gone],
         ("leave 0", refused(36)),
-        ("head", "1000 501"),
+        ("head", "1000 501 0 nobody 1999"),
         ("count 0", "1000"),
         ("count 16383", "501"),
         ("missing 0 2", f"{stay[0]},{stay[1]} of 499 next {stay[2]}"),
@@ -386,10 +386,10 @@ def full_yard():
         (f"feed 0 {bitfield('00' * 2048)}", "taken 2053"),
         ("sit", "seat 1"),
         ("count 0", "1000"),
-        ("seat 0", "used 0 1 0 1 0"),
-        ("seat 2", "used 16384 1 0 1 0"),
+        ("seat 0", "used 0 1 0 1 0 0"),
+        ("seat 2", "used 16384 1 0 1 0 0"),
         ("start 16384 16384 1 2000", "started"),
-        ("head", "0 0"),
+        ("head", "0 0 0 nobody 1999"),
         ("scarcest", "piece 0"),
         ("missing 0 10", "- of 0 next 2000"),
     )

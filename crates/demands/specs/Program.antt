@@ -54,6 +54,8 @@ pub data Permits (t : Tables) : Call → ℕ → Yard → Type 0 where
       → Permits t (Call.has i p) r (yardOf (after (t .head)) (before (t .seats)) (before (t .rows)) (before (t .holders)))
   counts : (p r : ℕ) (told : Lent Told) → yard.count-ensures (t .seats) (t .rows) (t .holders) p r (t .head) told
       → Permits t (Call.count p) r (yardOf (after (t .head)) (before (t .seats)) (before (t .rows)) (before (t .holders)))
+  turns : (r : ℕ) (told : Lent Told) → yard.round-ensures (t .rows) (t .holders) r (t .head) (t .seats) told
+      → Permits t Call.round r (yardOf (after (t .head)) (after (t .seats)) (before (t .rows)) (before (t .holders)))
 
 -- the calls that tell by a record, with it
 pub data Telling (t : Tables) : Call → ℕ → Lent Told → Type 0 where
@@ -64,6 +66,7 @@ pub data Telling (t : Tables) : Call → ℕ → Lent Told → Type 0 where
   tells-scarcest : (r : ℕ) (told : Lent Told) → yard.scarcest-ensures (t .seats) (t .rows) (t .holders) r (t .head) told → Telling t Call.scarcest r told
   tells-has : (i p r : ℕ) (told : Lent Told) → yard.has-ensures (t .seats) (t .rows) (t .holders) i p r (t .head) told → Telling t (Call.has i p) r told
   tells-count : (p r : ℕ) (told : Lent Told) → yard.count-ensures (t .seats) (t .rows) (t .holders) p r (t .head) told → Telling t (Call.count p) r told
+  tells-round : (r : ℕ) (told : Lent Told) → yard.round-ensures (t .rows) (t .holders) r (t .head) (t .seats) told → Telling t Call.round r told
 
 -- the history h and the tables y come of calls on the tables `lent`. What each call tells is the answer of `step`, which the history keeps
 pub data Made (lent : Yard) : History → Yard → Type 0 where
@@ -91,6 +94,7 @@ permits-step t c r z (picks n told e) = (e .0 .0, stays t (e .1) ∙ sym (scarce
 permits-step t c r z (looks i n seen e) = (e .0 .0, stays t (e .1) ∙ sym (look-changes-nothing (found t) i))
 permits-step t c r z (asks i p n told e) = (e .0 .0, stays t (e .1) ∙ sym (has-changes-nothing (found t) i p))
 permits-step t c r z (counts p n told e) = (e .0 .0, stays t (e .1) ∙ sym (count-changes-nothing (found t) p))
+permits-step t c r z (turns n told e) = (e .0, e .2)
 
 -- and the record is the one of its answer
 pub telling-step : (t : Tables) (c : Call) (r : ℕ) (told : Lent Told) → Telling t c r told
@@ -101,6 +105,7 @@ telling-step t c r told (tells-page first n page u e) = e .0
 telling-step t c r told (tells-scarcest n u e) = e .0
 telling-step t c r told (tells-has i p n u e) = e .0
 telling-step t c r told (tells-count p n u e) = e .0
+telling-step t c r told (tells-round n u e) = (e .0, e .1)
 
 pub made-run : (lent : Yard) (h : History) (y : Yard) → Made lent h y → Run lent h y
 made-run lent h y (started t p l k z f e) =

@@ -1,10 +1,11 @@
--- THE WORKED CASES: every ★ block, yard step and text of document 01 as one table, in its order and numbers, and what ticket 2 of document 02 adds to the yard, each
+-- THE WORKED CASES: every ★ block, yard step and text of document 01 as one table, in its order and numbers, and what tickets 2 and 6 of document 02 add to the yard, each
 -- beside the answer that it is to have; and that the definitions give these answers, by computation. Assumes nothing.
 use mathlib.Core.Path.{_≡_, refl}
+use mathlib.Core.Bool.{Bool, true, false}
 use mathlib.Core.List.{List, [], _∷_}
-use Prim.Native.Nat.{ℕ}
+use Prim.Native.Nat.{ℕ, suc}
 use Prim.Native.String.{String}
-use lib.ListN.{getD, replicate}
+use lib.ListN.{length, getD, replicate}
 use Rattle.refusal.specs.BigEndian.{bigEndian, bytesOf as numberBytes}
 use Rattle.refusal.specs.Texts.{bytes}
 use Rattle.refusal.specs.Paper.{Outcome, taken, refused}
@@ -17,7 +18,7 @@ use Rattle.bencode_walk.specs.Lookup.{lookup, sameKey}
 use Rattle.torrent_blocks.specs.Rules.{powerFrom, sum, fileLengths, lawful}
 use Rattle.torrent_blocks.specs.Spans.{Span, FilePart, part, joinedFiles, joinedFrom, lengths, endFrom, partsFrom, sizes as sizesIn}
 use Rattle.torrent_blocks.specs.Answers.{Spot, spot, blockOf, byteOf}
-use Rattle.peer_wire.specs.Message.{Message, keepalive, have, bitfield, other, encode as frameOf}
+use Rattle.peer_wire.specs.Message.{Message, keepalive, interested, notInterested, have, bitfield, request, other, encode as frameOf}
 use Rattle.peer_wire.specs.Frames.{least, most, sizedOf, readOf, messageOf as messageBy}
 use Rattle.torrent_metainfo.specs.Rules.{clean, goodName, elementsOf, fileOf, lengthsOf, infoOf, topOf, torrentOf, sizedOf as torrentSized}
 use Rattle.bencode_writer.specs.Escaped.{escapedBy}
@@ -25,11 +26,12 @@ use Rattle.torrent_lines.specs.Lines.{elementsIn, filesIn, fileLines, listingOf
 use Rattle.yard_tables.specs.Counting.{eachFrom}
 use Rattle.yard_tables.specs.Rows.{orBytes}
 use Rattle.yard_tables.specs.Seats.{cleared}
-use Rattle.yard_tables.specs.Tables.{Yard, Said, done, used, seated, Out, sizesFit}
-use Rattle.yard_tables.specs.Frames.{overTop, announced, haveOf, bitfieldOf, messageOf, feedOf}
+use Rattle.yard_tables.specs.Tables.{Yard, Said, done, used, serve, dropped, seated, unchoked, Out, sizesFit}
+use Rattle.yard_tables.specs.Rounds.{nobody, nextOf, chosen, misplaced, roundOf}
+use Rattle.yard_tables.specs.Frames.{overTop, announced, haveOf, bitfieldOf, blockOf as blockFrame, messageOf, feedOf}
 use Rattle.yard_tables.specs.Seating.{startOf, lowestFree, seatedAt, sitOf, atZero, left, leaveOf}
-use Rattle.yard_tables.specs.Step.{Call, start, sit, leave, feed, step}
-use Rattle.yard_laws.specs.History.{History, Fixed, entry, event, sizesWith}
+use Rattle.yard_tables.specs.Step.{Call, start, sit, leave, feed, round, step}
+use Rattle.yard_laws.specs.History.{History, Fixed, entry, event, phase}
 use Rattle.yard_laws.specs.Says.{holders, completeSeats}
 use Rattle.yard_laws.specs.Expected.{answer, lowestWithout}
 
@@ -39,6 +41,11 @@ use Rattle.yard_laws.specs.Expected.{answer, lowestWithout}
 infix 20 _at_
 abbrev pub _at_ : {A : Type 0} → ℕ → ℕ → Outcome A
 n at p = refused n p
+
+-- a seat wants the uplink and sent so many bytes, or it does not want it
+pub data Wanting : Type 0 where
+  sent : ℕ → Wanting
+  idle : Wanting
 
 -- what is asked, and what it is to give
 pub data Star : Type 0 where
@@ -52,6 +59,8 @@ pub data Star : Type 0 where
   call : Call → Outcome Said → ℕ → ℕ → Star
   -- a call in place of the one before
   instead : Call → Outcome Said → ℕ → ℕ → Star
+  -- of the seats' bytes, and `idle` of one that does not want the uplink, and where the free place last was: which are the four, and who is next
+  uplink : List Wanting → ℕ → List Bool → ℕ → Star
   -- a text: its count of values
   text : String → Outcome ℕ → Star
   -- a text for the listing program: what is printed
@@ -98,6 +107,24 @@ stars =
     ∷ call sit (taken (seated 0)) 0 1
     ∷ call (says 0 (other 20 [])) (taken (used 5)) 0 1
     ∷ call (says 0 (bitfield (0xff ∷ 0xc0 ∷ []))) (30 at 0) 0 1
+    -- Ticket 6. Both want the uplink: both are served, and seat 0 has the free place; it leaves, and the next truck finds itself choked until the next round
+    ∷ call (says 0 interested) (taken (used 5)) 0 1
+    ∷ call (says 1 interested) (taken (used 5)) 0 1
+    ∷ call (says 0 (request 0 0 1)) (taken (dropped 17)) 0 1
+    ∷ call round (taken (unchoked 2)) 0 1
+    ∷ call (says 0 (request 0 0 1)) (taken (serve 17)) 0 1
+    ∷ call (leave 0) (taken done) 0 1
+    ∷ call sit (taken (seated 0)) 0 1
+    ∷ call (says 0 interested) (taken (used 5)) 0 1
+    ∷ call (says 0 (request 0 0 1)) (taken (dropped 17)) 0 1
+    ∷ call (says 1 notInterested) (taken (used 5)) 0 1
+    ∷ call round (taken (unchoked 1)) 0 1
+    ∷ call (says 1 (request 0 0 1)) (taken (dropped 17)) 0 1
+    -- The four that sent most, ties to the lower seat, and none at all being enough; the next going round, the last holder last, and nobody
+    ∷ uplink (sent 5 ∷ sent 3 ∷ sent 9 ∷ idle ∷ sent 3 ∷ sent 3 ∷ sent 1 ∷ []) 3 (true ∷ true ∷ true ∷ false ∷ true ∷ false ∷ false ∷ []) 4
+    ∷ uplink (sent 0 ∷ idle ∷ sent 0 ∷ []) 2 (true ∷ false ∷ true ∷ []) 0
+    ∷ uplink (idle ∷ sent 7 ∷ idle ∷ []) 1 (false ∷ true ∷ false ∷ []) 1
+    ∷ uplink (idle ∷ idle ∷ []) 1 (false ∷ false ∷ []) nobody
     -- Texts to try
     ∷ text "i-3e" (taken 1)
     ∷ text "i-0e" (2 at 2)
@@ -122,6 +149,7 @@ pub data Given : Type 0 where
   spots : Outcome Spot → Given
   said : Outcome Said → ℕ → ℕ → Given
   counted : Outcome ℕ → Given
+  ranked : List Bool → ℕ → Given
   printed : List ℕ → Given
 
 -- the yard as it is, and what was called
@@ -146,6 +174,25 @@ byHistory h c = said (answer two h c) (completeSeats two (entry c (answer two h 
 abbrev pub after : Call → Now → Now
 after c x = record { yard = step c (x .yard) .yard; past = entry c (answer two (x .past) c) [] ∷ x .past }
 
+-- of seats as a row has them: which want the uplink, what each sent, and which are the four
+abbrev pub wants : Wanting → Bool
+wants (sent k) = true
+wants idle = false
+
+abbrev pub bytesOf : Wanting → ℕ
+bytesOf (sent k) = k
+bytesOf idle = 0
+
+abbrev pub wantsAt : List Wanting → ℕ → Bool
+wantsAt seats i = wants (getD seats i idle)
+
+unfoldable pub fourFrom : List Wanting → ℕ → List Wanting → List Bool
+fourFrom seats i [] = []
+fourFrom seats i (w ∷ ws) = chosen (length seats) (wantsAt seats) (λ j. bytesOf (getD seats j idle)) i ∷ fourFrom seats (suc i) ws
+
+abbrev pub fourOf : List Wanting → List Bool
+fourOf seats = fourFrom seats 0 seats
+
 -- the rows one after the other, with the yard before the last call and after it
 unfoldable pub given : List Star → Now → Now → List Given
 given [] before x = []
@@ -156,6 +203,7 @@ given (starts p a ∷ rows) before x =
     byTables o ∷ given rows x (record { yard = o .yard; past = entry (start p 16384 16384) (o .answer) [] ∷ [] })
 given (call c a f n ∷ rows) before x = byTables (step c (x .yard)) ∷ byHistory (x .past) c ∷ given rows x (after c x)
 given (instead c a f n ∷ rows) before x = byTables (step c (before .yard)) ∷ byHistory (before .past) c ∷ given rows before x
+given (uplink seats last four next ∷ rows) before x = ranked (fourOf seats) (nextOf (length seats) (wantsAt seats) last) ∷ given rows before x
 given (text s a ∷ rows) before x = counted (checkOf (bytes s)) ∷ given rows before x
 given (prints s t ∷ rows) before x = printed (listingOf (bytes s)) ∷ given rows before x
 
@@ -167,17 +215,18 @@ asked (byte f o a ∷ rows) = spots a ∷ asked rows
 asked (starts p a ∷ rows) = said a 0 0 ∷ asked rows
 asked (call c a f n ∷ rows) = said a f n ∷ said a f n ∷ asked rows
 asked (instead c a f n ∷ rows) = said a f n ∷ said a f n ∷ asked rows
+asked (uplink seats last four next ∷ rows) = ranked four next ∷ asked rows
 asked (text s a ∷ rows) = counted a ∷ asked rows
 asked (prints s t ∷ rows) = printed (bytes t) ∷ asked rows
 
 -- tables for two seats and ten pieces, with anything in them, and no call made
 abbrev pub lent : Now
 lent = record {
-  yard = record { head = record { pieces = 3; «piece_length» = 1; «last_length» = 9; taken = 7; complete = 7 }; seats = cleared ∷ cleared ∷ []; rows = replicate 4 255; holders = replicate 10 77 };
+  yard = record { head = record { pieces = 3; «piece_length» = 1; «last_length» = 9; taken = 7; complete = 7; round = 9; free = 9; last = 9 }; seats = cleared ∷ cleared ∷ []; rows = replicate 4 255; holders = replicate 10 77 };
   past = [];
 }
 
 -- every row gives its answer
 pub stars-hold : given stars lent lent ≡ asked stars
-unfolding given asked stars blockOf byteOf lawful powerFrom sum fileLengths joinedFrom lengths endFrom partsFrom sizesIn step startOf sizesFit lowestFree sitOf seatedAt leaveOf atZero left feedOf messageOf haveOf bitfieldOf overTop announced eachFrom orBytes readOf sizedOf least most messageBy bigEndian numberBytes event sizesWith lowestWithout decode valueFrom itemsOf entriesOf kindOf stringOf closedOf integerOf keyOf digitsVal digitsLen keyLt countIn listingOf fileLines slashed escapedBy filesIn elementsIn lookup sameKey torrentOf topOf infoOf torrentSized lengthsOf fileOf elementsOf goodName clean decimalIn encode
+unfolding given asked stars blockOf byteOf lawful powerFrom sum fileLengths joinedFrom lengths endFrom partsFrom sizesIn step startOf sizesFit lowestFree sitOf seatedAt leaveOf atZero left feedOf messageOf haveOf bitfieldOf overTop announced eachFrom orBytes readOf sizedOf least most messageBy bigEndian numberBytes event phase misplaced roundOf blockFrame fourFrom lowestWithout decode valueFrom itemsOf entriesOf kindOf stringOf closedOf integerOf keyOf digitsVal digitsLen keyLt countIn listingOf fileLines slashed escapedBy filesIn elementsIn lookup sameKey torrentOf topOf infoOf torrentSized lengthsOf fileOf elementsOf goodName clean decimalIn encode
 stars-hold = refl

@@ -8,7 +8,7 @@ use lib.ListN.{length, getD, replicate}
 use lib.Seq.{sets}
 use Rattle.refusal.specs.Paper.{Outcome, taken, refused}
 use Rattle.yard_tables.specs.Seats.{on, cleared, weChoke, weWant}
-use Rattle.yard_tables.specs.Tables.{Yard, Said, wait, done, used, serve, dropped, seated, wrote, listed, shows, holds, heldBy, scarce, paper, Around, Turn, turn, around, sizesFit, Out, yardOf}
+use Rattle.yard_tables.specs.Tables.{Yard, Said, wait, done, used, serve, dropped, seated, wrote, listed, shows, holds, heldBy, scarce, unchoked, paper, Around, Turn, turn, around, sizesFit, Out, yardOf}
 use Rattle.yard_tables.specs.Seating.{startOf, markOf}
 use Rattle.yard_tables.specs.Looks.{missingOf}
 use Rattle.yard_tables.specs.Step.{Call, step, ifTaken, writes, written}
@@ -73,6 +73,7 @@ nothing-put (taken (shows s)) l w u = absurd u
 nothing-put (taken (holds b)) l w u = absurd u
 nothing-put (taken (heldBy n)) l w u = absurd u
 nothing-put (taken (scarce p)) l w u = absurd u
+nothing-put (taken (unchoked n)) l w u = absurd u
 
 abbrev Speaks : Turn → Type 0
 Speaks t = t .answer ≡ taken wait → ⊥

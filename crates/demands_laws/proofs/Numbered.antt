@@ -5,7 +5,7 @@ use Prim.Native.Nat.{ℕ, _≤_, _<_}
 use native.Mathlib.Omega.{arith}
 use lib.Dec.{leb}
 use Rattle.refusal.specs.Paper.{Outcome, taken, refused}
-use Rattle.yard_tables.specs.Tables.{Said, wait, done, used, serve, dropped, seated, wrote, listed, shows, holds, heldBy, scarce}
+use Rattle.yard_tables.specs.Tables.{Said, wait, done, used, serve, dropped, seated, wrote, listed, shows, holds, heldBy, scarce, unchoked}
 use Rattle.yard_tables.specs.Step.{missing}
 use Rattle.yard_tables.specs.declared.Page.{Page}
 use Rattle.yard_laws.specs.History.{History, Fixed}
@@ -28,6 +28,7 @@ zero (shows s) = inl refl
 zero (holds b) = inl refl
 zero (heldBy n) = inl refl
 zero (scarce p) = inl refl
+zero (unchoked n) = inl refl
 
 -- a number that is neither 0 nor 255 is a refusal's
 refuses : (a : Outcome Said) (n : ℕ) → (n ≡ 0 → ⊥) → (n ≡ 255 → ⊥) → codeOf a ≡ n → (p : ℕ) × (a ≡ refused n p)

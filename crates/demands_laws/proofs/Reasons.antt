@@ -2,14 +2,15 @@
 use mathlib.Core.Path.{_≡_, refl, sym, subst}
 use mathlib.Core.Logic.{_⊎_, inl, inr, _↔_}
 use mathlib.Core.List.{List, [], _∷_, List·Memᴰ·head, List·Memᴰ·tail, List·Memᴰ as In}
-use Prim.Native.Nat.{ℕ, _*_, _≤_, _<_}
+use Prim.Native.Nat.{ℕ, _+_, _*_, _≤_, _<_}
 use lib.ListN.{length}
-use Rattle.peer_wire.specs.Message.{Message, have, bitfield as bits}
+use Rattle.refusal.specs.Limits.{mostSent}
+use Rattle.peer_wire.specs.Message.{Message, have, piece, bitfield as bits}
 use Rattle.peer_wire.specs.Causes.{TooLong, All, Right}
 use Rattle.yard_tables.specs.Rows.{width, bitAt}
 use Rattle.yard_tables.specs.Step.{Call, start, sit, feed, missing, look, has, count}
-use Rattle.yard_laws.specs.History.{History, Fixed, sizesOf, seated, fresh, pieces}
-use Rattle.yard_laws.specs.Causes.{Sits, Nobody, On, Marks, Says, SpeaksOf, Fits, StartFits, Cause, too-long, wrong-payload, not-first, no-such-have, no-such-block, no-such-has, no-such-count, wrong-length, spare-bit, past-piece, all-taken, nobody, past-list, past-look, past-has, no-room, unfit}
+use Rattle.yard_laws.specs.History.{History, Fixed, sizesOf, seated, fresh, pieces, sent}
+use Rattle.yard_laws.specs.Causes.{Sits, Nobody, On, Marks, Says, SpeaksOf, Fits, StartFits, Cause, too-long, wrong-payload, not-first, no-such-have, no-such-block, no-such-has, no-such-count, wrong-length, spare-bit, past-piece, all-taken, nobody, past-list, past-look, past-has, no-room, unfit, too-much}
 use lib.Dec.{eqb}
 use mathlib.Core.Bool.{Bool, true, false}
 use borrow.Author.Tests.{eqb-true}
@@ -56,9 +57,12 @@ module _ (fixed : Fixed) (h : History) where
   abbrev At38 : Call → Type 0
   At38 c = ((q : ℕ) × (l : ℕ) × (k : ℕ) × (c ≡ start q l k) × (StartFits h (sizesOf q l k) → ⊥))
 
+  abbrev At39 : Call → Type 0
+  At39 c = ((i : ℕ) × (s : List ℕ) × (q : ℕ) × (b : ℕ) × (block : List ℕ) × (bytes : ℕ) × (c ≡ feed i s) × Sits fixed h i × Says s (piece q b block) bytes × (q < pieces h) × Fits fixed h q b (length block) × (mostSent < sent h i + length block))
+
   -- what is said at a number
   abbrev pub At : Call → ℕ → Type 0
-  At c number = pick (eqb number 20) (At20 c) (pick (eqb number 21) (At21 c) (pick (eqb number 30) (At30 c) (pick (eqb number 31) (At31 c) (pick (eqb number 32) (At32 c) (pick (eqb number 33) (At33 c) (pick (eqb number 34) (At34 c) (pick (eqb number 35) (At35 c) (pick (eqb number 36) (At36 c) (pick (eqb number 37) (At37 c) (pick (eqb number 38) (At38 c) ⊥))))))))))
+  At c number = pick (eqb number 20) (At20 c) (pick (eqb number 21) (At21 c) (pick (eqb number 30) (At30 c) (pick (eqb number 31) (At31 c) (pick (eqb number 32) (At32 c) (pick (eqb number 33) (At33 c) (pick (eqb number 34) (At34 c) (pick (eqb number 35) (At35 c) (pick (eqb number 36) (At36 c) (pick (eqb number 37) (At37 c) (pick (eqb number 38) (At38 c) (pick (eqb number 39) (At39 c) ⊥)))))))))))
 
   told : (c : Call) (number : ℕ) → Cause fixed h c number → At c number
   told c number (too-long i s g0 g1) = (i, s, refl, g0, g1)
@@ -78,9 +82,10 @@ module _ (fixed : Fixed) (h : History) where
   told c number (past-has i q g0) = (inr (inr (inr (i, q, refl, g0))))
   told c number (no-room d i space g0 g1 g2) = (i, space, g0, g1, g2)
   told c number (unfit q l k g0) = (q, l, k, refl, g0)
+  told c number (too-much i s q b block bytes g0 g1 g2 g3 g4) = (i, s, q, b, block, bytes, refl, g0, g1, g2, g3, g4)
 
-  by-number : {Q : Type 0} (c : Call) (number : ℕ) → At c number → (number ≡ 20 → At20 c → Q) → (number ≡ 21 → At21 c → Q) → (number ≡ 30 → At30 c → Q) → (number ≡ 31 → At31 c → Q) → (number ≡ 32 → At32 c → Q) → (number ≡ 33 → At33 c → Q) → (number ≡ 34 → At34 c → Q) → (number ≡ 35 → At35 c → Q) → (number ≡ 36 → At36 c → Q) → (number ≡ 37 → At37 c → Q) → (number ≡ 38 → At38 c → Q) → Q
-  by-number c number s f20 f21 f30 f31 f32 f33 f34 f35 f36 f37 f38 =
+  by-number : {Q : Type 0} (c : Call) (number : ℕ) → At c number → (number ≡ 20 → At20 c → Q) → (number ≡ 21 → At21 c → Q) → (number ≡ 30 → At30 c → Q) → (number ≡ 31 → At31 c → Q) → (number ≡ 32 → At32 c → Q) → (number ≡ 33 → At33 c → Q) → (number ≡ 34 → At34 c → Q) → (number ≡ 35 → At35 c → Q) → (number ≡ 36 → At36 c → Q) → (number ≡ 37 → At37 c → Q) → (number ≡ 38 → At38 c → Q) → (number ≡ 39 → At39 c → Q) → Q
+  by-number c number s f20 f21 f30 f31 f32 f33 f34 f35 f36 f37 f38 f39 =
       by-pick (eqb number 20) s (λ e x. f20 (eqb-true number 20 e) x) (λ s.
       by-pick (eqb number 21) s (λ e x. f21 (eqb-true number 21 e) x) (λ s.
       by-pick (eqb number 30) s (λ e x. f30 (eqb-true number 30 e) x) (λ s.
@@ -91,7 +96,8 @@ module _ (fixed : Fixed) (h : History) where
       by-pick (eqb number 35) s (λ e x. f35 (eqb-true number 35 e) x) (λ s.
       by-pick (eqb number 36) s (λ e x. f36 (eqb-true number 36 e) x) (λ s.
       by-pick (eqb number 37) s (λ e x. f37 (eqb-true number 37 e) x) (λ s.
-      by-pick (eqb number 38) s (λ e x. f38 (eqb-true number 38 e) x) (λ s. absurd s)))))))))))
+      by-pick (eqb number 38) s (λ e x. f38 (eqb-true number 38 e) x) (λ s.
+      by-pick (eqb number 39) s (λ e x. f39 (eqb-true number 39 e) x) (λ s. absurd s))))))))))))
 
   from-20 : {c : Call} → At20 c → Cause fixed h c 20
   from-20 {c} (i, s, e, g0, g1) = subst (λ (d : Call). Cause fixed h d 20) (sym e) (too-long i s g0 g1)
@@ -132,11 +138,14 @@ module _ (fixed : Fixed) (h : History) where
   from-38 : {c : Call} → At38 c → Cause fixed h c 38
   from-38 {c} (q, l, k, e, g0) = subst (λ (d : Call). Cause fixed h d 38) (sym e) (unfit q l k g0)
 
+  from-39 : {c : Call} → At39 c → Cause fixed h c 39
+  from-39 {c} (i, s, q, b, block, bytes, e, g0, g1, g2, g3, g4) = subst (λ (d : Call). Cause fixed h d 39) (sym e) (too-much i s q b block bytes g0 g1 g2 g3 g4)
+
   from : (c : Call) (number : ℕ) → At c number → Cause fixed h c number
-  from c number s = by-number c number s (λ e x. subst (Cause fixed h c) (sym e) (from-20 x)) (λ e x. subst (Cause fixed h c) (sym e) (from-21 x)) (λ e x. subst (Cause fixed h c) (sym e) (from-30 x)) (λ e x. subst (Cause fixed h c) (sym e) (from-31 x)) (λ e x. subst (Cause fixed h c) (sym e) (from-32 x)) (λ e x. subst (Cause fixed h c) (sym e) (from-33 x)) (λ e x. subst (Cause fixed h c) (sym e) (from-34 x)) (λ e x. subst (Cause fixed h c) (sym e) (from-35 x)) (λ e x. subst (Cause fixed h c) (sym e) (from-36 x)) (λ e x. subst (Cause fixed h c) (sym e) (from-37 x)) (λ e x. subst (Cause fixed h c) (sym e) (from-38 x))
+  from c number s = by-number c number s (λ e x. subst (Cause fixed h c) (sym e) (from-20 x)) (λ e x. subst (Cause fixed h c) (sym e) (from-21 x)) (λ e x. subst (Cause fixed h c) (sym e) (from-30 x)) (λ e x. subst (Cause fixed h c) (sym e) (from-31 x)) (λ e x. subst (Cause fixed h c) (sym e) (from-32 x)) (λ e x. subst (Cause fixed h c) (sym e) (from-33 x)) (λ e x. subst (Cause fixed h c) (sym e) (from-34 x)) (λ e x. subst (Cause fixed h c) (sym e) (from-35 x)) (λ e x. subst (Cause fixed h c) (sym e) (from-36 x)) (λ e x. subst (Cause fixed h c) (sym e) (from-37 x)) (λ e x. subst (Cause fixed h c) (sym e) (from-38 x)) (λ e x. subst (Cause fixed h c) (sym e) (from-39 x))
 
   pub exactly : (c : Call) (number place : ℕ) → (Cause fixed h c number × (place ≡ 0)) ↔ (At c number × (place ≡ 0))
   exactly c number place = (λ q. (told c number (q .0), q .1), λ q. (from c number (q .0), q .1))
 
-  pub one-of : (c : Call) (number : ℕ) → Cause fixed h c number → In number (20 ∷ 21 ∷ 30 ∷ 31 ∷ 32 ∷ 33 ∷ 34 ∷ 35 ∷ 36 ∷ 37 ∷ 38 ∷ [])
-  one-of c number q = by-number c number (told c number q) (λ e x. List·Memᴰ·head e) (λ e x. List·Memᴰ·tail (List·Memᴰ·head e)) (λ e x. List·Memᴰ·tail (List·Memᴰ·tail (List·Memᴰ·head e))) (λ e x. List·Memᴰ·tail (List·Memᴰ·tail (List·Memᴰ·tail (List·Memᴰ·head e)))) (λ e x. List·Memᴰ·tail (List·Memᴰ·tail (List·Memᴰ·tail (List·Memᴰ·tail (List·Memᴰ·head e))))) (λ e x. List·Memᴰ·tail (List·Memᴰ·tail (List·Memᴰ·tail (List·Memᴰ·tail (List·Memᴰ·tail (List·Memᴰ·head e)))))) (λ e x. List·Memᴰ·tail (List·Memᴰ·tail (List·Memᴰ·tail (List·Memᴰ·tail (List·Memᴰ·tail (List·Memᴰ·tail (List·Memᴰ·head e))))))) (λ e x. List·Memᴰ·tail (List·Memᴰ·tail (List·Memᴰ·tail (List·Memᴰ·tail (List·Memᴰ·tail (List·Memᴰ·tail (List·Memᴰ·tail (List·Memᴰ·head e)))))))) (λ e x. List·Memᴰ·tail (List·Memᴰ·tail (List·Memᴰ·tail (List·Memᴰ·tail (List·Memᴰ·tail (List·Memᴰ·tail (List·Memᴰ·tail (List·Memᴰ·tail (List·Memᴰ·head e))))))))) (λ e x. List·Memᴰ·tail (List·Memᴰ·tail (List·Memᴰ·tail (List·Memᴰ·tail (List·Memᴰ·tail (List·Memᴰ·tail (List·Memᴰ·tail (List·Memᴰ·tail (List·Memᴰ·tail (List·Memᴰ·head e)))))))))) (λ e x. List·Memᴰ·tail (List·Memᴰ·tail (List·Memᴰ·tail (List·Memᴰ·tail (List·Memᴰ·tail (List·Memᴰ·tail (List·Memᴰ·tail (List·Memᴰ·tail (List·Memᴰ·tail (List·Memᴰ·tail (List·Memᴰ·head e)))))))))))
+  pub one-of : (c : Call) (number : ℕ) → Cause fixed h c number → In number (20 ∷ 21 ∷ 30 ∷ 31 ∷ 32 ∷ 33 ∷ 34 ∷ 35 ∷ 36 ∷ 37 ∷ 38 ∷ 39 ∷ [])
+  one-of c number q = by-number c number (told c number q) (λ e x. List·Memᴰ·head e) (λ e x. List·Memᴰ·tail (List·Memᴰ·head e)) (λ e x. List·Memᴰ·tail (List·Memᴰ·tail (List·Memᴰ·head e))) (λ e x. List·Memᴰ·tail (List·Memᴰ·tail (List·Memᴰ·tail (List·Memᴰ·head e)))) (λ e x. List·Memᴰ·tail (List·Memᴰ·tail (List·Memᴰ·tail (List·Memᴰ·tail (List·Memᴰ·head e))))) (λ e x. List·Memᴰ·tail (List·Memᴰ·tail (List·Memᴰ·tail (List·Memᴰ·tail (List·Memᴰ·tail (List·Memᴰ·head e)))))) (λ e x. List·Memᴰ·tail (List·Memᴰ·tail (List·Memᴰ·tail (List·Memᴰ·tail (List·Memᴰ·tail (List·Memᴰ·tail (List·Memᴰ·head e))))))) (λ e x. List·Memᴰ·tail (List·Memᴰ·tail (List·Memᴰ·tail (List·Memᴰ·tail (List·Memᴰ·tail (List·Memᴰ·tail (List·Memᴰ·tail (List·Memᴰ·head e)))))))) (λ e x. List·Memᴰ·tail (List·Memᴰ·tail (List·Memᴰ·tail (List·Memᴰ·tail (List·Memᴰ·tail (List·Memᴰ·tail (List·Memᴰ·tail (List·Memᴰ·tail (List·Memᴰ·head e))))))))) (λ e x. List·Memᴰ·tail (List·Memᴰ·tail (List·Memᴰ·tail (List·Memᴰ·tail (List·Memᴰ·tail (List·Memᴰ·tail (List·Memᴰ·tail (List·Memᴰ·tail (List·Memᴰ·tail (List·Memᴰ·head e)))))))))) (λ e x. List·Memᴰ·tail (List·Memᴰ·tail (List·Memᴰ·tail (List·Memᴰ·tail (List·Memᴰ·tail (List·Memᴰ·tail (List·Memᴰ·tail (List·Memᴰ·tail (List·Memᴰ·tail (List·Memᴰ·tail (List·Memᴰ·head e))))))))))) (λ e x. List·Memᴰ·tail (List·Memᴰ·tail (List·Memᴰ·tail (List·Memᴰ·tail (List·Memᴰ·tail (List·Memᴰ·tail (List·Memᴰ·tail (List·Memᴰ·tail (List·Memᴰ·tail (List·Memᴰ·tail (List·Memᴰ·tail (List·Memᴰ·head e))))))))))))

@@ -2,19 +2,20 @@
 use mathlib.Core.Path.{_≡_, refl, sym, ap, ap₂, subst, _∙_}
 use mathlib.Core.Logic.{_⊎_, _↔_, Iff·trans}
 use mathlib.Core.List.{List, [], _∷_, List·Memᴰ as In}
-use Prim.Native.Nat.{ℕ, _*_}
+use Prim.Native.Nat.{ℕ, _+_, _-_, _*_, _^_, _<_}
 use native.Mathlib.Omega.{arith}
 use lib.ListN.{length, replicate}
 use Rattle.refusal.specs.Paper.{taken, refused}
 use Rattle.refusal.proofs.Cases.{by-test, no-way}
 use Rattle.peer_wire.specs.Causes.{Few, Cut}
 use Rattle.yard_tables.specs.Rows.{width}
+use Rattle.yard_tables.specs.Rounds.{nobody}
 use Rattle.yard_tables.specs.Seats.{cleared}
 use Rattle.yard_tables.specs.Tables.{Yard, done, Out, wait}
 use Rattle.yard_tables.specs.Seating.{startOf}
 use Rattle.yard_tables.specs.Step.{Call, step, written, feed}
 use Rattle.yard_telling.specs.Telling.{codeOf}
-use Rattle.yard_laws.specs.History.{Entry, History, Fixed, Sizes, sizesOf, entry}
+use Rattle.yard_laws.specs.History.{Entry, History, Fixed, Sizes, sizesOf, entry, cameIn, blockIn}
 use Rattle.yard_laws.specs.Run.{fixedBy, startWith, Accepted, Run, begins, goes-on}
 use Rattle.yard_laws.specs.Causes.{Sits, WaitCause, cut-off}
 use Rattle.yard_laws.proofs.Agreeing.{Agrees}
@@ -41,11 +42,11 @@ module _ (lent : Yard) (h : History) (y : Yard) (m : Run lent h y) (c : Call) wh
   pub given : (number place : ℕ) → step c y .answer ≡ refused number place ↔ (At fixed h c number × (place ≡ 0))
   given number place = Iff·trans (demand.fair fixed h y agrees c number place) (exactly fixed h c number place)
 
-  pub given-one-of : (number place : ℕ) → step c y .answer ≡ refused number place → In number (20 ∷ 21 ∷ 30 ∷ 31 ∷ 32 ∷ 33 ∷ 34 ∷ 35 ∷ 36 ∷ 37 ∷ 38 ∷ [])
+  pub given-one-of : (number place : ℕ) → step c y .answer ≡ refused number place → In number (20 ∷ 21 ∷ 30 ∷ 31 ∷ 32 ∷ 33 ∷ 34 ∷ 35 ∷ 36 ∷ 37 ∷ 38 ∷ 39 ∷ [])
   given-one-of number place e = one-of fixed h c number (demand.fair fixed h y agrees c number place .0 e .0)
 
-  pub undamaged : (place : ℕ) → step c y .answer ≡ refused 39 place → ⊥
-  undamaged place = demand.never-damaged fixed h y agrees c place
+  pub undamaged : cameIn h + blockIn c < 2 ^ 53 → (place : ℕ) → step c y .answer ≡ refused 39 place → ⊥
+  undamaged few place = demand.never-damaged fixed h y agrees c few place
 
   pub waits : step c y .answer ≡ taken wait ↔ ((i : ℕ) × (s : List ℕ) × (c ≡ feed i s) × Sits fixed h i × (Few s ⊎ Cut s))
   waits = Iff·trans (demand.fair-wait fixed h y agrees c) (go c, λ q. subst (WaitCause fixed h) (sym (q .2)) (cut-off (q .0) (q .1) (q .3) (q .4)))
@@ -65,7 +66,7 @@ empty-same z lent other e a b =
   where
     of : ℕ → ℕ → ℕ → Yard
     of n r c = record {
-      head = record { pieces = z .pieces; «piece_length» = z .pieceLength; «last_length» = z .lastLength; taken = 0; complete = 0 };
+      head = record { pieces = z .pieces; «piece_length» = z .pieceLength; «last_length» = z .lastLength; taken = 0; complete = 0; round = 0; free = nobody; last = n - 1 };
       seats = replicate n cleared;
       rows = replicate r 0;
       holders = replicate c 0;

@@ -7,12 +7,12 @@ use Rattle.refusal.specs.Paper.{refused}
 use Rattle.yard_tables.specs.Tables.{Yard}
 use Rattle.yard_tables.specs.Step.{Call, step}
 use Rattle.yard_laws.specs.View.{View, byTables}
-use Rattle.yard_laws.specs.Causes.{CauseBy, too-long, wrong-payload, not-first, no-such-have, no-such-block, no-such-has, no-such-count, wrong-length, spare-bit, past-piece, all-taken, nobody, past-list, past-look, past-has, no-room, unfit}
+use Rattle.yard_laws.specs.Causes.{CauseBy, too-long, wrong-payload, not-first, no-such-have, no-such-block, no-such-has, no-such-count, wrong-length, spare-bit, past-piece, too-much, all-taken, nobody, past-list, past-look, past-has, no-room, unfit}
 use Rattle.yard_laws.specs.Damage.{Fit}
 use Rattle.yard_laws.proofs.OnTables as tables
 
--- no number is past 38
-pub few : (v : View) (c : Call) (number : ℕ) → CauseBy v c number → number ≤ 38
+-- no number is past 39
+pub few : (v : View) (c : Call) (number : ℕ) → CauseBy v c number → number ≤ 39
 few v c number (unfit p l k f) = omega arith
 few v c number (all-taken f) = omega arith
 few v c number (nobody d i o g) = omega arith
@@ -30,6 +30,7 @@ few v c number (no-such-block i s m p b k bytes g w o l) = omega arith
 few v c number (no-such-has i p g l) = omega arith
 few v c number (no-such-count p l) = omega arith
 few v c number (past-piece i s m p b k bytes g w o l f) = omega arith
+few v c number (too-much i s p b block bytes g w l f m) = omega arith
 
 module _ (y : Yard) (c : Call) where
   pub on-tables : (number : ℕ) → number < 38 → (place : ℕ) → step c y .answer ≡ refused number place ↔ ((Fit y × CauseBy (byTables y) c number) × (place ≡ 0))

@@ -11,13 +11,16 @@ use lib.Seq.{sets}
 use Rattle.yard_tables.specs.Seats.{cleared, weChoke, weWant, counted}
 use Rattle.refusal.specs.Paper.{Outcome}
 use Rattle.yard_tables.specs.Tables.{Yard, Said, listed, Around, Turn, Out, paper, around, turn, refuse, says, sizesFit, yardOf, out, atSeat}
+use Rattle.yard_tables.specs.Counting.{each}
 use Rattle.yard_tables.specs.Frames.{feedOf}
+use Rattle.yard_tables.specs.Ranks.{ranked, freeOf, turned, markStep}
 use Rattle.yard_tables.specs.Seating.{startOf, lowestFree, sitOf, leaveOf, markOf}
 use Rattle.yard_tables.specs.Looks.{pageOf, linesOf, scarcestOf, seatOf, hasOf, countOf}
-use Rattle.yard_tables.specs.Step.{Call, start, sit, leave, feed, choke, interest, missing, scarcest, look, has, count, step, chokeFrame, interestFrame, ifTaken, writes, written}
+use Rattle.yard_tables.specs.Step.{Call, start, sit, leave, feed, choke, interest, missing, scarcest, look, has, count, round, step, chokeFrame, interestFrame, ifTaken, writes, written}
 use Rattle.refusal.specs.Numbers.{seat, sizes}
 use Rattle.refusal.specs.Limits.{mostSeats}
 use Rattle.yard_tables.proofs.Sizing.{fitting}
+use Rattle.yard_tables.proofs.Turning.{round-turns}
 use Rattle.yard.proofs.Heard.{head-same}
 use Rattle.yard.proofs.Numbered.{has-numbered, count-numbered}
 use Rattle.torrent_blocks.specs.declared.PieceNumber.{PieceNumber}
@@ -27,10 +30,13 @@ use Rattle.yard_scans.specs.declared.Asked.{Asked}
 use Rattle.yard_scans.specs.Pages.{asLines}
 use Rattle.yard_scans.proofs.Passes.{lines-are}
 use Rattle.yard.specs.Pages.{pageFault, answerOf}
+use Rattle.yard.specs.Rounds.{roundFault}
 use Rattle.yard_tables.specs.declared.Head.{Head}
 use Rattle.yard_tables.specs.declared.Seat.{Seat}
 use Rattle.yard_tables.specs.declared.Stepped.{Stepped}
 use Rattle.yard_tables.specs.declared.Answer.{Answer}
+use Rattle.yard_tables.specs.declared.rank.Ranking.{Ranking}
+use Rattle.yard_tables.specs.declared.round.Turned.{Turned}
 use Rattle.yard_seating.specs.declared.Begun.{Begun}
 use Rattle.yard_seating.specs.Steps.{begun, emptyHead}
 use Rattle.yard_telling.specs.Telling.{codeOf, toldOf, shownOf, Steps, Tells, Looks, Shows}
@@ -131,6 +137,23 @@ module _ (h : Head) (seats : List Seat) (rows holders : List ℕ) where
       → Steps (step (interest i on (length frame)) Y) n (yardOf (r .head) seats′ rows holders) × (frame′ ≡ sets frame 0 (written (interest i on (length frame)) Y))
   unfolding step
   interest-is i on frame seats′ frame′ s r n = marked (interest i on (length frame)) (weWant on) i (length frame) (interestFrame on) frame frame′ s r seats′ n refl refl
+
+  pub round-is : (was : Told) (seats′ : List Seat) (fault : ℕ) (ranking : Ranking) (free : ℕ) (holder : Seat) (r : Turned) (t : Told) (n : ℕ)
+      → fault ≡ roundFault h (length seats) (length rows) (length holders) → ranking ≡ ranked (h .last) seats → free ≡ freeOf h ranking → holder ≡ getD seats free cleared
+      → r ≡ turned h fault ranking free holder → seats′ ≡ each (λ i s. markStep (r .marks) s i) seats
+      → t ≡ toldOf (paper (r .answer)) was → n ≡ codeOf (paper (r .answer))
+      → Tells (step round Y) was n t (yardOf (r .head) seats′ rows holders)
+  unfolding step
+  round-is was seats′ fault ranking free holder r t n e k f s m b g c =
+      told (step round Y) (r .answer) (yardOf (r .head) seats′ rows holders)
+      (ap (λ (l : List Seat). out (r .answer) (r .head) l rows holders) b
+      ∙ ap (λ (x : Turned). out (x .answer) (x .head) (each (λ i s. markStep (x .marks) s i) seats) rows holders)
+      (m
+      ∙ ap (λ (x : Seat). turned h fault ranking free x) s
+      ∙ ap (λ (j : ℕ). turned h fault ranking j (getD seats j cleared)) f
+      ∙ ap (λ (x : Ranking). turned h fault x (freeOf h x) (getD seats (freeOf h x) cleared)) k)
+      ∙ round-turns h seats rows holders fault e)
+      was t n g c
 
   -- ---- looks
   pub scarcest-is : (was : Told) (a : Answer) (t : Told) (n : ℕ) → ((s : Seat) → paper a ≡ scarcestOf (length seats) (around h s rows holders) .answer)

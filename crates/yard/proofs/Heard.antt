@@ -2,16 +2,17 @@
 use mathlib.Core.Path.{_≡_, refl}
 use mathlib.Core.Bool.{Bool, true, false, cond, _&&_}
 use mathlib.Core.List.{List}
-use Prim.Native.Nat.{ℕ}
+use Prim.Native.Nat.{ℕ, _+_}
 use lib.Dec.{eqb, ltb}
 use lib.ListN.{length}
+use Rattle.refusal.specs.Limits.{mostSent}
 use Rattle.refusal.specs.Paper.{Outcome, taken, refused}
 use Rattle.peer_wire.specs.Message.{Message, keepalive, choke, unchoke, interested, notInterested, have, bitfield, request, piece, cancel, other}
 use Rattle.peer_wire.specs.Frames.{Found, wait, found, readOf, meant}
 use Rattle.yard_tables.specs.Rows.{width, bitAt, withBit, withBits}
 use Rattle.yard_tables.specs.Seats.{on, counted}
 use Rattle.yard_tables.specs.Tables.{Said, Around, Turn, sizesFit}
-use Rattle.yard_tables.specs.Frames.{overTop, announced, announce, haveOf, spareSet, bitfieldOf, blockFits, blockOf, messageOf, frameOf, feedOf}
+use Rattle.yard_tables.specs.Frames.{overTop, announced, announce, haveOf, spareSet, bitfieldOf, blockFits, blockOf, pieceOf, messageOf, frameOf, feedOf}
 
 -- the head after a turn is the head before it with the seats complete
 pub record Same (x : Around) (t : Turn) : Type 0 where
@@ -46,6 +47,15 @@ module _ (n i : ℕ) (x : Around) where
   block-same p begin len a =
       either (ltb p (x .head .pieces)) (either (blockFits (x .head) p begin len) (record { head = refl }) (record { head = refl })) (record { head = refl })
 
+  piece-same : (p begin len bytes : ℕ) → Same x (pieceOf p begin len bytes x)
+  unfolding pieceOf
+  piece-same p begin len bytes =
+      either (ltb p (x .head .pieces))
+      (either (blockFits (x .head) p begin len)
+      (either (ltb mostSent (x .seat .bytes + len)) (record { head = refl }) (record { head = refl }))
+      (record { head = refl }))
+      (record { head = refl })
+
   message-same : (bytes : ℕ) (m : Message (List ℕ)) → Same x (messageOf n i bytes m x)
   unfolding messageOf
   message-same bytes keepalive = record { head = refl }
@@ -56,7 +66,7 @@ module _ (n i : ℕ) (x : Around) where
   message-same bytes (have p) = have-same bytes p
   message-same bytes (bitfield bits) = bitfield-same bytes bits
   message-same bytes (request p b l) = block-same p b l _
-  message-same bytes (piece p b block) = block-same p b (length block) _
+  message-same bytes (piece p b block) = piece-same p b (length block) bytes
   message-same bytes (cancel p b l) = block-same p b l _
   message-same bytes (other id payload) = record { head = refl }
 

@@ -10,7 +10,8 @@ use lib.Dec.{eqb, ltb, leb}
 use lib.ListN.{length, getD, replicate, length-set}
 use lib.Seq.{length-sets}
 use Rattle.refusal.specs.Paper.{Outcome, taken, refused}
-use Rattle.refusal.specs.Numbers.{late, beyond, bitfield, spare, outside, full, seat, room}
+use Rattle.refusal.specs.Numbers.{late, beyond, bitfield, spare, outside, full, seat, room, damaged}
+use Rattle.refusal.specs.Limits.{mostSent}
 use Rattle.refusal.specs.declared.Part.{Part}
 use Rattle.refusal.proofs.Cases.{by-test, cannot, and-not, or-none, or-first}
 use Rattle.peer_wire.specs.Message.{Message, keepalive, choke, unchoke, interested, notInterested, have, request, piece, cancel, other}
@@ -19,11 +20,11 @@ use Rattle.peer_wire.specs.Frames.{Found, found, readOf, meant}
 use Rattle.peer_wire.specs.Frames.{wait as more}
 use Rattle.yard_tables.specs.Counting.{bit, count, some, each}
 use Rattle.yard_tables.specs.Rows.{width, hasIn, rowOf, orBytes, withBit, withBits, withoutBits}
-use Rattle.yard_tables.specs.Seats.{on, cleared, holding, spoken}
+use Rattle.yard_tables.specs.Seats.{on, cleared, holding, having, spoken}
 use Rattle.yard_tables.specs.Seats.{weChoke as chokeMark, weWant as wantMark}
 use Rattle.yard_tables.specs.Tables.{Yard, Said, wait, done, used, serve, dropped, wrote, Around, Turn, Out, around, refuse, says, sized, sitting, atSeat, sizesFit}
 use Rattle.yard_tables.specs.Tables.{seated as givesSeat}
-use Rattle.yard_tables.specs.Frames.{isNew, gain, completes, overTop, announce, haveOf, spareSet, bitfieldOf, blockOf, requested, messageOf, frameOf, feedOf}
+use Rattle.yard_tables.specs.Frames.{isNew, gain, completes, overTop, announce, haveOf, spareSet, bitfieldOf, blockOf, pieceOf, requested, messageOf, frameOf, feedOf}
 use Rattle.yard_tables.specs.Frames.{announced as announcedIn}
 use Rattle.yard_tables.specs.Seating.{seatedAt, sitOf, atZero, left, leaveOf, markOf}
 use Rattle.yard_tables.specs.Step.{Call, sit, leave, feed, interest}
@@ -35,13 +36,13 @@ use Rattle.yard_tables.proofs.Counts.{count-ext, count-none, count-le, count-ha
 use Rattle.yard_tables.proofs.Rows.{bit-here, bit-other, bits-here, bits-other, none-here, none-other}
 use Rattle.yard_tables.proofs.Sizing.{Fitting, fitting}
 use Rattle.yard_tables.proofs.Sweeps.{length-each, getD-each}
-use Rattle.yard_laws.specs.History.{History, Fixed, entry, Event, nothing, came, gone, heard, weChoke, weWant, event, announces, seated, announced, fresh, weAreChoking, theyAreInterested, pieces, Sizes, sizesWith, seatedBy, announcedBy}
+use Rattle.yard_laws.specs.History.{History, Fixed, entry, Event, nothing, came, gone, heard, weChoke, weWant, event, sortOf, announces, seated, announced, fresh, weAreChoking, theyAreInterested, sent, blockBytes, pieces, phase, still, freePlace, turnOf, seatedBy, announcedBy, freeBy}
 use Rattle.yard_laws.specs.Says.{hasPiece, held, loaded, recordOf, holders, takenSeats, completeSeats, headOf}
 use Rattle.torrent_blocks.specs.Answers.{lies}
 use Rattle.yard_laws.specs.View.{byHistory}
 use Rattle.yard_laws.specs.Expected.{no, sitsBy, blockBy, requestBy, messageBy, frameBy, markBy}
 use Rattle.yard_laws.proofs.Loading.{all-held}
-use Rattle.yard_laws.proofs.Agreeing.{Agrees, One, Becomes, at, putBack, hasThen, heldThen, loadedThen, recordThen, change-agrees, quiet-back, counted-fits}
+use Rattle.yard_laws.proofs.Agreeing.{Agrees, One, Becomes, at, putBack, hasThen, heldThen, loadedThen, recordThen, freeAfter, change-agrees, quiet-back, head-fits}
 
 -- ---- tests
 
@@ -75,7 +76,7 @@ module _ (fixed : Fixed) (h : History) (y : Yard) (agrees : Agrees fixed h y) wh
 
   -- what a call c at seat i may come to: nothing happens, or an event at that seat
   pub data Good (c : Call) (w : List ℕ) (i : ℕ) : Turn → Outcome Said → Type 0 where
-    unchanged : (a : Outcome Said) → ((j : ℕ) → event j (entry c a w) ≡ nothing) → ((z : Sizes) → sizesWith (entry c a w) z ≡ z)
+    unchanged : (a : Outcome Said) → ((j : ℕ) → event j (entry c a w) ≡ nothing) → phase (entry c a w) ≡ still
         → Good c w i (record { answer = a; after = at fixed h y agrees i }) a
     changed : (v : Event) (a : Outcome Said) (x : Around) → i < n → One (entry c a w) i v → Becomes fixed h y agrees v i x → Good c w i (record { answer = a; after = x }) a
 
@@ -95,11 +96,11 @@ module _ (fixed : Fixed) (h : History) (y : Yard) (agrees : Agrees fixed h y) wh
       (kept c w i _ e g)
 
   pub refuses : (c : Call) (w : List ℕ) (i number : ℕ) → Good c w i (refuse number (at fixed h y agrees i)) (no number)
-  unfolding event sizesWith
-  refuses c w i number = unchanged (refused number 0) (λ j. refl) (λ z. refl)
+  unfolding event phase
+  refuses c w i number = unchanged (refused number 0) (λ j. refl) refl
 
   fits-here : sizesFit (headOf fixed h) n (length (y .rows)) (length (y .holders)) ≡ true
-  fits-here = counted-fits fixed h y agrees (takenSeats fixed h) (completeSeats fixed h)
+  fits-here = head-fits fixed h y agrees (takenSeats fixed h) (completeSeats fixed h) (headOf fixed h .round) (headOf fixed h .free) (headOf fixed h .last)
 
   pub sizes-here : Fitting (headOf fixed h) n (length (y .rows)) (length (y .holders))
   sizes-here = fitting (headOf fixed h) n (length (y .rows)) (length (y .holders)) fits-here
@@ -126,22 +127,32 @@ module _ (fixed : Fixed) (h : History) (y : Yard) (agrees : Agrees fixed h y) wh
   then-held : (v : Event) (i : ℕ) → loadedThen v h i ≡ (seatedBy v (seated h i) && eqb (heldThen v h i) (pieces h))
   then-held v i = all-held (seatedBy v (seated h i)) (λ p. announcedBy v p (announced h i p)) (pieces h)
 
+  -- an event that leaves its seat the free place leaves the free place
+  still-free : (v : Event) (i : ℕ) → ((after k : ℕ) → freeBy v after k ≡ k) → freePlace fixed h ≡ freeAfter fixed v h i
+  still-free v i e = by-test (λ (k : ℕ). freePlace fixed h ≡ k) (eqb (freePlace fixed h) i) (λ q. sym (e (turnOf fixed h (freePlace fixed h)) (freePlace fixed h))) (λ q. refl)
+
   -- ---- an event that leaves who sits there, and what he has
-  steady : (v : Event) (i : ℕ) (s : Seat) → i < n → seatedBy v (seated h i) ≡ seated h i → ((p : ℕ) → hasThen v h i p ≡ hasPiece h i p)
-      → s ≡ holding (held h i) (recordThen v h i) → Becomes fixed h y agrees v i (around (headOf fixed h) s (y .rows) (y .holders))
-  steady v i s l a b e =
+  steady : (v : Event) (i : ℕ) (s : Seat) → i < n → ((after k : ℕ) → freeBy v after k ≡ k) → seatedBy v (seated h i) ≡ seated h i → ((p : ℕ) → hasThen v h i p ≡ hasPiece h i p)
+      → s ≡ holding (held h i) (recordThen fixed v h i) → Becomes fixed h y agrees v i (around (headOf fixed h) s (y .rows) (y .holders))
+  steady v i s l free a b e =
       let k : held h i ≡ heldThen v h i = count-ext (hasPiece h i) (hasThen v h i) (pieces h) (λ p q. sym (b p)) in
       record {
         head-by = refl;
+        free-by = still-free v i free;
         taken-by = ap (λ (t : Bool). takenSeats fixed h + bit t) (sym a);
         complete-by = ap (λ (t : Bool). completeSeats fixed h + bit t) (all-held (seated h i) (announced h i) (pieces h) ∙ ap₂ (λ (t : Bool) (m : ℕ). t && eqb m (pieces h)) (sym a) k ∙ sym (then-held v i));
-        seat-by = e ∙ ap (λ (m : ℕ). holding m (recordThen v h i)) k;
+        seat-by = e ∙ ap (λ (m : ℕ). holding m (recordThen fixed v h i)) k;
         rows-len = refl;
         row-here = λ p q. agrees .row-is i p l q ∙ sym (b p);
         row-other = λ j p d q. refl;
         holders-len = refl;
         holders-by = λ p q. ap₂ (λ (m : ℕ) (t : Bool). m + bit t) (agrees .holders-is p q) (sym (b p));
       }
+
+  -- a message that sends no block leaves the bytes of blocks
+  no-block : (i k : ℕ) (m : Message (List ℕ)) → blockBytes (sortOf m) ≡ 0
+      → holding k (having (sent h i) (recordThen fixed (heard m) h i)) ≡ holding k (recordThen fixed (heard m) h i)
+  no-block i k m e = let q : sent h i ≡ sent h i + blockBytes (sortOf m) = omega (arith, e) in ap (λ (b : ℕ). holding k (having b (recordThen fixed (heard m) h i))) q
 
   -- ---- a truck announces pieces, by a have or a bitfield
   module _ (m : Message (List ℕ)) (i : ℕ) (l : i < n) (sat : seated h i ≡ true) where
@@ -193,7 +204,7 @@ module _ (fixed : Fixed) (h : History) (y : Yard) (agrees : Agrees fixed h y) wh
         go a (suc b) q = let p : ltb 0 (suc b) ≡ true = lt-ltb 0 (suc b) (omega arith) in rw (p, ne-eqb a (pieces h) (λ r. omega arith)) (omega arith)
 
     announced-good : (c : Call) (w : List ℕ) (bytes : ℕ) (rows : List ℕ) → One (entry c (taken (used bytes)) w) i (heard m)
-        → holding (held h i + more-pieces) (spoken (recordOf h i)) ≡ holding (held h i + more-pieces) (recordThen (heard m) h i)
+        → holding (held h i + more-pieces) (spoken (recordOf fixed h i)) ≡ holding (held h i + more-pieces) (recordThen fixed (heard m) h i)
         → length rows ≡ length (y .rows)
         → ((p : ℕ) → p < pieces h → hasIn (width (pieces h)) rows i p ≡ (hasIn (width (pieces h)) (y .rows) i p || announces m p))
         → ((j p : ℕ) → j ≢ i → p < pieces h → hasIn (width (pieces h)) rows j p ≡ hasIn (width (pieces h)) (y .rows) j p)
@@ -203,9 +214,10 @@ module _ (fixed : Fixed) (h : History) (y : Yard) (agrees : Agrees fixed h y) wh
         (λ a. cannot _ below-top a)
         (λ a. changed (heard m) (taken (used bytes)) (announcedIn i (announces m) rows (at fixed h y agrees i)) l one record {
           head-by = refl;
+          free-by = still-free (heard m) i (λ after k. refl);
           taken-by = refl;
           complete-by = omega (arith, completes-is);
-          seat-by = marks ∙ ap (λ (k : ℕ). holding k (recordThen (heard m) h i)) held-more;
+          seat-by = marks ∙ ap (λ (k : ℕ). holding k (recordThen fixed (heard m) h i)) held-more;
           rows-len = size;
           row-here = λ p q. here p q ∙ ap (λ (b : Bool). b || announces m p) (agrees .row-is i p l q) ∙ sym (spread (seated h i) (announced h i p) (announces m p) sat);
           row-other = others;
@@ -221,42 +233,42 @@ module _ (fixed : Fixed) (h : History) (y : Yard) (agrees : Agrees fixed h y) wh
   -- a taken frame means its message, for its seat
   frame-one : (i : ℕ) (s : List ℕ) (w : List ℕ) (m : Message Part) (bytes : ℕ) (a : Said) → readOf s ≡ taken (found m bytes)
       → One (entry (feed i s) (taken a) w) i (heard (meant s m))
-  unfolding event sizesWith
+  unfolding event phase
   frame-one i s w m bytes a e = record {
     here = rw (eq-eqb i i refl, e);
     others = λ j d. rw (ne-eqb j i d);
-    sizes-same = λ z. refl;
+    still-so = refl;
   }
 
   module _ (c : Call) (w : List ℕ) (i : ℕ) (l : i < n) (sat : seated h i ≡ true) (bytes : ℕ) where
     -- a message that announces nothing
     silent : (m : Message (List ℕ)) (s : Seat) (a : Said) → One (entry c (taken a) w) i (heard m) → ((p : ℕ) → announces m p ≡ false)
-        → s ≡ holding (held h i) (recordThen (heard m) h i) → Good c w i (says a (around (headOf fixed h) s (y .rows) (y .holders))) (taken a)
+        → s ≡ holding (held h i) (recordThen fixed (heard m) h i) → Good c w i (says a (around (headOf fixed h) s (y .rows) (y .holders))) (taken a)
     silent m s a one none marks = changed (heard m) (taken a) _ l one
-        (steady (heard m) i s l refl (λ p. rw (none p) (ap (λ (b : Bool). seated h i && b) (or-first (announced h i p) false refl))) marks)
+        (steady (heard m) i s l (λ after k. refl) refl (λ p. rw (none p) (ap (λ (b : Bool). seated h i && b) (or-first (announced h i p) false refl))) marks)
 
     block-good : (m : Message (List ℕ)) (p b k : ℕ) (a : Said) → One (entry c (taken a) w) i (heard m) → ((p : ℕ) → announces m p ≡ false)
-        → spoken (recordOf h i) ≡ holding (held h i) (recordThen (heard m) h i)
+        → spoken (recordOf fixed h i) ≡ holding (held h i) (recordThen fixed (heard m) h i)
         → Good c w i (blockOf p b k a (at fixed h y agrees i)) (blockBy (byHistory fixed h) p b k a)
     unfolding blockOf
     block-good m p b k a one none marks = by-same (Good c w i) (ltb p (pieces h))
-        (λ _. by-same (Good c w i) (lies (byHistory fixed h .longs p) b k) (λ _. silent m (spoken (recordOf h i)) a one none marks) (λ _. refuses c w i outside))
+        (λ _. by-same (Good c w i) (lies (byHistory fixed h .longs p) b k) (λ _. silent m (spoken (recordOf fixed h i)) a one none marks) (λ _. refuses c w i outside))
         (λ _. refuses c w i beyond)
 
-    asked-is : requested bytes (recordOf h i) ≡ requestBy (byHistory fixed h) i bytes
-    asked-is = ap₂ (λ (a b : Bool). cond (not a && b) (serve bytes) (dropped bytes)) (on-bit (weAreChoking h i)) (on-bit (theyAreInterested h i))
+    asked-is : requested bytes (recordOf fixed h i) ≡ requestBy (byHistory fixed h) i bytes
+    asked-is = ap₂ (λ (a b : Bool). cond (not a && b) (serve bytes) (dropped bytes)) (on-bit (weAreChoking fixed h i)) (on-bit (theyAreInterested h i))
 
     message-good : (m : Message (List ℕ)) → ((a : Said) → One (entry c (taken a) w) i (heard m))
         → Good c w i (messageOf n i bytes m (at fixed h y agrees i)) (messageBy (byHistory fixed h) i bytes m)
-    unfolding messageOf haveOf bitfieldOf
-    message-good keepalive one = silent keepalive _ (used bytes) (one (used bytes)) (λ p. refl) refl
-    message-good choke one = silent choke _ (used bytes) (one (used bytes)) (λ p. refl) refl
-    message-good unchoke one = silent unchoke _ (used bytes) (one (used bytes)) (λ p. refl) refl
-    message-good interested one = silent interested _ (used bytes) (one (used bytes)) (λ p. refl) refl
-    message-good notInterested one = silent notInterested _ (used bytes) (one (used bytes)) (λ p. refl) refl
+    unfolding messageOf haveOf bitfieldOf pieceOf
+    message-good keepalive one = silent keepalive _ (used bytes) (one (used bytes)) (λ p. refl) (no-block i (held h i) keepalive refl)
+    message-good choke one = silent choke _ (used bytes) (one (used bytes)) (λ p. refl) (no-block i (held h i) choke refl)
+    message-good unchoke one = silent unchoke _ (used bytes) (one (used bytes)) (λ p. refl) (no-block i (held h i) unchoke refl)
+    message-good interested one = silent interested _ (used bytes) (one (used bytes)) (λ p. refl) (no-block i (held h i) interested refl)
+    message-good notInterested one = silent notInterested _ (used bytes) (one (used bytes)) (λ p. refl) (no-block i (held h i) notInterested refl)
     message-good (have p) one = by-same (Good c w i) (ltb p (pieces h))
         (λ e. let q : p < 8 * width (pieces h) = in-row p (ltb-true p (pieces h) e) in
-        announced-good (have p) i l sat c w bytes (withBit (width (pieces h)) i p (y .rows)) (one (used bytes)) refl (length-set (y .rows) _ _)
+        announced-good (have p) i l sat c w bytes (withBit (width (pieces h)) i p (y .rows)) (one (used bytes)) (no-block i _ (have p) refl) (length-set (y .rows) _ _)
         (λ k r. bit-here (width (pieces h)) n (y .rows) (sizes-here .row) i l p k q)
         (λ j k d r. bit-other (width (pieces h)) n (y .rows) (sizes-here .row) i l p j k q (in-row k r) d))
         (λ _. refuses c w i beyond)
@@ -264,16 +276,22 @@ module _ (fixed : Fixed) (h : History) (y : Yard) (agrees : Agrees fixed h y) wh
         (λ _. by-same (Good c w i) (eqb (length b) (width (pieces h)))
         (λ _. by-same (Good c w i) (spareSet (pieces h) b)
         (λ _. refuses c w i spare)
-        (λ _. announced-good (bits b) i l sat c w bytes (withBits (width (pieces h)) i b (y .rows)) (one (used bytes)) refl (length-sets (y .rows) (i * width (pieces h)) (orBytes (rowOf (width (pieces h)) (y .rows) i) b))
+        (λ _. announced-good (bits b) i l sat c w bytes (withBits (width (pieces h)) i b (y .rows)) (one (used bytes)) (no-block i _ (bits b) refl) (length-sets (y .rows) (i * width (pieces h)) (orBytes (rowOf (width (pieces h)) (y .rows) i) b))
         (λ k r. bits-here (width (pieces h)) n (y .rows) (sizes-here .row) i l b k (in-row k r))
         (λ j k d r. bits-other (width (pieces h)) n (y .rows) (sizes-here .row) i l b j k (in-row k r) d)))
         (λ _. refuses c w i bitfield))
         (λ _. refuses c w i late)
     message-good (request p b k) one = subst (λ (a : Said). Good c w i (blockOf p b k a (at fixed h y agrees i)) (blockBy (byHistory fixed h) p b k (requestBy (byHistory fixed h) i bytes))) (sym asked-is)
-        (block-good (request p b k) p b k (requestBy (byHistory fixed h) i bytes) (one (requestBy (byHistory fixed h) i bytes)) (λ p. refl) refl)
-    message-good (piece p b block) one = block-good (piece p b block) p b (length block) (used bytes) (one (used bytes)) (λ p. refl) refl
-    message-good (cancel p b k) one = block-good (cancel p b k) p b k (used bytes) (one (used bytes)) (λ p. refl) refl
-    message-good (other id payload) one = silent (other id payload) _ (used bytes) (one (used bytes)) (λ p. refl) refl
+        (block-good (request p b k) p b k (requestBy (byHistory fixed h) i bytes) (one (requestBy (byHistory fixed h) i bytes)) (λ p. refl) (no-block i (held h i) (request p b k) refl))
+    message-good (piece p b block) one = by-same (Good c w i) (ltb p (pieces h))
+        (λ _. by-same (Good c w i) (lies (byHistory fixed h .longs p) b (length block))
+        (λ _. by-same (Good c w i) (ltb mostSent (sent h i + length block))
+        (λ _. refuses c w i damaged)
+        (λ _. silent (piece p b block) _ (used bytes) (one (used bytes)) (λ p. refl) refl))
+        (λ _. refuses c w i outside))
+        (λ _. refuses c w i beyond)
+    message-good (cancel p b k) one = block-good (cancel p b k) p b k (used bytes) (one (used bytes)) (λ p. refl) (no-block i (held h i) (cancel p b k) refl)
+    message-good (other id payload) one = silent (other id payload) _ (used bytes) (one (used bytes)) (λ p. refl) (no-block i (held h i) (other id payload) refl)
 
   cond-nothing : (b : Bool) (v : Event) → v ≡ nothing → cond b v nothing ≡ nothing
   cond-nothing true v e = e
@@ -281,9 +299,9 @@ module _ (fixed : Fixed) (h : History) (y : Yard) (agrees : Agrees fixed h y) wh
 
   frame-good : (i : ℕ) (s : List ℕ) (w : List ℕ) → i < n → seated h i ≡ true → (o : Outcome Found) → readOf s ≡ o
       → Good (feed i s) w i (frameOf n i s o (at fixed h y agrees i)) (frameBy (byHistory fixed h) i s o)
-  unfolding event sizesWith
+  unfolding event phase
   frame-good i s w l sat (refused number place) e = refuses (feed i s) w i number
-  frame-good i s w l sat (taken more) e = unchanged (taken wait) (λ j. cond-nothing (eqb j i) _ (rw e)) (λ z. refl)
+  frame-good i s w l sat (taken more) e = unchanged (taken wait) (λ j. cond-nothing (eqb j i) _ (rw e)) refl
   frame-good i s w l sat (taken (found m bytes)) e = message-good (feed i s) w i l sat bytes (meant s m) (λ a. frame-one i s w m bytes a e)
 
   pub feed-kept : (i : ℕ) (s : List ℕ) (w : List ℕ) → Kept (feed i s) w (atSeat i (feedOf i s) y) (cond (sitsBy (byHistory fixed h) i) (frameBy (byHistory fixed h) i s (readOf s)) (no seat))
@@ -294,23 +312,23 @@ module _ (fixed : Fixed) (h : History) (y : Yard) (agrees : Agrees fixed h y) wh
   -- ---- our own marks
 
   mark-good : (f : Seat → Seat) (c : Call) (w : List ℕ) (i space : ℕ) (v : Event) → One (entry c (taken (wrote 5)) w) i v
-      → seatedBy v (seated h i) ≡ seated h i → ((p : ℕ) → hasThen v h i p ≡ hasPiece h i p) → f (recordOf h i) ≡ holding (held h i) (recordThen v h i)
+      → ((after k : ℕ) → freeBy v after k ≡ k) → seatedBy v (seated h i) ≡ seated h i → ((p : ℕ) → hasThen v h i p ≡ hasPiece h i p) → f (recordOf fixed h i) ≡ holding (held h i) (recordThen fixed v h i)
       → Good c w i (markOf f space i n (at fixed h y agrees i)) (markBy (byHistory fixed h) i space)
   unfolding markOf
-  mark-good f c w i space v one a b e = sized-good c w i _ _ (sitting-good c w i _ _ (λ l sat.
-      by-same (Good c w i) (ltb space 5) (λ _. refuses c w i room) (λ _. changed v (taken (wrote 5)) _ l one (steady v i (f (recordOf h i)) l a b e))))
+  mark-good f c w i space v one free a b e = sized-good c w i _ _ (sitting-good c w i _ _ (λ l sat.
+      by-same (Good c w i) (ltb space 5) (λ _. refuses c w i room) (λ _. changed v (taken (wrote 5)) _ l one (steady v i (f (recordOf fixed h i)) l free a b e))))
 
   pub choke-kept : (i : ℕ) (b : Bool) (space : ℕ) (w : List ℕ) → Kept (chokes i b space) w (atSeat i (markOf (chokeMark b) space i) y) (markBy (byHistory fixed h) i space)
-  unfolding event sizesWith
+  unfolding event phase
   choke-kept i b space w = lift (chokes i b space) w i (markOf (chokeMark b) space i) _
       (mark-good (chokeMark b) (chokes i b space) w i space (weChoke b)
-      (record { here = rw (eq-eqb i i refl); others = λ j d. rw (ne-eqb j i d); sizes-same = λ z. refl }) refl (λ p. refl) refl)
+      (record { here = rw (eq-eqb i i refl); others = λ j d. rw (ne-eqb j i d); still-so = refl }) (λ after k. refl) refl (λ p. refl) refl)
 
   pub interest-kept : (i : ℕ) (b : Bool) (space : ℕ) (w : List ℕ) → Kept (interest i b space) w (atSeat i (markOf (wantMark b) space i) y) (markBy (byHistory fixed h) i space)
-  unfolding event sizesWith
+  unfolding event phase
   interest-kept i b space w = lift (interest i b space) w i (markOf (wantMark b) space i) _
       (mark-good (wantMark b) (interest i b space) w i space (weWant b)
-      (record { here = rw (eq-eqb i i refl); others = λ j d. rw (ne-eqb j i d); sizes-same = λ z. refl }) refl (λ p. refl) refl)
+      (record { here = rw (eq-eqb i i refl); others = λ j d. rw (ne-eqb j i d); still-so = refl }) (λ after k. refl) refl (λ p. refl) refl)
 
   -- ---- sitting down and leaving
 
@@ -327,9 +345,10 @@ module _ (fixed : Fixed) (h : History) (y : Yard) (agrees : Agrees fixed h y) wh
       let none : loadedThen came h i ≡ false = then-held came i ∙ rw (k, ne-eqb 0 (pieces h) (λ e. omega (arith, sizes-here .some))) in
       record {
         head-by = refl;
+        free-by = still-free came i (λ after k. refl);
         taken-by = rw f (omega arith);
         complete-by = rw (f, none);
-        seat-by = ap (λ (m : ℕ). holding m (recordThen came h i)) (sym k);
+        seat-by = ap (λ (m : ℕ). holding m (recordThen fixed came h i)) (sym k);
         rows-len = length-without i;
         row-here = λ p q. none-here (width (pieces h)) n (y .rows) (sizes-here .row) i l p (in-row p q);
         row-other = λ j p d q. none-other (width (pieces h)) n (y .rows) (sizes-here .row) i l j p (in-row p q) d;
@@ -339,14 +358,14 @@ module _ (fixed : Fixed) (h : History) (y : Yard) (agrees : Agrees fixed h y) wh
 
   pub sit-good : (w : List ℕ) (i : ℕ) → (i < n → seated h i ≡ false)
       → Good sit w i (sitOf i n (at fixed h y agrees i)) (cond (leb n i) (no full) (taken (givesSeat i)))
-  unfolding sitOf event sizesWith
+  unfolding sitOf event phase
   sit-good w i free = sized-good sit w i _ _ (by-same (Good sit w i) (leb n i)
       (λ _. refuses sit w i full)
       (λ e. let l : i < n = leb-false n i e in
       by-test (λ (t : Turn). Good sit w i t (taken (givesSeat i))) (leb n (takenSeats fixed h))
       (λ a. cannot _ (lt-leb n (takenSeats fixed h) (omega (arith, ap bit (free l), count-lacks (seated h) n i l))) a)
       (λ _. changed came (taken (givesSeat i)) _ l
-      (record { here = rw (eq-eqb i i refl); others = λ j d. rw (ne-eqb j i d); sizes-same = λ z. refl })
+      (record { here = rw (eq-eqb i i refl); others = λ j d. rw (ne-eqb j i d); still-so = refl })
       (came-becomes i l (free l)))))
 
   module _ (i : ℕ) (l : i < n) (sat : seated h i ≡ true) where
@@ -367,9 +386,10 @@ module _ (fixed : Fixed) (h : History) (y : Yard) (agrees : Agrees fixed h y) wh
     unfolding left
     gone-becomes = record {
       head-by = refl;
+      free-by = refl;
       taken-by = omega (arith, ap bit sat, count-has (seated h) n i l);
       complete-by = omega (arith, ap bit (loaded-seated i sat), count-has (loaded h) n i l);
-      seat-by = ap (λ (m : ℕ). holding m (recordThen gone h i)) (sym (none-then gone i (λ p. omega arith)));
+      seat-by = ap (λ (m : ℕ). holding m (recordThen fixed gone h i)) (sym (none-then gone i (λ p. omega arith)));
       rows-len = length-without i;
       row-here = λ p q. none-here (width (pieces h)) n (y .rows) (sizes-here .row) i l p (in-row p q);
       row-other = λ j p d q. none-other (width (pieces h)) n (y .rows) (sizes-here .row) i l j p (in-row p q) d;
@@ -381,10 +401,10 @@ module _ (fixed : Fixed) (h : History) (y : Yard) (agrees : Agrees fixed h y) wh
     }
 
   pub leave-kept : (i : ℕ) (w : List ℕ) → Kept (leave i) w (atSeat i (leaveOf i) y) (cond (sitsBy (byHistory fixed h) i) (taken done) (no seat))
-  unfolding leaveOf event sizesWith
+  unfolding leaveOf event phase
   leave-kept i w = lift (leave i) w i (leaveOf i) _ (sized-good (leave i) w i _ _ (sitting-good (leave i) w i _ _ (λ l sat.
       by-test (λ (t : Turn). Good (leave i) w i t (taken done)) (atZero i (at fixed h y agrees i))
       (λ a. cannot _ (none-zero i l sat) a)
       (λ _. changed gone (taken done) _ l
-      (record { here = rw (eq-eqb i i refl); others = λ j d. rw (ne-eqb j i d); sizes-same = λ z. refl })
+      (record { here = rw (eq-eqb i i refl); others = λ j d. rw (ne-eqb j i d); still-so = refl })
       (gone-becomes i l sat)))))

@@ -3,13 +3,14 @@ use mathlib.Core.Path.{_≡_, refl, sym, ap, _∙_, subst}
 use mathlib.Core.Logic.{_⊎_, inl, inr, _↔_}
 use mathlib.Core.Bool.{Bool, true, false, not, cond, _&&_, and-eq-true-iff}
 use mathlib.Core.List.{List}
-use Prim.Native.Nat.{ℕ, _*_, _≤_, _<_}
+use Prim.Native.Nat.{ℕ, _+_, _*_, _≤_, _<_}
 use native.Mathlib.Omega.{arith}
 use borrow.Author.Tests.{eq-eqb, ne-eqb, eqb-true, eqb-false, lt-ltb, le-ltb, ltb-true, ltb-false, le-leb, lt-leb, leb-true, leb-false}
 use lib.Dec.{eqb, ltb, leb}
 use lib.ListN.{length}
 use Rattle.refusal.specs.Paper.{Outcome, taken, refused}
 use Rattle.refusal.specs.Numbers.{frame, payload, beyond, outside, seat, room, damaged}
+use Rattle.refusal.specs.Limits.{mostSent}
 use Rattle.refusal.proofs.Cases.{by-test, cannot, false-if, both-true}
 use Rattle.torrent_blocks.specs.Answers.{lies}
 use Rattle.torrent_blocks.proofs.Whole.{lies-is, is-lies}
@@ -21,19 +22,19 @@ use Rattle.peer_wire.specs.Causes.{TooLong, All, Right}
 use Rattle.peer_wire.proofs.Decided.{exactly, wait-exactly, twenty-exactly, twenty-one-exactly}
 use Rattle.yard_tables.specs.Rows.{width, bitAt}
 use Rattle.yard_tables.specs.Frames.{spareSet}
-use Rattle.yard_tables.specs.Tables.{Said, wait, done, used, serve, dropped, wrote, listed, shows, holds, heldBy, scarce}
+use Rattle.yard_tables.specs.Tables.{Said, wait, done, used, serve, dropped, wrote, listed, shows, holds, heldBy, scarce, unchoked}
 use Rattle.yard_tables.specs.Tables.{seated as givesSeat}
-use Rattle.yard_tables.specs.Step.{Call, start, sit, leave, feed, interest, missing, scarcest, look, has, count}
+use Rattle.yard_tables.specs.Step.{Call, start, sit, leave, feed, interest, missing, scarcest, look, has, count, round}
 use Rattle.yard_tables.specs.Step.{choke as chokes}
 use Rattle.yard_tables.proofs.Counts.{some-one, some-every}
 use Rattle.yard_laws.specs.History.{Sizes, sizesOf}
-use Rattle.yard_laws.specs.Expected.{no, Looks, sitsBy, blockBy, requestBy, messageBy, frameBy, markBy, freeBy, answerBy}
+use Rattle.yard_laws.specs.Expected.{no, Looks, sitsBy, requestBy, messageBy, frameBy, markBy, freeBy, answerBy}
 use Rattle.yard_laws.specs.View.{View}
 use Rattle.yard_laws.specs.Causes.{SitsBy, NobodyBy, On, Marks, Says, SpeaksOf, FitsBy, CauseBy, WaitBy}
 use Rattle.yard_laws.specs.Causes.On.{leaving, feeding, choking as on-choke, wanting as on-want}
 use Rattle.yard_laws.specs.Causes.Marks.{choking, wanting}
 use Rattle.yard_laws.specs.Causes.SpeaksOf.{asked, sent, called-off}
-use Rattle.yard_laws.specs.Causes.CauseBy.{unfit, all-taken, nobody, past-list, past-look, past-has, no-room, too-long, wrong-payload, not-first, wrong-length, spare-bit, no-such-have, no-such-block, no-such-has, no-such-count, past-piece}
+use Rattle.yard_laws.specs.Causes.CauseBy.{unfit, all-taken, nobody, past-list, past-look, past-has, no-room, too-long, wrong-payload, not-first, wrong-length, spare-bit, no-such-have, no-such-block, no-such-has, no-such-count, past-piece, too-much}
 use Rattle.yard_laws.specs.Causes.WaitBy.{cut-off}
 use Rattle.yard_laws.proofs.Lowest.{lowest-is, lowest-unique}
 
@@ -78,6 +79,7 @@ IfWait (shows s) Q = Unit
 IfWait (holds b) Q = Unit
 IfWait (heldBy m) Q = Unit
 IfWait (scarce p) Q = Unit
+IfWait (unchoked m) Q = Unit
 
 -- starts decides which sizes a start may have
 module _ (v : View) (starts : Sizes → Bool) (x : Looks)
@@ -90,11 +92,18 @@ module _ (v : View) (starts : Sizes → Bool) (x : Looks)
     request-caused : (bytes : ℕ) → Caused (feed i s) (taken (requestBy v i bytes))
     request-caused bytes = by-test (λ (a : Said). Caused (feed i s) (taken a)) (not (v .choked i) && v .interested i) (λ e. tt) (λ e. tt)
 
-    block-caused : (m : Message (List ℕ)) (p b k bytes : ℕ) (a : Said) → Says s m bytes → SpeaksOf p b k m → Caused (feed i s) (taken a) → Caused (feed i s) (blockBy v p b k a)
+    -- a is the answer where the block is there
+    block-caused : (m : Message (List ℕ)) (p b k bytes : ℕ) (a : Outcome Said) → Says s m bytes → SpeaksOf p b k m → (p < v .pieces → FitsBy v p b k → Caused (feed i s) a)
+        → Caused (feed i s) (cond (ltb p (v .pieces)) (cond (lies (v .longs p) b k) a (no outside)) (no beyond))
     block-caused m p b k bytes a f o g = by-test (Caused (feed i s)) (ltb p (v .pieces))
-        (λ d. by-test (Caused (feed i s)) (lies (v .longs p) b k) (λ e. g)
+        (λ d. by-test (Caused (feed i s)) (lies (v .longs p) b k) (λ e. g (ltb-true p (v .pieces) d) (block-fits v p b k e))
         (λ e. (past-piece i s m p b k bytes here f o (ltb-true p (v .pieces) d) (λ q. cannot _ e (fits-block v p b k q)), refl)))
         (λ d. (no-such-block i s m p b k bytes here f o (ltb-false p (v .pieces) d), refl))
+
+    sent-caused : (p b : ℕ) (block : List ℕ) (bytes : ℕ) → Says s (piece p b block) bytes → p < v .pieces → FitsBy v p b (length block)
+        → Caused (feed i s) (cond (ltb mostSent (v .bytes i + length block)) (no damaged) (taken (used bytes)))
+    sent-caused p b block bytes f l d = by-test (Caused (feed i s)) (ltb mostSent (v .bytes i + length block))
+        (λ e. (too-much i s p b block bytes here f l d (ltb-true mostSent (v .bytes i + length block) e), refl)) (λ e. tt)
 
     message-caused : (m : Message (List ℕ)) (bytes : ℕ) → Says s m bytes → Caused (feed i s) (messageBy v i bytes m)
     message-caused keepalive bytes f = tt
@@ -112,9 +121,9 @@ module _ (v : View) (starts : Sizes → Bool) (x : Looks)
         (λ e. tt))
         (λ size. (wrong-length i s b bytes here f new (eqb-false (length b) (width (v .pieces)) size), refl)))
         (λ old. (not-first i s b bytes here f old, refl))
-    message-caused (request p b k) bytes f = block-caused (request p b k) p b k bytes (requestBy v i bytes) f asked (request-caused bytes)
-    message-caused (piece p b block) bytes f = block-caused (piece p b block) p b (length block) bytes (used bytes) f (sent block refl) tt
-    message-caused (cancel p b k) bytes f = block-caused (cancel p b k) p b k bytes (used bytes) f called-off tt
+    message-caused (request p b k) bytes f = block-caused (request p b k) p b k bytes (taken (requestBy v i bytes)) f asked (λ l d. request-caused bytes)
+    message-caused (piece p b block) bytes f = block-caused (piece p b block) p b (length block) bytes _ f (sent block refl) (sent-caused p b block bytes f)
+    message-caused (cancel p b k) bytes f = block-caused (cancel p b k) p b k bytes (taken (used bytes)) f called-off (λ l d. tt)
     message-caused (other id rest) bytes f = tt
 
     frame-caused : (o : Outcome Found) → readOf s ≡ o → Caused (feed i s) (frameBy v i s o)
@@ -147,6 +156,7 @@ module _ (v : View) (starts : Sizes → Bool) (x : Looks)
       (λ e. by-test (Caused (has i p)) (ltb p (v .pieces)) (λ f. tt) (λ f. (no-such-has i p (ltb-true i (v .seats) e) (ltb-false p (v .pieces) f), refl)))
       (λ e. (past-has i p (ltb-false i (v .seats) e), refl))
   caused (count p) = by-test (Caused (count p)) (ltb p (v .pieces)) (λ e. tt) (λ e. (no-such-count p (ltb-false p (v .pieces) e), refl))
+  caused round = tt
 
   -- ---- where a cause holds it is given
 
@@ -208,6 +218,8 @@ module _ (v : View) (starts : Sizes → Bool) (x : Looks)
   cause-given c number (no-such-has i p l m) = rw (lt-ltb i (v .seats) l, le-ltb p (v .pieces) m)
   cause-given c number (no-such-count p l) = rw (le-ltb p (v .pieces) l)
   cause-given c number (past-piece i s m p b k bytes here f o l d) = frame-says i s m bytes here f ∙ block-outside i bytes p b k m o l d
+  cause-given c number (too-much i s p b block bytes here f l d m) =
+      frame-says i s (piece p b block) bytes here f ∙ rw (lt-ltb p (v .pieces) l, fits-block v p b (length block) d, lt-ltb mostSent (v .bytes i + length block) m)
 
   -- ---- both directions
 
@@ -227,26 +239,3 @@ module _ (v : View) (starts : Sizes → Bool) (x : Looks)
       go : (o : Outcome Said) → answerBy v starts x c ≡ o → (a : Said) × (answerBy v starts x c ≡ taken a)
       go (taken a) e = (a, e)
       go (refused number place) e = absurd (f number (refused-exactly c number place .0 e .0))
-
-  -- 39 is never given
-  undamaged : (c : Call) (number : ℕ) → CauseBy v c number → number ≡ damaged → ⊥
-  undamaged c number (unfit p l k f) = λ e. omega arith
-  undamaged c number (all-taken f) = λ e. omega arith
-  undamaged c number (nobody d i o f) = λ e. omega arith
-  undamaged c number (past-list first space l) = λ e. omega arith
-  undamaged c number (past-look i l) = λ e. omega arith
-  undamaged c number (past-has i p l) = λ e. omega arith
-  undamaged c number (no-room d i space m here l) = λ e. omega arith
-  undamaged c number (too-long i s here t) = λ e. omega arith
-  undamaged c number (wrong-payload i s here a r) = λ e. omega arith
-  undamaged c number (not-first i s b bytes here f old) = λ e. omega arith
-  undamaged c number (wrong-length i s b bytes here f new d) = λ e. omega arith
-  undamaged c number (spare-bit i s b bytes p here f new size l m e) = λ e. omega arith
-  undamaged c number (no-such-have i s p bytes here f l) = λ e. omega arith
-  undamaged c number (no-such-block i s m p b k bytes here f o l) = λ e. omega arith
-  undamaged c number (no-such-has i p l m) = λ e. omega arith
-  undamaged c number (no-such-count p l) = λ e. omega arith
-  undamaged c number (past-piece i s m p b k bytes here f o l d) = λ e. omega arith
-
-  pub never-damaged : (c : Call) (place : ℕ) → answerBy v starts x c ≡ refused damaged place → ⊥
-  never-damaged c place e = undamaged c damaged (refused-exactly c damaged place .0 e .0) refl

@@ -5,12 +5,15 @@ use mathlib.Core.Bool.{Bool, true, false, not, cond, _&&_, _||_, and-eq-true-iff
 use mathlib.Core.List.{List}
 use Prim.Native.Nat.{ℕ, _+_, _*_, _≤_, _<_}
 use native.Mathlib.Omega.{arith}
-use borrow.Author.Tests.{eq-eqb, eqb-true, lt-ltb, ltb-true, le-leb, lt-leb, leb-true, leb-false}
+use borrow.Author.Tests.{eq-eqb, ne-eqb, eqb-true, eqb-false, lt-ltb, ltb-true, not-true, le-leb, lt-leb, leb-true, leb-false}
 use lib.Dec.{eqb, ltb, leb}
 use lib.ListN.{length, getD}
 use Rattle.refusal.specs.Paper.{Outcome, taken, refused}
 use Rattle.refusal.specs.Numbers.{frame, payload, late, beyond, bitfield, spare, outside, full, seat, room, sizes, damaged}
+use Rattle.refusal.specs.Limits.{mostSent}
 use Rattle.refusal.proofs.Cases.{by-bool, by-test, cannot, both, both-true, or-cases, false-if, less-or}
+use Rattle.torrent_blocks.specs.Covers.{Block}
+use Rattle.torrent_blocks.proofs.Whole.{lies-is, is-lies}
 use Rattle.peer_wire.specs.Message.{Message, keepalive, choke, unchoke, interested, notInterested, have, request, piece, cancel, other}
 use Rattle.peer_wire.specs.Message.{bitfield as bits}
 use Rattle.peer_wire.specs.Frames.{Found, found, readOf, meant}
@@ -22,18 +25,19 @@ use Rattle.yard_tables.specs.Counting.{count as countOf-all}
 use Rattle.yard_tables.specs.Rows.{width, bitAt, withBit, withBits}
 use Rattle.yard_tables.specs.Seats.{on, cleared, weChoke, weWant}
 use Rattle.yard_tables.specs.Tables.{Yard, Said, used, Around, around, Turn, Out, refuse, sized, sitting, sizesFit}
-use Rattle.yard_tables.specs.Frames.{isNew, gain, completes, overTop, announce, haveOf, spareSet, bitfieldOf, blockFits, blockOf, requested, messageOf, frameOf, feedOf}
+use Rattle.yard_tables.specs.Frames.{isNew, gain, completes, overTop, announce, haveOf, spareSet, bitfieldOf, blockFits, blockOf, pieceSize, pieceOf, requested, messageOf, frameOf, feedOf}
+use Rattle.yard_tables.specs.Rounds.{nobody, misplaced, roundOf}
 use Rattle.yard_tables.specs.Seating.{startOf, lowestFree, sitOf, atZero, leaveOf, markOf}
 use Rattle.yard_tables.specs.Looks.{scarcestOf, hasOf, countOf}
 use Rattle.yard_tables.specs.Looks.{seatOf as lookOf}
-use Rattle.yard_tables.specs.Step.{Call, start, sit, leave, feed, interest, missing, scarcest, look, has, count, step}
+use Rattle.yard_tables.specs.Step.{Call, start, sit, leave, feed, interest, missing, scarcest, look, has, count, round, step}
 use Rattle.yard_tables.specs.Step.{choke as chokes}
 use Rattle.yard_tables.specs.declared.Seat.{Seat}
 use Rattle.yard_laws.specs.History.{sizesOf}
 use Rattle.yard_laws.specs.Causes.{Says}
 use Rattle.yard_tables.proofs.Counts.{count-none, count-has, some-one, some-every}
 use Rattle.yard_laws.specs.Damage.{Fit, Unfit, seatOf, Taken, Free, inRow, Announces, by-have, by-bitfield, New, gained, Damaged}
-use Rattle.yard_laws.specs.Damage.Damaged.{taken-top, taken-zero, complete-top, complete-zero, holders-top, holders-zero, held-top}
+use Rattle.yard_laws.specs.Damage.Damaged.{taken-top, taken-zero, complete-top, complete-zero, holders-top, holders-zero, held-top, bytes-top, number-over, free-nowhere, last-nowhere}
 use Rattle.yard_laws.proofs.Starting.{fitsFor, sized-fits, fits-sized}
 use Rattle.yard_laws.proofs.Lowest.{free-lowest}
 
@@ -96,11 +100,7 @@ module _ (y : Yard) where
 
   module _ (i : ℕ) (said : ℕ → Bool) where
     new-is : (p : ℕ) → p < pieces → isNew i said (seatAt i) p ≡ true → New y i said p
-    new-is p l e = let q = both (said p) (not (inRow y i p)) e in record { there = l; told = q .0; lacked = not-is (inRow y i p) (q .1) }
-      where
-        not-is : (b : Bool) → not b ≡ true → b ≡ false
-        not-is true e = sym e
-        not-is false e = refl
+    new-is p l e = let q = both (said p) (not (inRow y i p)) e in record { there = l; told = q .0; lacked = not-true (inRow y i p) (q .1) }
 
     is-new : (p : ℕ) → New y i said p → isNew i said (seatAt i) p ≡ true
     is-new p w = both-true (said p) (not (inRow y i p)) (w .told) (ap not (w .lacked))
@@ -191,6 +191,35 @@ module _ (y : Yard) where
   pub free-some : (i : ℕ) → Free y i → lowestFree (y .seats) < n
   free-some i f = less-or (lowestFree (y .seats)) n (λ l. l) (λ l. cannot _ (f .1) (free-lowest (y .seats) .below i (omega (arith, f .0))))
 
+  -- ---- the test of a round: its number, the free place and the last one
+
+  abbrev numberTest : Bool
+  numberTest = ltb 2 (y .head .round)
+
+  abbrev freeTest : Bool
+  freeTest = not (eqb (y .head .free) nobody) && leb n (y .head .free)
+
+  pub misplaced-is : Fit y → misplaced (y .head) n ≡ true → Damaged y round
+  unfolding misplaced
+  misplaced-is fit e = first (or-cases _ _ e)
+    where
+      second : (freeTest ≡ true) ⊎ (leb n (y .head .last) ≡ true) → Damaged y round
+      second (inl e) =
+          let q = both (not (eqb (y .head .free) nobody)) (leb n (y .head .free)) e in
+          free-nowhere fit (eqb-false (y .head .free) nobody (not-true (eqb (y .head .free) nobody) (q .0))) (leb-true n (y .head .free) (q .1))
+      second (inr e) = last-nowhere fit (leb-true n (y .head .last) e)
+
+      first : (numberTest ≡ true) ⊎ (freeTest || leb n (y .head .last) ≡ true) → Damaged y round
+      first (inl e) = number-over fit (ltb-true 2 (y .head .round) e)
+      first (inr e) = second (or-cases _ _ e)
+
+  is-misplaced : (2 < y .head .round) ⊎ (((y .head .free ≡ nobody → ⊥) × (n ≤ y .head .free)) ⊎ (n ≤ y .head .last)) → misplaced (y .head) n ≡ true
+  unfolding misplaced
+  is-misplaced (inl l) = or-one numberTest _ (lt-ltb 2 (y .head .round) l)
+  is-misplaced (inr (inl (f, l))) = or-other numberTest _ (or-one freeTest _
+      (both-true _ _ (ap not (ne-eqb (y .head .free) nobody f)) (le-leb n (y .head .free) l)))
+  is-misplaced (inr (inr l)) = or-other numberTest _ (or-other freeTest _ (le-leb n (y .head .last) l))
+
   -- ---- a refusal by 38 or 39 has its cause
 
   abbrev Told : Call → Outcome Said → Type 0
@@ -221,6 +250,17 @@ module _ (y : Yard) where
         (λ d. by-test (Tells (feed i s)) (blockFits (y .head) p b k) (λ e. tt) (λ e. plain (feed i s) outside (omega arith)))
         (λ d. plain (feed i s) beyond (omega arith))
 
+    piece-tells : (p b : ℕ) (block : List ℕ) (bytes : ℕ) → Says s (piece p b block) bytes → Tells (feed i s) (pieceOf p b (length block) bytes (seatAt i))
+    unfolding pieceOf
+    piece-tells p b block bytes f = by-test (Tells (feed i s)) (ltb p (y .head .pieces))
+        (λ d. by-test (Tells (feed i s)) (blockFits (y .head) p b (length block))
+        (λ e. by-test (Tells (feed i s)) (ltb mostSent (seatOf y i .bytes + length block))
+        (λ m. damage (feed i s) (bytes-top i s p b block bytes fit here f (ltb-true p (y .head .pieces) d) (lies-is (pieceSize (y .head) p) b (length block) e)
+        (ltb-true mostSent (seatOf y i .bytes + length block) m)))
+        (λ m. tt))
+        (λ e. plain (feed i s) outside (omega arith)))
+        (λ d. plain (feed i s) beyond (omega arith))
+
     announce-tells : (bytes : ℕ) (said : ℕ → Bool) (rows : List ℕ) → Announces y i s said → Tells (feed i s) (announce n i bytes said rows (seatAt i))
     announce-tells bytes said rows a = by-test (Tells (feed i s)) (overTop n i said (seatAt i)) (λ e. damage (feed i s) (over-is i said s fit here a e)) (λ e. tt)
 
@@ -242,7 +282,7 @@ module _ (y : Yard) where
         (λ size. plain (feed i s) bitfield (omega arith)))
         (λ old. plain (feed i s) late (omega arith))
     message-tells (request p b k) bytes f = block-tells p b k (requested bytes (getD (y .seats) i cleared))
-    message-tells (piece p b block) bytes f = block-tells p b (length block) (used bytes)
+    message-tells (piece p b block) bytes f = piece-tells p b block bytes f
     message-tells (cancel p b k) bytes f = block-tells p b k (used bytes)
     message-tells (other id payload) bytes f = tt
 
@@ -260,7 +300,7 @@ module _ (y : Yard) where
   mark-tells c f space i u = sized-tells c i _ u (λ fit. sitting-tells c i _ (λ here. by-test (Tells c) (ltb space 5) (λ e. plain c room (omega arith)) (λ e. tt)))
 
   tells : (c : Call) → Told c (step c y .answer)
-  unfolding step startOf sitOf leaveOf feedOf scarcestOf lookOf hasOf countOf
+  unfolding step startOf sitOf leaveOf feedOf scarcestOf lookOf hasOf countOf roundOf
   tells (start p l k) = by-test (λ (o : Out). Told (start p l k) (o .answer)) (fitsFor (sizesOf p l k) y) (λ e. tt)
       (λ e. (refl, λ q. absurd (omega arith), λ q f. cannot _ e (sized-fits (sizesOf p l k) y f)))
   tells sit = sized-tells sit (lowestFree (y .seats)) _ (λ f. f) (λ fit. by-test (Tells sit) (leb n (lowestFree (y .seats))) (λ e. plain sit full (omega arith))
@@ -277,6 +317,9 @@ module _ (y : Yard) where
   tells (has i p) = sized-tells (has i p) i _ (λ f. f) (λ fit. by-test (Tells (has i p)) (ltb i n)
       (λ d. by-test (Tells (has i p)) (ltb p (y .head .pieces)) (λ e. tt) (λ e. plain (has i p) beyond (omega arith))) (λ d. plain (has i p) seat (omega arith)))
   tells (count p) = sized-tells (count p) 0 _ (λ f. f) (λ fit. by-test (Tells (count p)) (ltb p (y .head .pieces)) (λ e. tt) (λ e. plain (count p) beyond (omega arith)))
+  tells round = by-test (λ (o : Out). Told round (o .answer)) fits
+      (λ e. by-test (λ (o : Out). Told round (o .answer)) (misplaced (y .head) n) (λ d. damage round (misplaced-is (fit-is e) d)) (λ d. tt))
+      (λ e. (refl, λ q. absurd (omega arith), λ q f. cannot _ e (is-fit f)))
 
   -- ---- where a cause of 38 holds it is given
 
@@ -284,7 +327,7 @@ module _ (y : Yard) where
   unsized i t f = ap (λ (b : Bool). cond b t (refuse sizes (seatAt i)) .answer) (false-if fits (λ e. f (fit-is e)))
 
   pub unfit-given : (c : Call) → Unfit y c → step c y .answer ≡ refused sizes 0
-  unfolding step startOf sitOf leaveOf feedOf markOf scarcestOf lookOf hasOf countOf
+  unfolding step startOf sitOf leaveOf feedOf markOf scarcestOf lookOf hasOf countOf roundOf
   unfit-given (start p l k) f = rw (false-if (fitsFor (sizesOf p l k) y) (λ e. f (fits-sized (sizesOf p l k) y e)))
   unfit-given sit f = unsized (lowestFree (y .seats)) _ f
   unfit-given (leave i) f = unsized i _ f
@@ -296,6 +339,7 @@ module _ (y : Yard) where
   unfit-given (look i) f = unsized i _ f
   unfit-given (has i p) f = unsized i _ f
   unfit-given (count p) f = unsized 0 _ f
+  unfit-given round f = ap (λ (o : Out). o .answer) (skip fits _ _ (false-if fits (λ e. f (fit-is e))))
 
   -- ---- and of 39
 
@@ -333,6 +377,21 @@ module _ (y : Yard) where
   unfolding step leaveOf
   zero-given i fit here e = ap (λ (t : Turn). t .answer) (sized-to i _ fit ∙ sitting-to i _ here ∙ pick (atZero i (seatAt i)) _ _ e)
 
+  -- a piece that brings too many bytes
+  sent-given : (i : ℕ) (s : List ℕ) (p b : ℕ) (block : List ℕ) (bytes : ℕ) → Fit y → Taken y i → Says s (piece p b block) bytes → p < pieces
+      → Block (pieceSize (y .head) p) b (length block) → mostSent < seatOf y i .bytes + length block → step (feed i s) y .answer ≡ refused damaged 0
+  unfolding messageOf pieceOf
+  sent-given i s p b block bytes fit here f l d m =
+      heard-as i s (piece p b block) bytes fit here f
+      ∙ ap (λ (t : Turn). t .answer) (pick (ltb p pieces) _ _ (lt-ltb p pieces l)
+      ∙ pick (blockFits (y .head) p b (length block)) _ _ (is-lies (pieceSize (y .head) p) b (length block) d)
+      ∙ pick (ltb mostSent (seatOf y i .bytes + length block)) _ _ (lt-ltb mostSent (seatOf y i .bytes + length block) m))
+
+  -- a round that finds no place to go on from
+  misplaced-given : Fit y → misplaced (y .head) n ≡ true → step round y .answer ≡ refused damaged 0
+  unfolding step roundOf
+  misplaced-given fit e = ap (λ (o : Out). o .answer) (pick fits _ _ (is-fit fit) ∙ pick (misplaced (y .head) n) _ _ e)
+
   pub damage-given : (c : Call) → Damaged y c → step c y .answer ≡ refused damaged 0
   unfolding step sitOf
   damage-given c (taken-top i fit f m) = ap (λ (t : Turn). t .answer)
@@ -343,6 +402,10 @@ module _ (y : Yard) where
   damage-given c (holders-top i s said p fit here a w l) = over-given i s said fit here a (holders-over i said p w l)
   damage-given c (holders-zero i p fit here l e f) = zero-given i fit here (is-zero i (inr (inr (p, l, e, f))))
   damage-given c (held-top i s said p fit here a w l) = over-given i s said fit here a (held-over i said p w l)
+  damage-given c (bytes-top i s p b block bytes fit here f l d m) = sent-given i s p b block bytes fit here f l d m
+  damage-given c (number-over fit l) = misplaced-given fit (is-misplaced (inl l))
+  damage-given c (free-nowhere fit f l) = misplaced-given fit (is-misplaced (inr (inl (f, l))))
+  damage-given c (last-nowhere fit l) = misplaced-given fit (is-misplaced (inr (inr l)))
 
   -- ---- both directions
 

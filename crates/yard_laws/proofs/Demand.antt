@@ -1,13 +1,14 @@
 -- DEMAND 3, statement by statement: what is so of tables y that agree with a history h, as they do after an accepted start and any calls
 -- (`run-agrees`: Theorem.antt). Assumes nothing.
-use mathlib.Core.Path.{_≡_, sym, ap, _∙_}
+use mathlib.Core.Path.{_≡_, refl, sym, ap, _∙_}
 use mathlib.Core.Logic.{_↔_}
 use mathlib.Core.List.{List}
-use Prim.Native.Nat.{ℕ, _≤_, _<_}
+use Prim.Native.Nat.{ℕ, _+_, _≤_, _<_}
 use native.Mathlib.Omega.{arith}
 use lib.ListN.{length, getD}
 use Rattle.refusal.specs.Paper.{Outcome, taken, refused}
 use Rattle.refusal.specs.Numbers.{damaged}
+use Rattle.refusal.specs.Limits.{mostSent}
 use Rattle.refusal.proofs.Cases.{both}
 use Rattle.yard_tables.specs.Counting.{count, Least}
 use Rattle.yard_tables.proofs.Counts.{count-le, count-sub}
@@ -17,7 +18,7 @@ use Rattle.yard_tables.specs.Tables.{Yard, Said, wait, serve, dropped, scarce, 
 use Rattle.yard_tables.specs.Step.{Call, sit, scarcest, step, written}
 use Rattle.yard_tables.specs.declared.Head.{Head}
 use Rattle.yard_tables.specs.declared.Seat.{Seat}
-use Rattle.yard_laws.specs.History.{History, Fixed, seated, announced, pieces}
+use Rattle.yard_laws.specs.History.{History, Fixed, seated, announced, pieces, blockIn, cameIn}
 use Rattle.yard_laws.specs.Says.{hasPiece, loaded, allOf, holders, Lowest}
 use Rattle.yard_laws.specs.Expected.{answer}
 use Rattle.yard_laws.specs.Causes.{Sits, Cause, WaitCause, Serves, Drops}
@@ -25,8 +26,9 @@ use Rattle.yard_laws.specs.Given.{Gives, seats, picks, Writes}
 use Rattle.yard_laws.specs.Damage.{Fit, Taken}
 use Rattle.yard_laws.proofs.Agreeing.{Agrees}
 use Rattle.yard_laws.proofs.Calls.{sizes-here}
+use Rattle.yard_laws.proofs.Rounds.{undamaged}
 use Rattle.yard_laws.proofs.Theorem.{answered, wrote}
-use Rattle.yard_laws.proofs.Fair.{refused-exactly, wait-exactly-when, taken-without, never-damaged as undamaged}
+use Rattle.yard_laws.proofs.Fair.{refused-exactly, wait-exactly-when, taken-without}
 use Rattle.yard_laws.proofs.Serving.{serve-exactly, drop-exactly}
 use Rattle.yard_laws.proofs.Damage.{fit-is}
 use Rattle.yard_laws.proofs.Given.{given-exactly, writes-exactly}
@@ -98,8 +100,9 @@ module _ (fixed : Fixed) (h : History) (y : Yard) (agrees : Agrees fixed h y) wh
     pub writes-right : (w : List ℕ) → written c y ≡ w ↔ Writes fixed h c w
     writes-right w = let e = wrote fixed h y agrees c in let f = writes-exactly fixed h c w in (λ q. f .0 (sym e ∙ q), λ q. e ∙ f .1 q)
 
-    pub never-damaged : (place : ℕ) → step c y .answer ≡ refused damaged place → ⊥
-    never-damaged place e = undamaged fixed h c place (sym (answered fixed h y agrees c) ∙ e)
+    -- none is refused as damaged, where fewer than 2^53 bytes of blocks came in since the last round, those of this call among them
+    pub never-damaged : cameIn h + blockIn c < mostSent → (place : ℕ) → step c y .answer ≡ refused damaged place → ⊥
+    never-damaged few place e = undamaged fixed h c damaged (fair damaged place .0 e .0) refl few
 
     -- a request is served exactly if we don't choke and they are interested
     pub serves-right : (bytes : ℕ) → step c y .answer ≡ taken (serve bytes) ↔ Serves fixed h c bytes

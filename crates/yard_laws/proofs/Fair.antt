@@ -7,7 +7,6 @@ use Prim.Native.Nat.{ℕ}
 use borrow.Author.Tests.{eq-eqb, eqb-true, le-leb, leb-true}
 use lib.Dec.{eqb, leb}
 use Rattle.refusal.specs.Paper.{taken, refused}
-use Rattle.refusal.specs.Numbers.{damaged}
 use Rattle.refusal.proofs.Cases.{both-true}
 use Rattle.torrent_blocks.specs.Rules.{pieceLength}
 use Rattle.torrent_blocks.specs.Answers.{lies}
@@ -54,9 +53,6 @@ module _ (fixed : Fixed) (h : History) where
   -- where no cause holds the call is taken
   pub taken-without : (c : Call) → ((number : ℕ) → Cause fixed h c number → ⊥) → (a : Said) × (answer fixed h c ≡ taken a)
   taken-without = caused.taken-without (byHistory fixed h) (startFits h) (looksOf fixed h) (fits-start h) (start-fits h)
-
-  pub never-damaged : (c : Call) (place : ℕ) → answer fixed h c ≡ refused damaged place → ⊥
-  never-damaged = caused.never-damaged (byHistory fixed h) (startFits h) (looksOf fixed h) (fits-start h) (start-fits h)
 
 -- a block that fits
 module _ (fixed : Fixed) (h : History) (p b k : ℕ) where

@@ -3,13 +3,14 @@ use mathlib.Core.Path.{_≡_, refl, sym, ap, _∙_, subst}
 use mathlib.Core.Logic.{_⊎_, inl, inr, _↔_}
 use mathlib.Core.Bool.{Bool, true, false, not, cond, _&&_}
 use mathlib.Core.List.{List, []}
-use Prim.Native.Nat.{ℕ, _≤_, _<_}
+use Prim.Native.Nat.{ℕ, _+_, _≤_, _<_}
 use native.Mathlib.Omega.{arith}
 use borrow.Author.Tests.{lt-ltb, le-ltb, ltb-true, ltb-false, le-leb, leb-true, leb-false, lt-leb}
 use lib.Dec.{eqb, ltb, leb}
 use lib.ListN.{length, take}
 use Rattle.refusal.specs.Paper.{Outcome, taken, refused}
-use Rattle.refusal.specs.Numbers.{late, beyond, bitfield, spare, outside, full, seat, room, sizes}
+use Rattle.refusal.specs.Numbers.{late, beyond, bitfield, spare, outside, full, seat, room, sizes, damaged}
+use Rattle.refusal.specs.Limits.{mostSent}
 use Rattle.refusal.proofs.Cases.{by-bool, no-way}
 use Rattle.torrent_blocks.specs.Answers.{lies}
 use Rattle.peer_wire.specs.Message.{Message, keepalive, choke, unchoke, interested, notInterested, have, request, piece, cancel, other, bitfield as bits}
@@ -17,9 +18,9 @@ use Rattle.peer_wire.specs.Frames.{Found, found, readOf, meant, wait as more}
 use Rattle.yard_tables.specs.Rows.{width}
 use Rattle.yard_tables.specs.Frames.{spareSet}
 use Rattle.yard_tables.specs.Tables.{Said, wait, done, used, serve, dropped, wrote, listed, scarce, seated as givesSeat}
-use Rattle.yard_tables.specs.Step.{Call, start, sit, leave, feed, interest, missing, scarcest, look, has, count, chokeFrame, interestFrame, ifTaken, choke as chokes}
+use Rattle.yard_tables.specs.Step.{Call, start, sit, leave, feed, interest, missing, scarcest, look, has, count, round, chokeFrame, interestFrame, ifTaken, choke as chokes}
 use Rattle.yard_tables.proofs.Scarce.{least-unique}
-use Rattle.yard_laws.specs.History.{History, Fixed, sizesOf, seated, fresh, weAreChoking, theyAreInterested, pieces}
+use Rattle.yard_laws.specs.History.{History, Fixed, sizesOf, seated, fresh, weAreChoking, theyAreInterested, sent, pieces}
 use Rattle.yard_laws.specs.Says.{holders, pageOf}
 use Rattle.yard_laws.specs.View.{byHistory}
 use Rattle.yard_laws.specs.Expected.{no, startFits, sitsBy, blockBy, requestBy, messageBy, frameBy, markBy, freeBy, answer, missingFrom, pageFrom, writes, output}
@@ -28,7 +29,7 @@ use Rattle.yard_laws.specs.Causes.ServesBy.{serves as answered-serve}
 use Rattle.yard_laws.specs.Causes.DropsBy.{drops as answered-drop}
 use Rattle.yard_laws.specs.Causes.Marks.{choking, wanting}
 use Rattle.yard_laws.specs.Causes.WaitBy.{cut-off}
-use Rattle.yard_laws.specs.Given.{Gives, begins, leaves, seats, waits, serves, drops, hears, marks, lists, picks, records, tells, counts, Silent, starting, sitting, leaving, hearing, picking, looking, asking, counting, Writes}
+use Rattle.yard_laws.specs.Given.{Gives, begins, leaves, seats, waits, serves, drops, hears, marks, lists, picks, records, tells, counts, turns, Silent, starting, sitting, leaving, hearing, picking, looking, asking, counting, turning, Writes}
 use Rattle.yard_laws.proofs.Lowest.{lowest-is, lowest-unique, least-some}
 use Rattle.yard_laws.proofs.Fair.{sits-then, then-sits, start-fits, fits-start, frame-says, refused-exactly, wait-exactly-when, cause-given, taken-without}
 use Rattle.yard_laws.proofs.Serving.{serve-exactly, drop-exactly}
@@ -62,6 +63,11 @@ module _ (fixed : Fixed) (h : History) where
     block-used : (p b k : ℕ) (x : Said) → blockBy (byHistory fixed h) p b k x ≡ taken a → x ≡ a
     block-used p b k x e = way (lies (byHistory fixed h .longs p) b k) x outside (inner (ltb p (pieces h)) _ beyond e .1) .1
 
+    -- a test whose one way is a refusal and whose other is an answer
+    unless : (t : Bool) (x : Said) (number : ℕ) → cond t (no number) (taken x) ≡ taken a → x ≡ a
+    unless true x number e = absurd (not-both a number 0 (sym e))
+    unless false x number e = taken-same x a e
+
     heard-used : (m : Message (List ℕ)) → Other m → messageBy (byHistory fixed h) i bytes m ≡ taken a → used bytes ≡ a
     heard-used keepalive f e = taken-same (used bytes) a e
     heard-used choke f e = taken-same (used bytes) a e
@@ -69,13 +75,10 @@ module _ (fixed : Fixed) (h : History) where
     heard-used interested f e = taken-same (used bytes) a e
     heard-used notInterested f e = taken-same (used bytes) a e
     heard-used (have p) f e = way (ltb p (pieces h)) (used bytes) beyond e .1
-    heard-used (bits b) f e = spares (spareSet (pieces h) b) (inner (eqb (length b) (width (pieces h))) _ bitfield (inner (fresh h i) _ late e .1) .1)
-      where
-        spares : (t : Bool) → cond t (no spare) (taken (used bytes)) ≡ taken a → used bytes ≡ a
-        spares true e = absurd (not-both a spare 0 (sym e))
-        spares false e = taken-same (used bytes) a e
+    heard-used (bits b) f e = unless (spareSet (pieces h) b) (used bytes) spare (inner (eqb (length b) (width (pieces h))) _ bitfield (inner (fresh h i) _ late e .1) .1)
     heard-used (request p b k) f e = absurd (f p b k refl)
-    heard-used (piece p b block) f e = block-used p b (length block) (used bytes) e
+    heard-used (piece p b block) f e =
+        unless (ltb mostSent (sent h i + length block)) (used bytes) damaged (inner (lies (byHistory fixed h .longs p) b (length block)) _ outside (inner (ltb p (pieces h)) _ beyond e .1) .1)
     heard-used (cancel p b k) f e = block-used p b k (used bytes) e
     heard-used (other id rest) f e = taken-same (used bytes) a e
 
@@ -100,7 +103,7 @@ module _ (fixed : Fixed) (h : History) where
     no-cause number k = not-both a number 0 (sym e ∙ cause-given fixed h (feed i s) number k)
 
     request-given : (p b k bytes : ℕ) → Says s (request p b k) bytes → Gives fixed h (feed i s) a
-    request-given p b k bytes f = by-bool (not (weAreChoking h i) && theyAreInterested h i)
+    request-given p b k bytes f = by-bool (not (weAreChoking fixed h i) && theyAreInterested h i)
         (λ t. same (feed i s) (serve bytes) a (sym (ap (λ (b : Bool). cond b (serve bytes) (dropped bytes)) t) ∙ is)
         (served (serve-exactly fixed h (feed i s) bytes .0 (e ∙ ap taken (sym (sym (ap (λ (b : Bool). cond b (serve bytes) (dropped bytes)) t) ∙ is))))))
         (λ t. same (feed i s) (dropped bytes) a (sym (ap (λ (b : Bool). cond b (serve bytes) (dropped bytes)) t) ∙ is)
@@ -167,6 +170,7 @@ module _ (fixed : Fixed) (h : History) where
       let w = way 0 0 a (ltb p (pieces h)) _ beyond (u .1) in
       same _ _ a (w .1) (tells i p (ltb-true i n (u .0)) (ltb-true p (pieces h) (w .0)))
   given-of (count p) a z e = let w = way 0 0 a (ltb p (pieces h)) _ beyond e in same _ _ a (w .1) (counts p (ltb-true p (pieces h) (w .0)))
+  given-of round a z e = same round _ a (taken-same _ a e) turns
 
   -- ---- and what is given is the answer
 
@@ -200,6 +204,7 @@ module _ (fixed : Fixed) (h : History) where
   given-is c a (records i l) = rw (lt-ltb i n l)
   given-is c a (tells i p l m) = rw (lt-ltb i n l, lt-ltb p (pieces h) m)
   given-is c a (counts p l) = rw (lt-ltb p (pieces h) l)
+  given-is c a turns = refl
 
   pub given-exactly : 0 < pieces h → (c : Call) (a : Said) → answer fixed h c ≡ taken a ↔ Gives fixed h c a
   given-exactly z c a = (given-of c a z, given-is c a)
@@ -220,6 +225,7 @@ module _ (fixed : Fixed) (h : History) where
   taken-writes (look i) a e = Writes.quiet _ (looking i)
   taken-writes (has i p) a e = Writes.quiet _ (asking i p)
   taken-writes (count p) a e = Writes.quiet _ (counting p)
+  taken-writes round a e = Writes.quiet _ turning
 
   output-writes : (c : Call) → Writes fixed h c (output fixed h c)
   output-writes c = go (answer fixed h c) refl
@@ -241,6 +247,7 @@ module _ (fixed : Fixed) (h : History) where
   quiet-is c (looking i) = nothing-either (answer fixed h c)
   quiet-is c (asking i p) = nothing-either (answer fixed h c)
   quiet-is c (counting p) = nothing-either (answer fixed h c)
+  quiet-is c turning = nothing-either (answer fixed h c)
 
   writes-is : (c : Call) (w : List ℕ) → Writes fixed h c w → output fixed h c ≡ w
   writes-is c w (Writes.refuses _ number k) = ap (λ (o : Outcome Said). ifTaken o (writes fixed h c)) (cause-given fixed h c number k)

@@ -1,9 +1,10 @@
 -- A keepalive says nothing, to the tables or to the history; a truck that sits is fresh until a message of it with an id is taken. Assumes nothing.
-use mathlib.Core.Path.{_≡_, refl, sym, ap, _∙_}
+use mathlib.Core.Path.{_≡_, refl, sym, ap, ap₂, _∙_}
 use mathlib.Core.Logic.{_⊎_, inl, inr, _↔_}
 use mathlib.Core.Bool.{Bool, true, false, not, _&&_}
 use mathlib.Core.List.{List, [], _∷_, _++_, List·Memᴰ as In, List·Memᴰ·head, List·Memᴰ·tail, List·Memᴰ·not-nil, List·Memᴰ·cases-cons}
 use Prim.Native.Nat.{ℕ}
+use native.Mathlib.Nat.{add-zero}
 use lib.Dec.{eqb}
 use lib.ListN.{length}
 use Rattle.refusal.specs.Paper.{Outcome, taken, refused}
@@ -12,16 +13,16 @@ use Rattle.peer_wire.specs.Message.{Message, keepalive, body}
 use Rattle.peer_wire.specs.Frames.{found, readOf}
 use Rattle.peer_wire.specs.Causes.{Zero}
 use Rattle.peer_wire.proofs.Decided.{decides}
-use Rattle.yard_tables.specs.Seats.{holding}
+use Rattle.yard_tables.specs.Seats.{holding, having}
 use Rattle.yard_tables.specs.Tables.{Yard, Said, used, Turn, says}
 use Rattle.yard_tables.specs.Frames.{messageOf, feedOf}
 use Rattle.yard_tables.specs.Step.{feed, step}
 use Rattle.yard_tables.proofs.Counts.{count-ext}
 use Rattle.yard_tables.proofs.Keeping.{put-back}
-use Rattle.yard_laws.specs.History.{Entry, History, entry, Event, nothing, came, gone, heard, weChoke, weWant, event, eventOf, seated, seatedBy, announced, announcedBy, fresh, freshBy, hasId, Spoke, pieces, Sizes, sizesSet, sizesWith, sizesAfter}
+use Rattle.yard_laws.specs.History.{Entry, History, Fixed, entry, Event, nothing, came, gone, heard, weChoke, weWant, turned, event, eventOf, seated, seatedBy, announced, announcedBy, fresh, freshBy, hasId, Spoke, pieces, sizesSet, still, phase, phaseOf, sent, roundNumber, freePlace, freeBy, turnOf, lastPlace}
 use Rattle.yard_laws.specs.Says.{recordOf}
 use Rattle.yard_laws.specs.Damage.{Fit, Taken}
-use Rattle.yard_laws.proofs.Agreeing.{recordThen, record-then}
+use Rattle.yard_laws.proofs.Agreeing.{recordThen, still-sizes, record-then}
 use Rattle.yard_laws.proofs.Damage.{seatAt, heard-at}
 
 reads : (s : List ℕ) → Zero s → readOf s ≡ taken (found keepalive 4)
@@ -53,21 +54,26 @@ module _ (h : History) (i : ℕ) (s : List ℕ) (a : Outcome Said) (w : List ℕ
       go (taken said) = by-test P (eqb j i) (λ q. rw (reads s none) y) (λ q. x)
       go (refused n p) = x
 
-  sizes-same : (z : Sizes) → sizesWith fed z ≡ z
-  unfolding sizesWith
-  sizes-same z = go a
+  still-so : phase fed ≡ still
+  unfolding phase
+  still-so = go a
     where
-      go : (o : Outcome Said) → sizesAfter (feed i s) o z ≡ z
+      go : (o : Outcome Said) → phaseOf (feed i s) o ≡ still
       go (taken said) = refl
       go (refused n p) = refl
 
-  pub keepalive-unsaid : ((j : ℕ) → recordOf (fed ∷ h) j ≡ recordOf h j) × ((j p : ℕ) → announced (fed ∷ h) j p ≡ announced h j p) × (sizesSet (fed ∷ h) ≡ sizesSet h)
-  keepalive-unsaid = (
-    λ j. record-then h fed sizes-same j (event j fed) refl
-        ∙ so-of-both (λ v. recordThen v h j ≡ recordOf h j) refl
-        (ap (λ (k : ℕ). holding k (recordOf h j)) (count-ext _ _ (pieces h) (λ p l. ap (λ (b : Bool). seated h j && b) (or-first (announced h j p) false refl)))) j,
+  pub keepalive-unsaid : (fixed : Fixed) → ((j : ℕ) → recordOf fixed (fed ∷ h) j ≡ recordOf fixed h j) × ((j p : ℕ) → announced (fed ∷ h) j p ≡ announced h j p)
+      × (sizesSet (fed ∷ h) ≡ sizesSet h) × (roundNumber (fed ∷ h) ≡ roundNumber h) × (freePlace fixed (fed ∷ h) ≡ freePlace fixed h) × (lastPlace fixed (fed ∷ h) ≡ lastPlace fixed h)
+  keepalive-unsaid fixed = (
+    λ j. record-then h fed (still-sizes h fed still-so) j (event j fed) refl fixed
+        ∙ so-of-both (λ v. recordThen fixed v h j ≡ recordOf fixed h j) refl
+        (ap₂ (λ (k b : ℕ). holding k (having b (recordOf fixed h j)))
+        (count-ext _ _ (pieces h) (λ p l. ap (λ (b : Bool). seated h j && b) (or-first (announced h j p) false refl))) (add-zero (sent h j))) j,
     λ j p. so-of-both (λ v. announcedBy v p (announced h j p) ≡ announced h j p) refl (or-first (announced h j p) false refl) j,
-    sizes-same (sizesSet h),
+    rw still-so,
+    rw still-so,
+    so-of-both (λ v. freeBy v (turnOf fixed h (freePlace fixed h)) (freePlace fixed h) ≡ freePlace fixed h) refl refl (freePlace fixed h),
+    rw still-so,
   )
 
 -- ---- fresh until a message with an id
@@ -80,6 +86,7 @@ stays-spoken gone d b e = refl
 stays-spoken (heard m) d b e = and-not (not (hasId (body m))) b (λ _. e)
 stays-spoken (weChoke c) d b e = e
 stays-spoken (weWant c) d b e = e
+stays-spoken turned d b e = e
 
 module _ (i : ℕ) where
   -- after a message with an id, nobody sitting down since
@@ -119,6 +126,7 @@ module _ (i : ℕ) where
       go (heard m) q a b k = by-bool (hasId (body m)) (λ t. just-now e h m q t) (λ t. before-it e h (λ c. no-way (cc)) (k a (ap (λ (x : Bool). not x && fresh h i) (sym t) ∙ b)))
       go (weChoke c) q a b k = before-it e h (λ d. no-way (cc)) (k a b)
       go (weWant c) q a b k = before-it e h (λ d. no-way (cc)) (k a b)
+      go turned q a b k = before-it e h (λ d. no-way (cc)) (k a b)
 
   pub spoke-exactly : (h : History) → seated h i ≡ true → fresh h i ≡ false ↔ Spoke h i
   spoke-exactly h s = (spoke h s, λ k. ap (λ (g : History). fresh g i) (k .parts) ∙ not-fresh (k .later) (k .frame) (k .earlier) (k .message) (k .heard-there) (k .with-id) (k .nobody-came))

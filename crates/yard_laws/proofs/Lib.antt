@@ -6,6 +6,7 @@ pub mod Starting
 pub mod Lowest
 pub mod Missing
 pub mod Looks
+pub mod Rounds
 pub mod Theorem
 pub mod Caused
 pub mod Fair

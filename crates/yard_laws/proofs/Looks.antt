@@ -22,7 +22,7 @@ use Rattle.yard_tables.specs.declared.Head.{Head}
 use Rattle.yard_tables.specs.declared.Page.{Page}
 use Rattle.yard_tables.proofs.Flags.{on-bit}
 use Rattle.yard_tables.proofs.Sizing.{Fitting}
-use Rattle.yard_laws.specs.History.{History, Fixed, event, pieces, sizesWith, seated, announced}
+use Rattle.yard_laws.specs.History.{History, Fixed, event, pieces, phase, seated, announced}
 use Rattle.yard_laws.specs.Says.{hasPiece, held, lacking, recordOf, holders, headOf}
 use Rattle.yard_laws.specs.View.{byHistory}
 use Rattle.yard_laws.specs.Expected.{no, freeBy, missingFrom, pageFrom, lowestWithout, leastOf}
@@ -66,12 +66,12 @@ module _ (fixed : Fixed) (h : History) (y : Yard) (agrees : Agrees fixed h y) wh
 
   pub missing-kept : (first space : ℕ) (w : List ℕ) → Kept fixed h y agrees (missing first space) w (atSeat 0 (missingOf first space (y .seats)) y)
       (cond (leb first n) (taken (listed (pageFrom fixed h first space))) (no seat))
-  unfolding event sizesWith
+  unfolding event phase
   missing-kept first space w = lift fixed h y agrees (missing first space) w 0 (missingOf first space (y .seats)) _
       (sized-good fixed h y agrees (missing first space) w 0 _ _
       (by-same (Good fixed h y agrees (missing first space) w 0) (leb first n)
       (λ _. subst (λ (x : Page). Good fixed h y agrees (missing first space) w 0 (says (listed (pageIn (pieces h) first space (y .seats))) (at fixed h y agrees 0)) (taken (listed x)))
-      (page-same first space) (unchanged (taken (listed (pageIn (pieces h) first space (y .seats)))) (λ j. refl) (λ z. refl)))
+      (page-same first space) (unchanged (taken (listed (pageIn (pieces h) first space (y .seats)))) (λ j. refl) refl))
       (λ _. refuses fixed h y agrees (missing first space) w 0 seat)))
 
   -- ---- the scarcest piece
@@ -83,35 +83,35 @@ module _ (fixed : Fixed) (h : History) (y : Yard) (agrees : Agrees fixed h y) wh
       ∙ ap (leastOf (holders fixed h)) (f .counts)
 
   pub scarcest-kept : (w : List ℕ) → Kept fixed h y agrees scarcest w (atSeat 0 scarcestOf y) (taken (scarce (leastOf (holders fixed h) (pieces h))))
-  unfolding scarcestOf event sizesWith
+  unfolding scarcestOf event phase
   scarcest-kept w = lift fixed h y agrees scarcest w 0 scarcestOf _ (sized-good fixed h y agrees scarcest w 0 _ _
       (subst (λ (p : ℕ). Good fixed h y agrees scarcest w 0 (says (scarce (placeOf (fewest (y .holders)) (y .holders))) (at fixed h y agrees 0)) (taken (scarce p)))
-      scarcest-same (unchanged (taken (scarce (placeOf (fewest (y .holders)) (y .holders)))) (λ j. refl) (λ z. refl))))
+      scarcest-same (unchanged (taken (scarce (placeOf (fewest (y .holders)) (y .holders)))) (λ j. refl) refl)))
 
   -- ---- single looks
 
-  pub look-kept : (i : ℕ) (w : List ℕ) → Kept fixed h y agrees (look i) w (atSeat i (seatOf i) y) (cond (ltb i n) (taken (shows (recordOf h i))) (no seat))
-  unfolding seatOf event sizesWith
+  pub look-kept : (i : ℕ) (w : List ℕ) → Kept fixed h y agrees (look i) w (atSeat i (seatOf i) y) (cond (ltb i n) (taken (shows (recordOf fixed h i))) (no seat))
+  unfolding seatOf event phase
   look-kept i w = lift fixed h y agrees (look i) w i (seatOf i) _ (sized-good fixed h y agrees (look i) w i _ _
       (by-same (Good fixed h y agrees (look i) w i) (ltb i n)
-      (λ _. unchanged (taken (shows (recordOf h i))) (λ j. refl) (λ z. refl))
+      (λ _. unchanged (taken (shows (recordOf fixed h i))) (λ j. refl) refl)
       (λ _. refuses fixed h y agrees (look i) w i seat)))
 
   pub has-kept : (i p : ℕ) (w : List ℕ) → Kept fixed h y agrees (has i p) w (atSeat i (hasOf i p) y)
       (cond (ltb i n) (cond (ltb p (pieces h)) (taken (holds (hasPiece h i p))) (no beyond)) (no seat))
-  unfolding hasOf event sizesWith
+  unfolding hasOf event phase
   has-kept i p w = lift fixed h y agrees (has i p) w i (hasOf i p) _ (sized-good fixed h y agrees (has i p) w i _ _
       (by-same (Good fixed h y agrees (has i p) w i) (ltb i n)
       (λ a. by-same (Good fixed h y agrees (has i p) w i) (ltb p (pieces h))
       (λ b. subst (λ (t : Bool). Good fixed h y agrees (has i p) w i (says (holds (hasIn (width (pieces h)) (y .rows) i p)) (at fixed h y agrees i)) (taken (holds t)))
-      (agrees .row-is i p (ltb-true i n a) (ltb-true p (pieces h) b)) (unchanged (taken (holds (hasIn (width (pieces h)) (y .rows) i p))) (λ j. refl) (λ z. refl)))
+      (agrees .row-is i p (ltb-true i n a) (ltb-true p (pieces h) b)) (unchanged (taken (holds (hasIn (width (pieces h)) (y .rows) i p))) (λ j. refl) refl))
       (λ _. refuses fixed h y agrees (has i p) w i beyond))
       (λ _. refuses fixed h y agrees (has i p) w i seat)))
 
   pub count-kept : (p : ℕ) (w : List ℕ) → Kept fixed h y agrees (count p) w (atSeat 0 (countOf p) y) (cond (ltb p (pieces h)) (taken (heldBy (holders fixed h p))) (no beyond))
-  unfolding countOf event sizesWith
+  unfolding countOf event phase
   count-kept p w = lift fixed h y agrees (count p) w 0 (countOf p) _ (sized-good fixed h y agrees (count p) w 0 _ _
       (by-same (Good fixed h y agrees (count p) w 0) (ltb p (pieces h))
       (λ b. subst (λ (m : ℕ). Good fixed h y agrees (count p) w 0 (says (heldBy (getD (y .holders) p 0)) (at fixed h y agrees 0)) (taken (heldBy m)))
-      (agrees .holders-is p (ltb-true p (pieces h) b)) (unchanged (taken (heldBy (getD (y .holders) p 0))) (λ j. refl) (λ z. refl)))
+      (agrees .holders-is p (ltb-true p (pieces h) b)) (unchanged (taken (heldBy (getD (y .holders) p 0))) (λ j. refl) refl))
       (λ _. refuses fixed h y agrees (count p) w 0 beyond)))

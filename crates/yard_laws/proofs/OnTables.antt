@@ -1,40 +1,44 @@
 -- On any tables the causes of 20, 21, wait and 30 to 37 are those by what the tables say: each is given exactly for its cause. Assumes nothing.
 use mathlib.Core.Path.{_≡_, refl, sym, ap, _∙_}
-use mathlib.Core.Logic.{_↔_}
-use mathlib.Core.Bool.{Bool, true, false, cond, and-eq-true-iff}
+use mathlib.Core.Logic.{_⊎_, inl, inr, _↔_}
+use mathlib.Core.Bool.{Bool, true, false, cond, _&&_, and-eq-true-iff}
 use mathlib.Core.List.{List}
-use Prim.Native.Nat.{ℕ}
+use Prim.Native.Nat.{ℕ, _+_}
 use borrow.Author.Tests.{eq-eqb, eqb-true, lt-ltb, ltb-true, lt-leb, leb-true, leb-false}
 use lib.Dec.{eqb, ltb, leb}
 use lib.ListN.{length, getD}
 use Rattle.refusal.specs.Paper.{Outcome, taken, refused}
 use Rattle.refusal.specs.Numbers.{full, sizes, damaged}
+use Rattle.refusal.specs.Limits.{mostSent}
 use Rattle.refusal.proofs.Cases.{no-way, by-bool, cannot, both-true, false-if}
 use Rattle.peer_wire.specs.Message.{Message, keepalive, choke, unchoke, interested, notInterested, have, request, piece, cancel, other}
 use Rattle.peer_wire.specs.Message.{bitfield as bits}
 use Rattle.peer_wire.specs.Frames.{Found, found, readOf, meant}
 use Rattle.peer_wire.specs.Frames.{wait as more}
+use Rattle.yard_tables.specs.Counting.{count as countOf-all}
 use Rattle.yard_tables.specs.Rows.{width, bitAt, withBit, withBits}
 use Rattle.yard_tables.specs.Seats.{on, weChoke, weWant}
-use Rattle.yard_tables.specs.Tables.{Yard, Said, wait, done, used, Turn, Out, sized}
+use Rattle.yard_tables.specs.Tables.{Yard, Said, wait, done, used, unchoked, Turn, Out, sized}
 use Rattle.yard_tables.specs.Tables.{seated as givesSeat}
-use Rattle.yard_tables.specs.Frames.{overTop, announce, haveOf, spareSet, bitfieldOf, blockFits, blockOf, requested, messageOf, frameOf, feedOf}
+use Rattle.yard_tables.specs.Frames.{overTop, announce, haveOf, spareSet, bitfieldOf, blockFits, blockOf, pieceOf, requested, messageOf, frameOf, feedOf}
+use Rattle.yard_tables.specs.Rounds.{takenIn, misplaced, servedIn, roundOf}
 use Rattle.yard_tables.specs.Seating.{startOf, lowestFree, sitOf, atZero, leaveOf, markOf}
 use Rattle.yard_tables.specs.Looks.{pageOf, fewest, placeOf, scarcestOf, hasOf, countOf}
 use Rattle.yard_tables.specs.Looks.{seatOf as lookOf}
-use Rattle.yard_tables.specs.Step.{Call, start, sit, leave, feed, interest, missing, scarcest, look, has, count, step}
+use Rattle.yard_tables.specs.Step.{Call, start, sit, leave, feed, interest, missing, scarcest, look, has, count, round, step}
 use Rattle.yard_tables.specs.Step.{choke as chokes}
 use Rattle.yard_tables.specs.declared.Seat.{Seat}
 use Rattle.yard_laws.specs.History.{Sizes, sizesOf}
 use Rattle.yard_laws.specs.Run.{startWith}
 use Rattle.yard_laws.specs.View.{View, byTables}
 use Rattle.yard_laws.specs.Causes.{Says, CauseBy, WaitBy}
-use Rattle.yard_laws.specs.Expected.{no, Looks, sitsBy, messageBy, frameBy, blockBy, markBy, freeBy, answerBy}
+use Rattle.yard_laws.specs.Causes.CauseBy.{too-much}
+use Rattle.yard_laws.specs.Expected.{no, Looks, sitsBy, messageBy, frameBy, blockBy, pieceBy, markBy, freeBy, answerBy}
 use Rattle.yard_laws.specs.Damage.{Fit, seatOf, Taken, inRow, Announces, by-have, by-bitfield, Damaged}
-use Rattle.yard_laws.specs.Damage.Damaged.{taken-top, taken-zero, complete-top, complete-zero, holders-top, holders-zero, held-top}
+use Rattle.yard_laws.specs.Damage.Damaged.{taken-top, taken-zero, complete-top, complete-zero, holders-top, holders-zero, held-top, bytes-top, number-over, free-nowhere, last-nowhere}
 use Rattle.yard_laws.proofs.Starting.{fitsFor, sized-fits, fits-sized}
 use Rattle.yard_laws.proofs.Lowest.{free-is}
-use Rattle.yard_laws.proofs.Damage.{seatAt, fits, fit-is, is-fit, over-is, zero-is, lowest-free, free-some, sized-to, pick, skip, unfit-given, damage-given, no-spare, spare-none}
+use Rattle.yard_laws.proofs.Damage.{seatAt, fits, fit-is, is-fit, over-is, zero-is, misplaced-is, lowest-free, free-some, sized-to, pick, skip, unfit-given, damage-given, no-spare, spare-none}
 use Rattle.yard_laws.proofs.Caused as caused
 
 -- two ways of a test with the same answers
@@ -66,6 +70,9 @@ used-wait bytes e = no-way (cc)
 seat-wait : (i : ℕ) → _≡_ {A = Outcome Said} (taken (givesSeat i)) (taken wait) → ⊥
 seat-wait i e = no-way (cc)
 
+round-wait : (k : ℕ) → _≡_ {A = Outcome Said} (taken (unchoked k)) (taken wait) → ⊥
+round-wait k e = no-way (cc)
+
 module _ (y : Yard) where
   abbrev v : View
   v = byTables y
@@ -87,6 +94,7 @@ module _ (y : Yard) where
     recordAt = seatOf y;
     hasIt = inRow y;
     held = λ p. getD (y .holders) p 0;
+    unchokes = countOf-all n (λ i. takenIn (y .seats) i && servedIn (y .head) (y .seats) i);
   }
 
   abbrev expected : Call → Outcome Said
@@ -117,6 +125,11 @@ module _ (y : Yard) where
     unfolding blockOf
     block-same i p b k a = branch (ltb p pieces) _ _ _ _ (λ d. branch (blockFits (y .head) p b k) _ _ _ _ (λ e. refl) (λ e. refl)) (λ d. refl)
 
+    piece-same : (i p b k bytes : ℕ) → pieceOf p b k bytes (seatAt y i) .answer ≡ pieceBy v i p b k bytes
+    unfolding pieceOf
+    piece-same i p b k bytes = branch (ltb p pieces) _ _ _ _
+        (λ d. branch (blockFits (y .head) p b k) _ _ _ _ (λ e. branch (ltb mostSent (seatOf y i .bytes + k)) _ _ _ _ (λ m. refl) (λ m. refl)) (λ e. refl)) (λ d. refl)
+
     module _ (i : ℕ) (s : List ℕ) (here : Taken y i) (sound : Damaged y (feed i s) → ⊥) where
       announce-same : (bytes : ℕ) (said : ℕ → Bool) (rows : List ℕ) → Announces y i s said → announce n i bytes said rows (seatAt y i) .answer ≡ taken (used bytes)
       announce-same bytes said rows a =
@@ -137,7 +150,7 @@ module _ (y : Yard) where
           (λ e. announce-same bytes (bitAt b) (withBits (width pieces) i b (y .rows)) (by-bitfield b bytes f new (eqb-true (length b) (width pieces) size) (no-spare pieces b e))))
           (λ size. refl)) (λ new. refl)
       message-same (request p b k) bytes f = block-same i p b k (requested bytes (seatOf y i))
-      message-same (piece p b block) bytes f = block-same i p b (length block) (used bytes)
+      message-same (piece p b block) bytes f = piece-same i p b (length block) bytes
       message-same (cancel p b k) bytes f = block-same i p b k (used bytes)
       message-same (other id rest) bytes f = refl
 
@@ -151,7 +164,7 @@ module _ (y : Yard) where
     mark-same f space i = fitted i _ _ (branch (sitsBy v i) _ _ _ _ (λ e. branch (ltb space 5) _ _ _ _ (λ e. refl) (λ e. refl)) (λ e. refl))
 
     same : (c : Call) → (Damaged y c → ⊥) → step c y .answer ≡ expected c
-    unfolding step startOf sitOf leaveOf feedOf scarcestOf lookOf hasOf countOf
+    unfolding step startOf sitOf leaveOf feedOf scarcestOf lookOf hasOf countOf roundOf
     same (start p l k) sound = out-branch (fitsFor (sizesOf p l k) y) _ _
     same sit sound =
         fitted (lowestFree (y .seats)) _ _ (branch (leb n (lowestFree (y .seats))) _ _ _ _ (λ e. refl)
@@ -168,6 +181,8 @@ module _ (y : Yard) where
     same (look i) sound = fitted i _ _ (branch (ltb i n) _ _ _ _ (λ e. refl) (λ e. refl))
     same (has i p) sound = fitted i _ _ (branch (ltb i n) _ _ _ _ (λ e. branch (ltb p pieces) _ _ _ _ (λ e. refl) (λ e. refl)) (λ e. refl))
     same (count p) sound = fitted 0 _ _ (branch (ltb p pieces) _ _ _ _ (λ e. refl) (λ e. refl))
+    same round sound = ap (λ (o : Out). o .answer)
+        (pick (fits y) _ _ (is-fit y fit) ∙ skip (misplaced (y .head) n) _ _ (false-if (misplaced (y .head) n) (λ e. sound (misplaced-is y fit e))))
 
   -- ---- a damaged count means that nothing else is wrong
 
@@ -183,20 +198,35 @@ module _ (y : Yard) where
     used-wait bytes,
   )
 
-  damaged-taken : (c : Call) → Damaged y c → Taking (expected c)
-  damaged-taken c (taken-top i fit f m) = (givesSeat (freeBy v), skip (leb n (freeBy v)) _ _ (ap (leb n) (sym free-same) ∙ lt-leb n (lowestFree (y .seats)) (free-some y i f)), seat-wait (freeBy v))
-  damaged-taken c (taken-zero i fit here e) = (done, pick (sitsBy v i) _ _ (is-sits i here), done-wait)
-  damaged-taken c (complete-top i s said p fit here a w e l) = announced-taken i s said here a
-  damaged-taken c (complete-zero i fit here e f) = (done, pick (sitsBy v i) _ _ (is-sits i here), done-wait)
-  damaged-taken c (holders-top i s said p fit here a w l) = announced-taken i s said here a
-  damaged-taken c (holders-zero i p fit here l e f) = (done, pick (sitsBy v i) _ _ (is-sits i here), done-wait)
-  damaged-taken c (held-top i s said p fit here a w l) = announced-taken i s said here a
+  -- of the bytes of blocks the view speaks too, and where they are too many its answer is 39
+  damaged-taken : (c : Call) → Damaged y c → Taking (expected c) ⊎ (expected c ≡ refused damaged 0)
+  damaged-taken c (taken-top i fit f m) =
+      inl (givesSeat (freeBy v), skip (leb n (freeBy v)) _ _ (ap (leb n) (sym free-same) ∙ lt-leb n (lowestFree (y .seats)) (free-some y i f)), seat-wait (freeBy v))
+  damaged-taken c (taken-zero i fit here e) = inl (done, pick (sitsBy v i) _ _ (is-sits i here), done-wait)
+  damaged-taken c (complete-top i s said p fit here a w e l) = inl (announced-taken i s said here a)
+  damaged-taken c (complete-zero i fit here e f) = inl (done, pick (sitsBy v i) _ _ (is-sits i here), done-wait)
+  damaged-taken c (holders-top i s said p fit here a w l) = inl (announced-taken i s said here a)
+  damaged-taken c (holders-zero i p fit here l e f) = inl (done, pick (sitsBy v i) _ _ (is-sits i here), done-wait)
+  damaged-taken c (held-top i s said p fit here a w l) = inl (announced-taken i s said here a)
+  damaged-taken c (bytes-top i s p b block bytes fit here f l d m) =
+      inr (caused.cause-given v starts looks starts-yes starts-is (feed i s) damaged (too-much i s p b block bytes here f l d m))
+  damaged-taken c (number-over fit l) = inl (unchoked (looks .unchokes), refl, round-wait (looks .unchokes))
+  damaged-taken c (free-nowhere fit f l) = inl (unchoked (looks .unchokes), refl, round-wait (looks .unchokes))
+  damaged-taken c (last-nowhere fit l) = inl (unchoked (looks .unchokes), refl, round-wait (looks .unchokes))
 
-  sound-if : (c : Call) (number : ℕ) → expected c ≡ refused number 0 → Damaged y c → ⊥
-  sound-if c number e d = let t = damaged-taken c d in not-both (t .0) number 0 (sym (t .1) ∙ e)
+  sound-if : (c : Call) (number : ℕ) → (number ≡ damaged → ⊥) → expected c ≡ refused number 0 → Damaged y c → ⊥
+  sound-if c number whole e d = go (damaged-taken c d)
+    where
+      go : Taking (expected c) ⊎ (expected c ≡ refused damaged 0) → ⊥
+      go (inl t) = not-both (t .0) number 0 (sym (t .1) ∙ e)
+      go (inr q) = whole (number-of number 0 damaged 0 (sym e ∙ q))
 
-  wait-sound : (c : Call) → WaitBy v c → Damaged y c → ⊥
-  wait-sound c k d = let t = damaged-taken c d in t .2 (sym (t .1) ∙ caused.wait-exactly-when v starts looks starts-yes starts-is c .1 k)
+  wait-sound : (c : Call) → expected c ≡ taken wait → Damaged y c → ⊥
+  wait-sound c e d = go (damaged-taken c d)
+    where
+      go : Taking (expected c) ⊎ (expected c ≡ refused damaged 0) → ⊥
+      go (inl t) = t .2 (sym (t .1) ∙ e)
+      go (inr q) = not-both wait damaged 0 (sym e ∙ q)
 
   -- ---- the sizes fit, where another refusal or a wait is given
 
@@ -226,6 +256,7 @@ module _ (y : Yard) where
       go (look i) q u = f (sym q ∙ unfit-given y (look i) u)
       go (has i p) q u = f (sym q ∙ unfit-given y (has i p) u)
       go (count p) q u = f (sym q ∙ unfit-given y (count p) u)
+      go round q u = f (sym q ∙ unfit-given y round u)
 
   -- ---- both directions
 
@@ -238,7 +269,7 @@ module _ (y : Yard) where
         (fit, k .0, k .1),
     λ (fit, k, z).
         let e : expected c ≡ refused number 0 = caused.cause-given v starts looks starts-yes starts-is c number k in
-        same fit c (sound-if c number e) ∙ e ∙ ap (refused number) (sym z),
+        same fit c (sound-if c number whole e) ∙ e ∙ ap (refused number) (sym z),
   )
 
   pub wait-exactly : (c : Call) → step c y .answer ≡ taken wait ↔ (Fit y × WaitBy v c)
@@ -249,5 +280,5 @@ module _ (y : Yard) where
         (fit, caused.wait-exactly-when v starts looks starts-yes starts-is c .0 (sym (same fit c sound) ∙ e)),
     λ (fit, k).
         let e : expected c ≡ taken wait = caused.wait-exactly-when v starts looks starts-yes starts-is c .1 k in
-        same fit c (wait-sound c k) ∙ e,
+        same fit c (wait-sound c e) ∙ e,
   )

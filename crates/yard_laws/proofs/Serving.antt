@@ -1,14 +1,16 @@
 -- A request is to be served exactly if we don't choke its truck and it is interested, by the history; and what bytes say by how messages are written. Assumes nothing.
 use mathlib.Core.Path.{_≡_, refl, sym, ap, _∙_, subst}
 use mathlib.Core.Logic.{_↔_}
-use mathlib.Core.Bool.{true, not, _&&_, and-eq-true-iff}
+use mathlib.Core.Bool.{true, not, cond, _&&_, and-eq-true-iff}
 use mathlib.Core.List.{List, _++_}
-use Prim.Native.Nat.{ℕ, _<_}
+use Prim.Native.Nat.{ℕ, _+_, _<_}
 use borrow.Author.Tests.{lt-ltb, ltb-true, not-true}
 use lib.Dec.{ltb, leb, eqb}
 use lib.ListN.{length, drop, take-append-drop}
 use Rattle.refusal.specs.BigEndian.{Bytes}
 use Rattle.refusal.specs.Paper.{Outcome, taken, refused}
+use Rattle.refusal.specs.Numbers.{beyond, outside}
+use Rattle.refusal.specs.Limits.{mostSent}
 use Rattle.refusal.proofs.Cases.{by-test, cannot, false-if}
 use Rattle.peer_wire.specs.Message.{Message, encode, keepalive, choke, unchoke, interested, notInterested, have, request, piece, cancel, other}
 use Rattle.peer_wire.specs.Message.{bitfield as bits}
@@ -17,14 +19,14 @@ use Rattle.peer_wire.specs.Frames.{wait as more}
 use Rattle.peer_wire.proofs.Exact.{taken-was-written, reads-back}
 use Rattle.yard_tables.specs.Rows.{width}
 use Rattle.yard_tables.specs.Frames.{spareSet}
-use Rattle.yard_tables.specs.Tables.{Said, wait, done, used, serve, dropped, wrote, listed, shows, holds, heldBy, scarce}
+use Rattle.yard_tables.specs.Tables.{Said, wait, done, used, serve, dropped, wrote, listed, shows, holds, heldBy, scarce, unchoked}
 use Rattle.yard_tables.specs.Tables.{seated as givesSeat}
-use Rattle.yard_tables.specs.Step.{Call, start, sit, leave, feed, interest, missing, scarcest, look, has, count}
+use Rattle.yard_tables.specs.Step.{Call, start, sit, leave, feed, interest, missing, scarcest, look, has, count, round}
 use Rattle.yard_tables.specs.Step.{choke as chokes}
-use Rattle.yard_laws.specs.History.{History, Fixed, sizesOf, fresh, weAreChoking, theyAreInterested, pieces}
+use Rattle.yard_laws.specs.History.{History, Fixed, sizesOf, fresh, weAreChoking, theyAreInterested, sent, pieces}
 use Rattle.torrent_blocks.specs.Answers.{lies}
 use Rattle.yard_laws.specs.View.{byHistory}
-use Rattle.yard_laws.specs.Expected.{startFits, sitsBy, blockBy, requestBy, messageBy, frameBy, markBy, freeBy, answer}
+use Rattle.yard_laws.specs.Expected.{no, startFits, sitsBy, requestBy, messageBy, frameBy, markBy, freeBy, answer}
 use Rattle.yard_laws.specs.Causes.{Sits, Says, Welcome, Asks, Serves, Drops}
 use Rattle.yard_laws.specs.Causes.ServesBy.{serves}
 use Rattle.yard_laws.specs.Causes.DropsBy.{drops}
@@ -57,15 +59,16 @@ IfAsked Q R (shows s) = Unit
 IfAsked Q R (holds b) = Unit
 IfAsked Q R (heldBy m) = Unit
 IfAsked Q R (scarce p) = Unit
+IfAsked Q R (unchoked m) = Unit
 
 module _ (fixed : Fixed) (h : History) where
   abbrev n : ℕ
   n = fixed .seats
 
-  welcome-then : (i : ℕ) → (not (weAreChoking h i) && theyAreInterested h i) ≡ true → Welcome fixed h i
-  welcome-then i e = let k = and-eq-true-iff (not (weAreChoking h i)) (theyAreInterested h i) .0 e in (not-true (weAreChoking h i) (k .0), k .1)
+  welcome-then : (i : ℕ) → (not (weAreChoking fixed h i) && theyAreInterested h i) ≡ true → Welcome fixed h i
+  welcome-then i e = let k = and-eq-true-iff (not (weAreChoking fixed h i)) (theyAreInterested h i) .0 e in (not-true (weAreChoking fixed h i) (k .0), k .1)
 
-  then-welcome : (i : ℕ) → Welcome fixed h i → (not (weAreChoking h i) && theyAreInterested h i) ≡ true
+  then-welcome : (i : ℕ) → Welcome fixed h i → (not (weAreChoking fixed h i) && theyAreInterested h i) ≡ true
   then-welcome i w = rw (w .0, w .1)
 
   abbrev Asked : Call → Outcome Said → Type 0
@@ -74,10 +77,12 @@ module _ (fixed : Fixed) (h : History) where
 
   module _ (i : ℕ) (s : List ℕ) (here : Sits fixed h i) where
     request-asked : (bytes : ℕ) → Asks fixed h i s bytes → Asked (feed i s) (taken (requestBy (byHistory fixed h) i bytes))
-    request-asked bytes f = by-test (λ (a : Said). Asked (feed i s) (taken a)) (not (weAreChoking h i) && theyAreInterested h i)
+    request-asked bytes f = by-test (λ (a : Said). Asked (feed i s) (taken a)) (not (weAreChoking fixed h i) && theyAreInterested h i)
         (λ e. serves i s bytes f (welcome-then i e)) (λ e. drops i s bytes f (λ w. cannot _ e (then-welcome i w)))
 
-    block-asked : (p b k : ℕ) (a : Said) → (p < pieces h → lies (byHistory fixed h .longs p) b k ≡ true → Asked (feed i s) (taken a)) → Asked (feed i s) (blockBy (byHistory fixed h) p b k a)
+    -- a is the answer where the block is there
+    block-asked : (p b k : ℕ) (a : Outcome Said) → (p < pieces h → lies (byHistory fixed h .longs p) b k ≡ true → Asked (feed i s) a)
+        → Asked (feed i s) (cond (ltb p (pieces h)) (cond (lies (byHistory fixed h .longs p) b k) a (no outside)) (no beyond))
     block-asked p b k a g = by-test (Asked (feed i s)) (ltb p (pieces h))
         (λ d. by-test (Asked (feed i s)) (lies (byHistory fixed h .longs p) b k) (λ e. g (ltb-true p (pieces h) d) e) (λ e. tt)) (λ d. tt)
 
@@ -90,10 +95,10 @@ module _ (fixed : Fixed) (h : History) where
     message-asked (have p) bytes f = by-test (Asked (feed i s)) (ltb p (pieces h)) (λ e. tt) (λ e. tt)
     message-asked (bits b) bytes f = by-test (Asked (feed i s)) (fresh h i)
         (λ d. by-test (Asked (feed i s)) (eqb (length b) (width (pieces h))) (λ e. by-test (Asked (feed i s)) (spareSet (pieces h) b) (λ g. tt) (λ g. tt)) (λ e. tt)) (λ d. tt)
-    message-asked (request p b k) bytes f = block-asked p b k (requestBy (byHistory fixed h) i bytes)
+    message-asked (request p b k) bytes f = block-asked p b k (taken (requestBy (byHistory fixed h) i bytes))
         (λ l e. request-asked bytes (record { sits = here; piece = p; begin = b; count = k; says = f; inside = l; fits = block-fits fixed h p b k e }))
-    message-asked (piece p b block) bytes f = block-asked p b (length block) (used bytes) (λ l e. tt)
-    message-asked (cancel p b k) bytes f = block-asked p b k (used bytes) (λ l e. tt)
+    message-asked (piece p b block) bytes f = block-asked p b (length block) _ (λ l e. by-test (Asked (feed i s)) (ltb mostSent (sent h i + length block)) (λ g. tt) (λ g. tt))
+    message-asked (cancel p b k) bytes f = block-asked p b k (taken (used bytes)) (λ l e. tt)
     message-asked (other id rest) bytes f = tt
 
     frame-asked : (o : Outcome Found) → readOf s ≡ o → Asked (feed i s) (frameBy (byHistory fixed h) i s o)
@@ -116,6 +121,7 @@ module _ (fixed : Fixed) (h : History) where
   asked-of (look i) = by-test (Asked (look i)) (ltb i n) (λ e. tt) (λ e. tt)
   asked-of (has i p) = by-test (Asked (has i p)) (ltb i n) (λ e. by-test (Asked (has i p)) (ltb p (pieces h)) (λ f. tt) (λ f. tt)) (λ e. tt)
   asked-of (count p) = by-test (Asked (count p)) (ltb p (pieces h)) (λ e. tt) (λ e. tt)
+  asked-of round = tt
 
   request-answer : (i : ℕ) (s : List ℕ) (bytes : ℕ) → Asks fixed h i s bytes → answer fixed h (feed i s) ≡ taken (requestBy (byHistory fixed h) i bytes)
   request-answer i s bytes f =
@@ -127,7 +133,7 @@ module _ (fixed : Fixed) (h : History) where
 
   drop-given : (c : Call) (bytes : ℕ) → Drops fixed h c bytes → answer fixed h c ≡ taken (dropped bytes)
   drop-given c bytes (drops i s b f w) =
-      request-answer i s b f ∙ rw (false-if (not (weAreChoking h i) && theyAreInterested h i) (λ e. w (welcome-then i e)))
+      request-answer i s b f ∙ rw (false-if (not (weAreChoking fixed h i) && theyAreInterested h i) (λ e. w (welcome-then i e)))
 
   pub serve-exactly : (c : Call) (bytes : ℕ) → answer fixed h c ≡ taken (serve bytes) ↔ Serves fixed h c bytes
   serve-exactly c bytes = (λ e. subst (Asked c) e (asked-of c), serve-given c bytes)

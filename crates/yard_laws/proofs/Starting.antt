@@ -2,7 +2,7 @@
 use mathlib.Core.Path.{_≡_, refl, sym, ap, ap₂, _∙_, subst}
 use mathlib.Core.Bool.{Bool, true, false, cond, and-eq-true-iff}
 use mathlib.Core.List.{List, _∷_}
-use Prim.Native.Nat.{ℕ, zero, suc, _*_}
+use Prim.Native.Nat.{ℕ, zero, suc, _-_, _*_}
 use native.Mathlib.Omega.{arith}
 use borrow.Author.Tests.{eq-eqb, eqb-true, le-leb, leb-true}
 use lib.Dec.{eqb, leb}
@@ -16,15 +16,16 @@ use Rattle.torrent_blocks.proofs.Legal.{is-piece-length, piece-length-is}
 use Rattle.yard_tables.specs.Rows.{width}
 use Rattle.yard_tables.specs.Seats.{cleared, holding}
 use Rattle.yard_tables.specs.Tables.{Yard, done, sizesFit}
+use Rattle.yard_tables.specs.Rounds.{nobody}
 use Rattle.yard_tables.specs.Seating.{emptied, startOf}
 use Rattle.yard_tables.proofs.Counts.{count-none}
 use Rattle.yard_tables.proofs.Rows.{blank}
 use Rattle.yard_tables.proofs.Sizing.{Fitting, fitting}
-use Rattle.yard_laws.specs.History.{History, Fixed, Sizes, entry, event, pieces, sizesWith, seated}
+use Rattle.yard_laws.specs.History.{History, Fixed, Sizes, entry, event, pieces, phase, seated}
 use Rattle.yard_laws.specs.Says.{hasPiece, held, loaded, holders, headOf}
 use Rattle.yard_laws.specs.Expected.{no, startFits}
 use Rattle.yard_laws.specs.Run.{SizesFit, fixedBy, startWith}
-use Rattle.yard_laws.proofs.Agreeing.{Agrees, quiet-agrees, counted-fits}
+use Rattle.yard_laws.proofs.Agreeing.{Agrees, quiet-agrees, head-fits}
 use Rattle.yard_laws.proofs.Calls.{Kept}
 
 getD-same : {A : Type 0} (n j : ℕ) (a : A) → getD (replicate n a) j a ≡ a
@@ -42,7 +43,7 @@ fitsFor z y = sizesFit (empty z y .head) (length (y .seats)) (length (y .rows)) 
 
 pub empty-agrees : (h : History) (y : Yard) (z : Sizes) (w : List ℕ) → fitsFor z y ≡ true
     → Agrees (fixedBy y) (entry (startWith z) (taken done) w ∷ h) (empty z y)
-unfolding event sizesWith
+unfolding event phase
 empty-agrees h y z w ok =
     let n : ℕ = length (y .seats) in
     let now : History = entry (startWith z) (taken done) w ∷ h in
@@ -51,7 +52,7 @@ empty-agrees h y z w ok =
     record {
       seats-len = length-replicate n cleared;
       fits = ap₂ (λ (r s : ℕ). sizesFit (empty z y .head) n r s) (length-replicate (length (y .rows)) 0) (length-replicate (length (y .holders)) 0) ∙ ok;
-      head-is = ap₂ (λ (t c : ℕ). record { pieces = z .pieces; «piece_length» = z .pieceLength; «last_length» = z .lastLength; taken = t; complete = c })
+      head-is = ap₂ (λ (t c : ℕ). record { pieces = z .pieces; «piece_length» = z .pieceLength; «last_length» = z .lastLength; taken = t; complete = c; round = 0; free = nobody; last = n - 1 })
           (sym (count-none (seated now) n (λ i m. refl))) (sym (count-none (loaded now) n (λ i m. refl)));
       seat-is = λ i. getD-same n i cleared ∙ ap (λ (m : ℕ). holding m cleared) (sym (none i));
       row-is = λ i q m r. blank (width (z .pieces)) (length (y .rows)) i q;
@@ -102,7 +103,7 @@ module _ (fixed : Fixed) (h : History) (y : Yard) (agrees : Agrees fixed h y) (z
   n = fixed .seats
 
   fits-now : Fitting (headOf fixed h) n (length (y .rows)) (length (y .holders))
-  fits-now = fitting (headOf fixed h) n (length (y .rows)) (length (y .holders)) (counted-fits fixed h y agrees (headOf fixed h .taken) (headOf fixed h .complete))
+  fits-now = fitting (headOf fixed h) n (length (y .rows)) (length (y .holders)) (head-fits fixed h y agrees (headOf fixed h .taken) (headOf fixed h .complete) (headOf fixed h .round) (headOf fixed h .free) (headOf fixed h .last))
 
   fits-then : fitsFor z y ≡ true → startFits h z ≡ true
   fits-then e =
@@ -131,7 +132,7 @@ module _ (fixed : Fixed) (h : History) (y : Yard) (agrees : Agrees fixed h y) (z
       }
 
   pub start-kept : (w : List ℕ) → Kept fixed h y agrees (startWith z) w (startOf (z .pieces) (z .pieceLength) (z .lastLength) y) (cond (startFits h z) (taken done) (no sizes))
-  unfolding startOf event sizesWith
+  unfolding startOf event phase
   start-kept w = by-both (Kept fixed h y agrees (startWith z) w) (fitsFor z y) (startFits h z) (same-test _ _ fits-then then-fits)
       (λ e. (refl, subst (λ (m : ℕ). Agrees (record { seats = m }) (entry (startWith z) (taken done) w ∷ h) (empty z y)) (agrees .seats-len) (empty-agrees h y z w e)))
-      (λ e. (refl, quiet-agrees fixed h y agrees (entry (startWith z) (refused sizes 0) w) (λ j. refl) (λ x. refl)))
+      (λ e. (refl, quiet-agrees fixed h y agrees (entry (startWith z) (refused sizes 0) w) (λ j. refl) refl))

@@ -9,7 +9,7 @@ use Rattle.refusal.specs.Paper.{Outcome, taken, refused}
 use Rattle.refusal.proofs.Cases.{by-bool}
 use Rattle.yard_tables.specs.Tables.{Yard, Said}
 use Rattle.yard_tables.specs.Seating.{startOf}
-use Rattle.yard_tables.specs.Step.{Call, start, sit, leave, feed, choke, interest, missing, scarcest, look, has, step, ifTaken}
+use Rattle.yard_tables.specs.Step.{Call, start, sit, leave, feed, choke, interest, missing, scarcest, look, has, round, step, ifTaken}
 use Rattle.yard_tables.specs.Step.{count as countAt, writes as writesIn, written as writtenIn}
 use Rattle.yard_laws.specs.History.{History, Fixed, Sizes, sizesOf}
 use Rattle.yard_laws.specs.Expected.{answer, writes, output}
@@ -18,6 +18,7 @@ use Rattle.yard_laws.proofs.Agreeing.{Agrees}
 use Rattle.yard_laws.proofs.Calls.{Kept, feed-kept, choke-kept, interest-kept, leave-kept}
 use Rattle.yard_laws.proofs.Starting.{empty, fitsFor, sized-fits, fits-sized, empty-agrees, start-kept}
 use Rattle.yard_laws.proofs.Looks.{sit-kept, lines-same, missing-kept, scarcest-kept, look-kept, has-kept, count-kept}
+use Rattle.yard_laws.proofs.Rounds.{round-kept}
 
 -- ---- one call
 
@@ -35,6 +36,7 @@ module _ (fixed : Fixed) (h : History) (y : Yard) (agrees : Agrees fixed h y) wh
   step-kept (look i) w = look-kept fixed h y agrees i w
   step-kept (has i p) w = has-kept fixed h y agrees i p w
   step-kept (countAt p) w = count-kept fixed h y agrees p w
+  step-kept round w = round-kept fixed h y agrees w
 
   writes-same : (c : Call) → writesIn c y ≡ writes fixed h c
   writes-same (start p l k) = refl
@@ -48,6 +50,7 @@ module _ (fixed : Fixed) (h : History) (y : Yard) (agrees : Agrees fixed h y) wh
   writes-same (look i) = refl
   writes-same (has i p) = refl
   writes-same (countAt p) = refl
+  writes-same round = refl
 
   -- the answer to one more call, and what it writes
   pub answered : (c : Call) → step c y .answer ≡ answer fixed h c

@@ -1,4 +1,4 @@
--- The one answer to each call where no count is damaged, computed: the checks in document 01's order, over a view of the yard; and by the history. A reader need not believe
+-- The one answer to each call where no count of the tables is damaged, computed: the checks in document 01's order, over a view of the yard; and by the history. A reader need not believe
 -- it: when each answer is given, and what is written, is said in Causes.antt and Given.antt. Assumes nothing: these are definitions.
 use mathlib.Core.Bool.{Bool, not, cond, _&&_}
 use mathlib.Core.List.{List, [], _∷_}
@@ -68,7 +68,7 @@ module _ (v : View) where
   abbrev pub blockBy : ℕ → ℕ → ℕ → Said → Outcome Said
   blockBy p begin len a = cond (ltb p (v .pieces)) (cond (lies (v .longs p) begin len) (taken a) (no outside)) (no beyond)
 
-  -- a piece: its truck may have sent 2^53 bytes of blocks since the last round
+  -- a piece: with it its truck may have sent at most 2^53 bytes of blocks since the last round
   abbrev pub pieceBy : ℕ → ℕ → ℕ → ℕ → ℕ → Outcome Said
   pieceBy i p begin len bytes =
       cond (ltb p (v .pieces)) (cond (lies (v .longs p) begin len) (cond (ltb mostSent (v .bytes i + len)) (no damaged) (taken (used bytes))) (no outside)) (no beyond)

@@ -378,13 +378,13 @@ servedAt fixed h i = served (fixed .seats) (wanting h) (sent h) (turnOf fixed h 
 -- ---- our choke: a round sets it at each truck that sits
 
 abbrev pub chokingBy : Event → Bool → Bool → Bool → Bool
-chokingBy nothing sits serve b = b
-chokingBy came sits serve b = true
-chokingBy gone sits serve b = false
-chokingBy (heard m) sits serve b = b
-chokingBy (weChoke c) sits serve b = c
-chokingBy (weWant c) sits serve b = b
-chokingBy turned sits serve b = cond sits (not serve) b
+chokingBy nothing sits picked b = b
+chokingBy came sits picked b = true
+chokingBy gone sits picked b = false
+chokingBy (heard m) sits picked b = b
+chokingBy (weChoke c) sits picked b = c
+chokingBy (weWant c) sits picked b = b
+chokingBy turned sits picked b = cond sits (not picked) b
 
 -- we choke the truck of seat i
 abbrev pub weAreChoking : Fixed → History → ℕ → Bool

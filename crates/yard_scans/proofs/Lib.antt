@@ -8,3 +8,4 @@ pub mod Steps
 pub mod Passes
 pub mod Determined
 pub mod Rules
+pub mod Calls

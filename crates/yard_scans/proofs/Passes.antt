@@ -2,7 +2,7 @@
 use mathlib.Core.Path.{_≡_, refl, sym, ap, _∙_}
 use mathlib.Core.Logic.{inl, inr}
 use mathlib.Core.Bool.{Bool, true, false, cond, _||_}
-use mathlib.Core.List.{List, [], _∷_, _++_, map, append-nil}
+use mathlib.Core.List.{List, [], _∷_, _++_, append-nil}
 use Prim.Native.Nat.{ℕ, zero, suc, _+_, _≤_, _<_}
 use native.Mathlib.Numerals.{add-one}
 use native.Mathlib.Omega.{arith}
@@ -12,10 +12,13 @@ use lib.Dec.{ltb}
 use lib.ListN.{length, getD, set, take, drop, replicate, drop-of-length-le, length-drop}
 use lib.Seq.{sets, drop-cons, drop-set-lt, take-suc-set, append-snoc, take-all}
 use Rattle.yard_tables.specs.Seats.{on, cleared}
+use Rattle.yard_tables.specs.Counting.{eachFrom, each}
+use Rattle.yard_tables.specs.Ranks.{rankStep, rankFrom, chokeStep}
 use Rattle.yard_tables.specs.Seating.{lowestFree}
 use Rattle.yard_tables.specs.Looks.{isMissing, missingFrom, linesOf, firstOr, pageOf}
 use Rattle.yard_tables.specs.declared.Seat.{Seat}
 use Rattle.yard_tables.specs.declared.Page.{Page}
+use Rattle.yard_tables.specs.declared.rank.Ranking.{Ranking}
 use Rattle.yard_scans.specs.declared.Asked.{Asked}
 use Rattle.yard_scans.specs.Pages.{lineOf, asLines, emptyPage, counted, listed, passed, pageStep, lineStep}
 use Rattle.yard_scans.proofs.Steps.{by-test, pick-yes, pick-no, step-skip, step-early, step-line, step-past}
@@ -54,31 +57,51 @@ pub free-end : (ys : List Seat) (i at : ℕ) → length ys ≤ i → at ≡ free
 unfolding freeFrom
 free-end ys i at l = rw (drop-of-length-le ys)
 
--- ---- every seat cleared, if that is wanted
-abbrev pub clearBy : Bool → Seat → Seat
-clearBy wanted s = cond wanted cleared s
+-- ---- the seats ranked
+pub rank-next : (last : ℕ) (ys : List Seat) (i : ℕ) (r : Ranking) → i < length ys → rankFrom last (drop (i + 1) ys) (i + 1) (rankStep last r (getD ys i cleared) i) ≡ rankFrom last (drop i ys) i r
+unfolding rankFrom
+rank-next last ys i r l = rw (add-one, drop-cons ys i cleared)
 
-cleared-all : (wanted : Bool) (ys : List Seat) → map (clearBy wanted) ys ≡ cond wanted (replicate (length ys) cleared) ys
-cleared-all true [] = refl
-cleared-all true (y ∷ ys) = ap {B = List Seat} (λ r. cleared ∷ r) (cleared-all true ys)
-cleared-all false [] = refl
-cleared-all false (y ∷ ys) = ap {B = List Seat} (λ r. y ∷ r) (cleared-all false ys)
+pub rank-end : (last : ℕ) (ys : List Seat) (i : ℕ) (r : Ranking) → length ys ≤ i → r ≡ rankFrom last (drop i ys) i r
+unfolding rankFrom
+rank-end last ys i r l = rw (drop-of-length-le ys)
 
-pub clear-next : (wanted : Bool) (zs : List Seat) (i : ℕ) (r : Seat) → i < length zs → r ≡ clearBy wanted (getD zs i cleared)
-    → take (i + 1) (set zs i r) ++ map (clearBy wanted) (drop (i + 1) (set zs i r)) ≡ take i zs ++ map (clearBy wanted) (drop i zs)
-clear-next wanted zs i r l e =
+-- ---- every seat changed by its number
+pub each-next : (f : ℕ → Seat → Seat) (zs : List Seat) (i : ℕ) (r : Seat) → i < length zs → r ≡ f i (getD zs i cleared)
+    → take (i + 1) (set zs i r) ++ eachFrom (i + 1) f (drop (i + 1) (set zs i r)) ≡ take i zs ++ eachFrom i f (drop i zs)
+unfolding eachFrom
+each-next f zs i r l e =
     rw (add-one i, drop-set-lt (suc i) zs i r (omega arith), take-suc-set zs i r l)
-    (append-snoc (take i zs) r (map (clearBy wanted) (drop (suc i) zs))
-    ∙ ap (λ (s : Seat). take i zs ++ s ∷ map (clearBy wanted) (drop (suc i) zs)) e
-    ∙ ap (λ (d : List Seat). take i zs ++ map (clearBy wanted) d) (sym (drop-cons zs i cleared l)))
+    (append-snoc (take i zs) r (eachFrom (suc i) f (drop (suc i) zs))
+    ∙ ap (λ (s : Seat). take i zs ++ s ∷ eachFrom (suc i) f (drop (suc i) zs)) e
+    ∙ ap (λ (d : List Seat). take i zs ++ eachFrom i f d) (sym (drop-cons zs i cleared l)))
 
-pub clear-end : (wanted : Bool) (ys zs : List Seat) (i : ℕ) → length zs ≤ i → take i zs ++ map (clearBy wanted) (drop i zs) ≡ map (clearBy wanted) ys
-    → zs ≡ cond wanted (replicate (length ys) cleared) ys
-clear-end wanted ys zs i l e =
+pub each-end : (f : ℕ → Seat → Seat) (ys zs : List Seat) (i : ℕ) → length zs ≤ i → take i zs ++ eachFrom i f (drop i zs) ≡ each f ys → zs ≡ each f ys
+unfolding eachFrom
+each-end f ys zs i l e =
     sym (append-nil zs)
     ∙ ap (λ (t : List Seat). t ++ []) (sym (take-all i zs l))
-    ∙ ap (λ (d : List Seat). take i zs ++ map (clearBy wanted) d) (sym (drop-of-length-le zs l))
-    ∙ e ∙ cleared-all wanted ys
+    ∙ ap (λ (d : List Seat). take i zs ++ eachFrom i f d) (sym (drop-of-length-le zs l))
+    ∙ e
+
+-- choked by a round, if that is wanted
+abbrev pub chokeBy : Bool → ℕ → Seat → Seat
+chokeBy wanted i s = chokeStep wanted s
+
+-- cleared, if that is wanted
+abbrev pub clearBy : Bool → ℕ → Seat → Seat
+clearBy wanted i s = cond wanted cleared s
+
+cleared-all : (wanted : Bool) (k : ℕ) (ys : List Seat) → eachFrom k (clearBy wanted) ys ≡ cond wanted (replicate (length ys) cleared) ys
+unfolding eachFrom
+cleared-all true k [] = refl
+cleared-all true k (y ∷ ys) = ap {B = List Seat} (λ r. cleared ∷ r) (cleared-all true (suc k) ys)
+cleared-all false k [] = refl
+cleared-all false k (y ∷ ys) = ap {B = List Seat} (λ r. y ∷ r) (cleared-all false (suc k) ys)
+
+pub clear-end : (wanted : Bool) (ys zs : List Seat) (i : ℕ) → length zs ≤ i → take i zs ++ eachFrom i (clearBy wanted) (drop i zs) ≡ each (clearBy wanted) ys
+    → zs ≡ cond wanted (replicate (length ys) cleared) ys
+clear-end wanted ys zs i l e = each-end (clearBy wanted) ys zs i l e ∙ cleared-all wanted 0 ys
 
 -- ---- a page of the missing list, with its lines
 pub record Listing : Type 0 where

@@ -7,10 +7,11 @@ ghost use lib.ListN.{length, getD, set, replicate};
 ghost use lib.Seq.{sets};
 ghost use Rattle.yard_tables.specs.Seats.{on, cleared};
 ghost use Rattle.yard_tables.specs.Counting.{each};
-ghost use Rattle.yard_tables.specs.Ranks.{ranked, markStep};
+ghost use Rattle.yard_tables.specs.Ranks.{ranked, markStep, chokeStep, unchokeStep};
 ghost use Rattle.yard_tables.specs.Seating.{lowestFree};
 ghost use Rattle.yard_tables.specs.Looks.{pageOf, linesOf};
 ghost use Rattle.yard_scans.specs.Pages.{emptyPage, pageStep, lineStep, lineOf, asLines};
+use yard_tables::Head;
 use yard_tables::Page;
 use yard_tables::Seat;
 use yard_tables::cleared_seat;
@@ -20,7 +21,8 @@ use yard_tables::rank::Ranking;
 use yard_tables::rank::rank_step;
 use yard_tables::rank::unranked;
 use yard_tables::round::Marks;
-use yard_tables::round::mark;
+use yard_tables::round::choke;
+use yard_tables::round::unchoke;
 use yard_tables::sizes::wide;
 
 // The seat at i, and a cleared one past the end.
@@ -102,15 +104,35 @@ pub fn rank_seats(seats: &[Seat], h: Head) -> Ranking
     best
 }
 
-// The marks of a round at every seat.
+// The marks of a round at every seat: every truck is choked, and then the four and the holder of the free place are not.
 pub fn mark_seats(seats: &mut [Seat], marks: Marks)
     ensures { λ _. ⌜ now (seats .exit) ≡ each (λ i s. markStep marks s i) (now (seats .entry)) ⌝ }
 {
+    choke_seats(seats, marks.wanted);
+    unchoke_seat(seats, marks.wanted, marks.fourth);
+    unchoke_seat(seats, marks.wanted, marks.third);
+    unchoke_seat(seats, marks.wanted, marks.second);
+    unchoke_seat(seats, marks.wanted, marks.first);
+    unchoke_seat(seats, marks.wanted, marks.free);
+}
+
+fn choke_seats(seats: &mut [Seat], wanted: bool)
+    ensures { λ _. ⌜ now (seats .exit) ≡ each (λ i s. chokeStep wanted s) (now (seats .entry)) ⌝ }
+{
     let mut i: usize = 0;
     while i < seats.len() {
-        seats[i] = mark(marks, seats[i], i);
+        seats[i] = choke(wanted, seats[i]);
         i += 1;
     }
+}
+
+// Nothing happens past the end.
+fn unchoke_seat(seats: &mut [Seat], wanted: bool, i: usize)
+    ensures { λ _. ⌜ now (seats .exit) ≡ set (now (seats .entry)) i (unchokeStep wanted (getD (now (seats .entry)) i cleared)) ⌝ }
+{
+    let s = seat_get(seats, i);
+    let t = unchoke(wanted, s);
+    seat_set(seats, i, t);
 }
 
 // Which page of the missing list is asked for: the trucks that lack one of so many pieces, from a first seat on, on at

@@ -19,10 +19,10 @@ use Rattle.peer_wire.specs.Frames.{least, most, allowed, writeOf}
 use Rattle.peer_wire.specs.Message.{framed}
 use Rattle.yard_tables.specs.Counting.{bit, some, each}
 use Rattle.yard_tables.specs.Rows.{width}
-use Rattle.yard_tables.specs.Seats.{on, cleared, arrived, counted}
+use Rattle.yard_tables.specs.Seats.{on, cleared, arrived, counted, placed}
 use Rattle.yard_tables.specs.Step.{ifTaken, chokeFrame, interestFrame}
 use Rattle.yard_tables.specs.Tables.{wrote, seated, done, Yard, yardOf, Around, Turn, around, turn, paper, refuse, says, sizesFit, sized, sitting}
-use Rattle.yard_tables.specs.Seating.{emptied, startOf, atZero, left, leaveOf, seatedAt, sitOf, markOf}
+use Rattle.yard_tables.specs.Seating.{emptied, startOf, atZero, givenUp, left, leaveOf, seatedAt, sitOf, markOf}
 use Rattle.yard_tables.proofs.Digits.{row-in, row-byte}
 use Rattle.yard_tables.proofs.Sizing.{Fitting, fitting}
 use Rattle.yard_tables.specs.declared.Head.{Head}
@@ -187,6 +187,9 @@ module _ (h : Head) (n R C : ℕ) (e : sizesFit h n R C ≡ true) where
   pub few-seats : n ≤ 2000
   few-seats = fitting h n R C e .seats
 
+  pub some-seats : (1 ≤ n) × (n ≤ 2000)
+  some-seats = (fitting h n R C e .seat, few-seats)
+
   pub row-room : (i w : ℕ) → i < n → w ≡ width (h .pieces) → (i * w + (C + 7) / 8 ≤ R) × (C ≤ C) × (C ≤ 65536)
   row-room i w l ew =
       let f : Fitting h n R C = fitting h n R C e in
@@ -246,6 +249,10 @@ module _ (h : Head) (s : Seat) (i n : ℕ) (rows holders : List ℕ) (k : ℕ) (
   unfolding leaveOf
   leave-fault z er = ap (λ (a : Stepped). turn a rows holders) er ∙ fault-refuses h s i n rows holders k ek Leaves z
 
+  -- what is left of a head once the truck of s has gone from it
+  abbrev gone : Head → Stepped
+  gone g = record { head = counted (g .taken - 1) (g .complete - bit (eqb (s .held) (g .pieces))) g; seat = cleared; answer = Done }
+
   -- the piece counts' part of the check, in the code's words
   zero-is : (w p : ℕ) → k ≡ 0 → w ≡ width (h .pieces) → p ≡ length holders → atZero i Z ≡ (headAtZero h s || someZero rows (i * w) holders p)
   unfolding atZero
@@ -271,16 +278,15 @@ module _ (h : Head) (s : Seat) (i n : ℕ) (rows holders : List ℕ) (k : ℕ) (
       (ap (λ (a : Stepped). turn a rows holders) er)
       ∙ fault-passes h s i n rows holders k ek Leaves z
 
-  pub leave-done : (w p : ℕ) (x y : Bool) (rows′ holders′ : List ℕ) → k ≡ 0 → w ≡ width (h .pieces) → p ≡ length holders → x ≡ headAtZero h s → x ≡ false → y ≡ someZero rows (i * w) holders p → y ≡ false
-      → holders′ ≡ lowered rows (i * w) p holders → rows′ ≡ sets rows (i * w) (replicate w 0)
-      → r ≡ record { head = counted (h .taken - 1) (h .complete - bit (eqb (s .held) (h .pieces))) h; seat = cleared; answer = Done }
-      → turn r rows′ holders′ ≡ leaveOf i n Z
+  pub leave-done : (w p : ℕ) (x y : Bool) (g : Head) (rows′ holders′ : List ℕ) → k ≡ 0 → w ≡ width (h .pieces) → p ≡ length holders → x ≡ headAtZero h s → x ≡ false → y ≡ someZero rows (i * w) holders p → y ≡ false
+      → holders′ ≡ lowered rows (i * w) p holders → rows′ ≡ sets rows (i * w) (replicate w 0) → g ≡ givenUp i h
+      → r ≡ gone g → turn r rows′ holders′ ≡ leaveOf i n Z
   unfolding leaveOf left
-  leave-done w p x y rows′ holders′ z ew ep ex fx ey fy eh e′ er =
+  leave-done w p x y g rows′ holders′ z ew ep ex fx ey fy eh e′ eg er =
       pick-no (refuse damaged Z) (atZero i Z)
       (zero-is w p z ew ep ∙ ap₂ _||_ (sym ex ∙ fx) (sym ey ∙ fy))
-      (ap (λ (a : Stepped). turn a rows′ holders′) er
-      ∙ ap₂ (λ (a c : List ℕ). turn (record { head = counted (h .taken - 1) (h .complete - bit (eqb (s .held) (h .pieces))) h; seat = cleared; answer = Done }) a c)
+      (ap (λ (a : Stepped). turn a rows′ holders′) (er ∙ ap gone eg)
+      ∙ ap₂ (λ (a c : List ℕ). turn (gone (givenUp i h)) a c)
       (e′ ∙ ap (λ (q : ℕ). sets rows (i * q) (replicate q 0)) ew)
       (eh ∙ lowered-each rows (i * w) p holders (sym ep) ∙ ap (λ (q : ℕ). each (λ c m. m - bit (hasAt rows (i * q) c)) holders) ew))
       ∙ fault-passes h s i n rows holders k ek Leaves z
@@ -304,7 +310,9 @@ module _ (h e : Head) (n : ℕ) (rows holders : List ℕ) (pieces pieceLength la
   abbrev E : Yard
   E = emptied pieces pieceLength lastLength B
 
+  -- where the free place last was is no size
   fits-is : sizesFit (E .head) (length seats) (length rows) (length holders) ≡ b
+  unfolding sizesFit
   fits-is = ap₂ (λ (a : Head) (m : ℕ). sizesFit a m (length rows) (length holders)) (sym is) en ∙ sym eb
 
   pub start-refused : not b ≡ true → r ≡ record { head = h; clear = false; answer = Refused (record { place = 0; number = sizes }) }
@@ -315,11 +323,11 @@ module _ (h e : Head) (n : ℕ) (rows holders : List ℕ) (pieces pieceLength la
       (ap (λ (a : Begun). begun a seats rows holders) er)
 
   pub start-done : (R : ℕ) (rows′ holders′ : List ℕ) → not b ≡ false → R ≡ length rows → rows′ ≡ sets rows 0 (replicate R 0) → holders′ ≡ sets holders 0 (replicate (length holders) 0)
-      → r ≡ record { head = e; clear = true; answer = Done } → begun r seats rows′ holders′ ≡ startOf pieces pieceLength lastLength B
+      → r ≡ record { head = placed (e .round) (e .free) (n - 1) e; clear = true; answer = Done } → begun r seats rows′ holders′ ≡ startOf pieces pieceLength lastLength B
   unfolding startOf
   start-done R rows′ holders′ t eR e₁ e₂ er =
       pick-yes (record { answer = refused sizes 0; yard = B }) (sizesFit (E .head) (length seats) (length rows) (length holders)) (fits-is ∙ not-false b t)
       (ap (λ (a : Begun). begun a seats rows′ holders′) er
-      ∙ ap (λ (a : Head). record { answer = taken done; yard = yardOf a (replicate (length seats) cleared) rows′ holders′ }) is
+      ∙ ap₂ (λ (a : Head) (m : ℕ). record { answer = taken done; yard = yardOf (placed (a .round) (a .free) (m - 1) a) (replicate (length seats) cleared) rows′ holders′ }) is (sym en)
       ∙ ap₂ (λ (a c : List ℕ). record { answer = taken done; yard = yardOf (E .head) (replicate (length seats) cleared) a c })
       (e₁ ∙ all-clear rows R eR ∙ ap (λ (q : ℕ). replicate q 0) eR) (e₂ ∙ all-clear holders (length holders) refl))

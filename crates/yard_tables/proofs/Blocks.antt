@@ -2,22 +2,23 @@
 use mathlib.Core.Path.{_≡_, refl, sym, ap, _∙_}
 use mathlib.Core.Bool.{Bool, true, false, not, cond, _&&_, true≢false}
 use mathlib.Core.List.{List}
-use Prim.Native.Nat.{ℕ, _+_, _≤_, _<_}
+use Prim.Native.Nat.{ℕ, _+_, _-_, _≤_, _<_}
 use native.Mathlib.Omega.{arith}
-use borrow.Author.Tests.{le-leb, lt-leb, eq-eqb, ne-eqb}
+use borrow.Author.Tests.{lt-ltb, le-ltb, le-leb, lt-leb, eq-eqb, ne-eqb}
 use lib.Dec.{eqb, ltb, leb}
-use Rattle.refusal.specs.Limits.{longestBlock}
-use Rattle.refusal.specs.Numbers.{beyond, outside}
+use Rattle.refusal.specs.Limits.{longestBlock, mostSent}
+use Rattle.refusal.specs.Numbers.{beyond, outside, damaged}
 use Rattle.refusal.specs.Paper.{Outcome, taken}
-use Rattle.refusal.proofs.Cases.{pick-yes, pick-no}
-use Rattle.yard_tables.specs.Seats.{on, spoken}
-use Rattle.yard_tables.specs.Tables.{Said, serve, dropped, around, turn, paper, refuse, says}
-use Rattle.yard_tables.specs.Frames.{pieceSize, blockFits, blockOf, passed, requested}
+use Rattle.refusal.proofs.Cases.{less-or, pick-yes, pick-no}
+use Rattle.yard_tables.specs.Seats.{on, spoken, having}
+use Rattle.yard_tables.specs.Tables.{Said, used, serve, dropped, around, turn, paper, refuse, says}
+use Rattle.yard_tables.specs.Frames.{pieceSize, blockFits, blockOf, pieceOf, hears, passed, requested}
 use Rattle.yard_tables.specs.declared.Head.{Head}
 use Rattle.yard_tables.specs.declared.Seat.{Seat}
 use Rattle.yard_tables.specs.declared.Answer.{Answer}
+use Rattle.yard_tables.specs.declared.Answer.the-variants.{Taken}
 use Rattle.yard_tables.specs.declared.Stepped.{Stepped}
-use Rattle.yard_tables.specs.Replies.{stepped, refusing, blockStep}
+use Rattle.yard_tables.specs.Replies.{stepped, refusing, blockStep, pieceStep}
 
 module _ (h : Head) (p : ℕ) where
   pub size-last : {a b r : ℕ} → a ≡ p → b ≡ h .pieces → a + 1 ≡ b → r ≡ h .«last_length» → r ≡ pieceSize h p
@@ -42,6 +43,20 @@ module _ (h : Head) (p : ℕ) where
         let f : leb len longestBlock ≡ true = le-leb len longestBlock l in
         rw (e, f, eb, ez)
 
+-- a step over a block of piece p that fits or not, where x is to come of one that does
+module _ (h : Head) (s : Seat) (p : ℕ) (fits : Bool) (x : Stepped) where
+  abbrev over : Stepped
+  over = cond (ltb p (h .pieces)) (cond fits x (refusing h s outside)) (refusing h s beyond)
+
+  pub over-beyond : {r : Stepped} → h .pieces ≤ p → r ≡ refusing h s beyond → r ≡ over
+  over-beyond e er = pick-no (cond fits x (refusing h s outside)) (ltb p (h .pieces)) (le-ltb p (h .pieces) e) er
+
+  pub over-outside : {r : Stepped} → p < h .pieces → fits ≡ false → r ≡ refusing h s outside → r ≡ over
+  over-outside e f er = pick-yes (refusing h s beyond) (ltb p (h .pieces)) (lt-ltb p (h .pieces) e) (pick-no x fits f er)
+
+  pub over-within : {r : Stepped} → p < h .pieces → fits ≡ true → r ≡ x → r ≡ over
+  over-within e f er = pick-yes (refusing h s beyond) (ltb p (h .pieces)) (lt-ltb p (h .pieces) e) (pick-yes (refusing h s outside) fits f er)
+
 -- a step over a block, by what the block's frame is to get
 pub block-said : (h : Head) (s : Seat) (p begin len : ℕ) (a : Answer) (said : Said) (fits : Bool) (r : Stepped) (rows holders : List ℕ)
     → fits ≡ blockFits h p begin len → paper a ≡ taken said → r ≡ blockStep h s p fits a → turn r rows holders ≡ blockOf p begin len said (around h s rows holders)
@@ -54,6 +69,40 @@ block-said h s p begin len a said fits r rows holders ef ea er =
     go true true = ap (λ (o : Outcome Said). record { answer = o; after = around h (spoken s) rows holders }) ea
     go true false = refl
     go false c = refl
+
+-- a piece: whether its bytes are too many, and what comes of it
+module _ (s : Seat) (len : ℕ) where
+  pub much-already : mostSent < s .bytes → true ≡ ltb mostSent (s .bytes + len)
+  much-already e = sym (lt-ltb mostSent (s .bytes + len) (omega arith))
+
+  pub much-then : s .bytes ≤ mostSent → ltb (mostSent - s .bytes) len ≡ ltb mostSent (s .bytes + len)
+  much-then e = less-or (mostSent - s .bytes) len
+      (λ l. lt-ltb (mostSent - s .bytes) len l ∙ sym (lt-ltb mostSent (s .bytes + len) (omega arith)))
+      (λ l. le-ltb (mostSent - s .bytes) len l ∙ sym (le-ltb mostSent (s .bytes + len) (omega arith)))
+
+  module _ (h : Head) (n : ℕ) where
+    abbrev counted : Stepped
+    counted = cond (ltb mostSent (s .bytes + len)) (refusing h s damaged) (stepped h (spoken (having (s .bytes + len) s)) (Taken n))
+
+    pub much-refused : {r : Stepped} → ltb mostSent (s .bytes + len) ≡ true → r ≡ refusing h s damaged → r ≡ counted
+    much-refused m er = pick-yes (stepped h (spoken (having (s .bytes + len) s)) (Taken n)) (ltb mostSent (s .bytes + len)) m er
+
+    pub much-counted : {r : Stepped} {t : Seat} → ltb mostSent (s .bytes + len) ≡ false → t ≡ having (s .bytes + len) s → r ≡ stepped h (spoken t) (Taken n) → r ≡ counted
+    much-counted m et er = pick-no (refusing h s damaged) (ltb mostSent (s .bytes + len)) m (er ∙ ap (λ (t : Seat). stepped h (spoken t) (Taken n)) et)
+
+-- its step, by what its frame is to get
+pub piece-said : (h : Head) (s : Seat) (p begin len bytes : ℕ) (fits : Bool) (r : Stepped) (rows holders : List ℕ)
+    → fits ≡ blockFits h p begin len → r ≡ pieceStep h s p fits len bytes → turn r rows holders ≡ pieceOf p begin len bytes (around h s rows holders)
+unfolding pieceOf
+piece-said h s p begin len bytes fits r rows holders ef er =
+    ap (λ (x : Stepped). turn x rows holders) er ∙ go (ltb p (h .pieces)) fits (ltb mostSent (s .bytes + len)) ∙ ap (λ (b : Bool). cond (ltb p (h .pieces)) (cond b (cond (ltb mostSent (s .bytes + len)) (refuse damaged (around h s rows holders)) (says (used bytes) (hears (having (s .bytes + len)) (around h s rows holders)))) (refuse outside (around h s rows holders))) (refuse beyond (around h s rows holders))) ef
+  where
+    go : (b c d : Bool) → turn (cond b (cond c (cond d (refusing h s damaged) (stepped h (spoken (having (s .bytes + len) s)) (Taken bytes))) (refusing h s outside)) (refusing h s beyond)) rows holders
+        ≡ cond b (cond c (cond d (refuse damaged (around h s rows holders)) (says (used bytes) (hears (having (s .bytes + len)) (around h s rows holders)))) (refuse outside (around h s rows holders))) (refuse beyond (around h s rows holders))
+    go true true true = refl
+    go true true false = refl
+    go true false d = refl
+    go false c d = refl
 
 -- a request
 module _ (used : ℕ) (s : Seat) where

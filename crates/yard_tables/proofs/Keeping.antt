@@ -2,22 +2,24 @@
 use mathlib.Core.Path.{_≡_, refl, ap, _∙_}
 use mathlib.Core.Bool.{Bool, not, _&&_}
 use mathlib.Core.List.{List}
-use Prim.Native.Nat.{ℕ}
+use Prim.Native.Nat.{ℕ, _+_}
 use lib.Dec.{eqb, ltb, leb}
 use lib.ListN.{length, getD, set}
 use lib.Seq.{set-getD}
 use Rattle.refusal.specs.Paper.{Outcome, taken, refused}
+use Rattle.refusal.specs.Limits.{mostSent}
 use Rattle.refusal.proofs.Cases.{by-test}
 use Rattle.peer_wire.specs.Message.{Message, keepalive, choke, unchoke, interested, notInterested, have, bitfield, request, piece, cancel, other}
 use Rattle.peer_wire.specs.Frames.{Found, found, readOf, meant}
 use Rattle.peer_wire.specs.Frames.{wait as more}
 use Rattle.yard_tables.specs.Rows.{width, withBit, withBits, bitAt}
 use Rattle.yard_tables.specs.Seats.{on, cleared, weChoke, weWant}
-use Rattle.yard_tables.specs.Tables.{Yard, Said, wait, done, used, serve, dropped, seated, wrote, listed, shows, holds, heldBy, scarce, Around, Turn, Out, around, sizesFit, sized, sitting, yardOf, atSeat}
-use Rattle.yard_tables.specs.Frames.{overTop, announce, haveOf, spareSet, bitfieldOf, blockFits, blockOf, requested, messageOf, frameOf, feedOf}
+use Rattle.yard_tables.specs.Tables.{Yard, Said, wait, done, used, serve, dropped, seated, wrote, listed, shows, holds, heldBy, scarce, unchoked, Around, Turn, Out, around, sizesFit, sized, sitting, yardOf, atSeat}
+use Rattle.yard_tables.specs.Frames.{overTop, announce, haveOf, spareSet, bitfieldOf, blockFits, blockOf, pieceOf, requested, messageOf, frameOf, feedOf}
 use Rattle.yard_tables.specs.Seating.{emptied, startOf, lowestFree, sitOf, atZero, leaveOf, markOf}
+use Rattle.yard_tables.specs.Rounds.{misplaced, roundOf}
 use Rattle.yard_tables.specs.Looks.{missingOf, scarcestOf, seatOf, hasOf, countOf}
-use Rattle.yard_tables.specs.Step.{Call, start, sit, leave, feed, choke as chokes, interest as wants, missing, scarcest, look, has, count, step}
+use Rattle.yard_tables.specs.Step.{Call, start, sit, leave, feed, choke as chokes, interest as wants, missing, scarcest, look, has, count, round, step}
 use Rattle.yard_tables.specs.declared.Seat.{Seat}
 
 -- a refusal, or a wait
@@ -35,6 +37,7 @@ Unused (taken (shows s)) = ⊥
 Unused (taken (holds b)) = ⊥
 Unused (taken (heldBy n)) = ⊥
 Unused (taken (scarce p)) = ⊥
+Unused (taken (unchoked n)) = ⊥
 
 -- ---- one seat
 
@@ -58,6 +61,13 @@ module _ (x : Around) where
   unfolding blockOf
   block-keeps p b k a f = by-test Keeps (ltb p (x .head .pieces)) (λ e. by-test Keeps (blockFits (x .head) p b k) (λ g u. absurd (f u)) (λ g u. refl)) (λ e u. refl)
 
+  piece-keeps : (p b k bytes : ℕ) → Keeps (pieceOf p b k bytes x)
+  unfolding pieceOf
+  piece-keeps p b k bytes =
+      by-test Keeps (ltb p (x .head .pieces))
+      (λ e. by-test Keeps (blockFits (x .head) p b k) (λ f. by-test Keeps (ltb mostSent (x .seat .bytes + k)) (λ g u. refl) (λ g u. absurd u)) (λ f u. refl))
+      (λ e u. refl)
+
   message-keeps : (n i bytes : ℕ) (m : Message (List ℕ)) → Keeps (messageOf n i bytes m x)
   unfolding messageOf haveOf bitfieldOf
   message-keeps n i bytes keepalive = λ u. absurd u
@@ -72,7 +82,7 @@ module _ (x : Around) where
       (λ f u. refl))
       (λ e u. refl)
   message-keeps n i bytes (request p b k) = block-keeps p b k (requested bytes (x .seat)) (requested-taken bytes)
-  message-keeps n i bytes (piece p b block) = block-keeps p b (length block) (used bytes) (λ u. u)
+  message-keeps n i bytes (piece p b block) = piece-keeps p b (length block) bytes
   message-keeps n i bytes (cancel p b k) = block-keeps p b k (used bytes) (λ u. u)
   message-keeps n i bytes (other id payload) = λ u. absurd u
 
@@ -136,7 +146,7 @@ module _ (y : Yard) where
   back i f k u = put-back i f (k u)
 
   pub step-keeps : (c : Call) → Unused (step c y .answer) → step c y .yard ≡ y
-  unfolding step startOf
+  unfolding step startOf roundOf
   step-keeps (start p l k) = by-test KeepsYard (sizesFit (emptied p l k y .head) (length (y .seats)) (length (y .rows)) (length (y .holders))) (λ e u. absurd u) (λ e u. refl)
   step-keeps sit = back (lowestFree (y .seats)) (sitOf (lowestFree (y .seats))) (sit-keeps _ (lowestFree (y .seats)) (length (y .seats)))
   step-keeps (leave i) = back i (leaveOf i) (leave-keeps _ i (length (y .seats)))
@@ -148,3 +158,7 @@ module _ (y : Yard) where
   step-keeps (look i) = back i (seatOf i) (look-keeps _ i (length (y .seats)))
   step-keeps (has i p) = back i (hasOf i p) (has-keeps _ i p (length (y .seats)))
   step-keeps (count p) = back 0 (countOf p) (count-keeps _ p (length (y .seats)))
+  step-keeps round =
+      by-test KeepsYard (sizesFit (y .head) (length (y .seats)) (length (y .rows)) (length (y .holders)))
+      (λ e. by-test KeepsYard (misplaced (y .head) (length (y .seats))) (λ f u. refl) (λ f u. absurd u))
+      (λ e u. refl)

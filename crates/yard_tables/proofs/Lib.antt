@@ -11,3 +11,6 @@ pub mod Single
 pub mod Flags
 pub mod Blocks
 pub mod Lowering
+pub mod Marking
+pub mod Ranks
+pub mod Turning

@@ -172,3 +172,9 @@ module _ (w i : ℕ) (rows : List ℕ) (fits : i * w + w ≤ length rows) where
 
   pub sweep-none : sweep 0 (λ k. i * w + k) (λ k x. 0) w rows ≡ withoutBits w i rows
   sweep-none = sweep-run 0 (λ k x. 0) (i * w) w rows (replicate w 0) fits (length-replicate w 0) (λ k h. getD-replicate w k 0 0 h)
+
+-- changes that agree at each element
+pub each-ext : {A : Type 0} (d : A) (f g : ℕ → A → A) (l : List A) → ((k : ℕ) → k < length l → f k (getD l k d) ≡ g k (getD l k d)) → each f l ≡ each g l
+each-ext d f g l h = ext-getD d (each f l) (each g l) (length-each f l ∙ sym (length-each g l))
+    (λ k q. let m : k < length l = omega (arith, length-each f l) in
+    getD-each f l k d m ∙ h k m ∙ sym (getD-each g l k d m))

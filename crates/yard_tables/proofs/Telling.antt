@@ -3,12 +3,12 @@ use mathlib.Core.Path.{_≡_, refl, sym, ap, ap₂, _∙_}
 use mathlib.Core.List.{List}
 use Prim.Native.Nat.{ℕ}
 use Rattle.refusal.specs.Paper.{Outcome, taken, refused}
-use Rattle.yard_tables.specs.Tables.{Said, wait, done, used, serve, dropped, seated, wrote, listed, shows, holds, heldBy, scarce, paper, Around, Turn, turn, Out, out}
+use Rattle.yard_tables.specs.Tables.{Said, wait, done, used, serve, dropped, seated, wrote, listed, shows, holds, heldBy, scarce, unchoked, paper, Around, Turn, turn, Out, out}
 use Rattle.yard_tables.specs.declared.Head.{Head}
 use Rattle.yard_tables.specs.declared.Seat.{Seat}
 use Rattle.yard_tables.specs.declared.Stepped.{Stepped}
 use Rattle.yard_tables.specs.declared.Answer.{Answer}
-use Rattle.yard_tables.specs.declared.Answer.the-variants.{Refused, Wait, Done, Taken, Serve, Dropped, Seated, Wrote, Listed, Record, Holds, Holders, Piece}
+use Rattle.yard_tables.specs.declared.Answer.the-variants.{Refused, Wait, Done, Taken, Serve, Dropped, Seated, Wrote, Listed, Record, Holds, Holders, Piece, Unchoked}
 
 -- the code's answer, back from the paper's words
 abbrev back : Outcome Said → Answer
@@ -25,6 +25,7 @@ back (taken (shows s)) = Record s
 back (taken (holds b)) = Holds b
 back (taken (heldBy n)) = Holders n
 back (taken (scarce p)) = Piece p
+back (taken (unchoked n)) = Unchoked n
 
 back-is : (a : Answer) → back (paper a) ≡ a
 back-is (Refused r) = refl
@@ -40,6 +41,7 @@ back-is (Record s) = refl
 back-is (Holds b) = refl
 back-is (Holders n) = refl
 back-is (Piece p) = refl
+back-is (Unchoked n) = refl
 
 pub paper-tells : (a b : Answer) → paper a ≡ paper b → a ≡ b
 paper-tells a b e = sym (back-is a) ∙ ap back e ∙ back-is b

@@ -96,6 +96,13 @@ marked m i = eqb i (m .free) || among m i
 unfoldable pub markStep : Marks → Seat → ℕ → Seat
 markStep m s i = cond (m .wanted && on (s .taken)) (weChoke (not (marked m i)) (having 0 s)) s
 
+-- the same in two: every seat is choked, and those that are marked are unchoked after all
+abbrev pub chokeStep : Bool → Seat → Seat
+chokeStep wanted s = cond (wanted && on (s .taken)) (weChoke true (having 0 s)) s
+
+abbrev pub unchokeStep : Bool → Seat → Seat
+unchokeStep wanted s = cond (wanted && on (s .taken)) (weChoke false s) s
+
 -- how many of the four there are, and how many trucks are unchoked
 unfoldable pub fourIn : Marks → ℕ
 fourIn m = cond (eqb (m .first) nobody) 0 (cond (eqb (m .second) nobody) 1 (cond (eqb (m .third) nobody) 2 (cond (eqb (m .fourth) nobody) 3 4)))

@@ -1,7 +1,7 @@
 // Frames that speak of a block.
 ghost use mathlib.Core.Path.{_≡_};
 ghost use Prim.Native.Nat.{_+_, _≤_};
-ghost use lib.Dec.{ltb};
+ghost use lib.Dec.{ltb, leb};
 ghost use Rattle.refusal.specs.Limits.{mostSent};
 ghost use Rattle.refusal.specs.Paper.{taken};
 ghost use Rattle.yard_tables.specs.Tables.{paper};
@@ -25,7 +25,7 @@ use torrent_blocks::PieceOffset;
 pub fn block_step(h: Head, s: Seat, p: PieceNumber, fits: bool, a: Answer) -> Stepped
     ensures { λ r. ⌜ r ≡ blockStep h s (p .0) fits a ⌝ }
 {
-    if h.pieces <= p.0 {
+    if beyond(h, p) {
         return reply::refused(h, s, number::BEYOND);
     }
     if !fits {
@@ -42,7 +42,7 @@ pub fn block_step(h: Head, s: Seat, p: PieceNumber, fits: bool, a: Answer) -> St
 pub fn piece_step(h: Head, s: Seat, p: PieceNumber, fits: bool, len: usize, used: usize) -> Stepped
     ensures { λ r. ⌜ r ≡ pieceStep h s (p .0) fits len used ⌝ }
 {
-    if h.pieces <= p.0 {
+    if beyond(h, p) {
         return reply::refused(h, s, number::BEYOND);
     }
     if !fits {
@@ -52,6 +52,13 @@ pub fn piece_step(h: Head, s: Seat, p: PieceNumber, fits: bool, len: usize, used
         return reply::refused(h, s, number::DAMAGED);
     }
     reply::passed(h, sent(s, len), used)
+}
+
+// Whether there is no such piece.
+fn beyond(h: Head, p: PieceNumber) -> bool
+    ensures { λ r. ⌜ r ≡ leb (h .pieces) (p .0) ⌝ }
+{
+    h.pieces <= p.0
 }
 
 // Whether so many bytes more are more than 2^53.

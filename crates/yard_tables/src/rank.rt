@@ -3,7 +3,7 @@ ghost use mathlib.Core.Path.{_≡_};
 ghost use mathlib.Core.Bool.{cond, _&&_};
 ghost use lib.Dec.{eqb};
 ghost use Rattle.yard_tables.specs.Rounds.{nobody};
-ghost use Rattle.yard_tables.specs.Ranks.{noPlace, unranked, wantsIt, beaten, inserted, noted, rankStep};
+ghost use Rattle.yard_tables.specs.Ranks.{noPlace, ranking, unranked, wantsIt, beaten, inserted, noted, rankStep};
 use crate::Head;
 use crate::Seat;
 use crate::on;
@@ -77,27 +77,36 @@ fn note(r: Ranking, i: usize, h: Head) -> Ranking
 fn insert(r: Ranking, new: Place) -> Ranking
     ensures { λ t. ⌜ t ≡ inserted new r ⌝ }
 {
-    let mut t = r;
+    let first = r.first;
+    let second = r.second;
+    let third = r.third;
     if !beaten(r.fourth, new) {
-        return t;
+        return r;
     }
-    t.fourth = new;
-    if !beaten(r.third, new) {
-        return t;
+    if !beaten(third, new) {
+        return four(r, first, second, third, new);
     }
-    t.fourth = r.third;
-    t.third = new;
-    if !beaten(r.second, new) {
-        return t;
+    if !beaten(second, new) {
+        return four(r, first, second, new, third);
     }
-    t.third = r.second;
-    t.second = new;
-    if !beaten(r.first, new) {
-        return t;
+    if !beaten(first, new) {
+        return four(r, first, new, second, third);
     }
-    t.second = r.first;
-    t.first = new;
-    t
+    four(r, new, first, second, third)
+}
+
+// The lowest seats as they are, with these four.
+fn four(r: Ranking, first: Place, second: Place, third: Place, fourth: Place) -> Ranking
+    ensures { λ t. ⌜ t ≡ ranking first second third fourth (r .lowest) (r .next) ⌝ }
+{
+    Ranking {
+        first,
+        second,
+        third,
+        fourth,
+        lowest: r.lowest,
+        next: r.next,
+    }
 }
 
 // Nobody, or one that sent fewer bytes.

@@ -1,10 +1,8 @@
 // What a round makes of the head and of each seat, once the seats are ranked.
 ghost use mathlib.Core.Path.{_≡_};
-ghost use mathlib.Core.Bool.{_||_};
 ghost use Prim.Native.Nat.{min};
-ghost use lib.Dec.{eqb};
 ghost use Rattle.yard_tables.specs.Rounds.{nobody, misplaced};
-ghost use Rattle.yard_tables.specs.Ranks.{freeOf, marksOf, noMarks, nextNumber, lastOf, headOf, turned, fourIn, among, marked, markStep, countOf};
+ghost use Rattle.yard_tables.specs.Ranks.{freeOf, marksOf, noMarks, nextNumber, lastOf, headOf, turned, fourIn, among, chokeStep, unchokeStep, countOf};
 use crate::Answer;
 use crate::Head;
 use crate::Seat;
@@ -51,7 +49,7 @@ pub fn misplaced(h: Head, n: usize) -> bool
 pub fn free_place(h: Head, r: Ranking) -> usize
     ensures { λ f. ⌜ f ≡ freeOf h r ⌝ }
 {
-    if h.round != 0 {
+    if 0 < h.round {
         return wide(h.free);
     }
     if r.next == NOBODY {
@@ -79,11 +77,11 @@ pub fn turn(h: Head, fault: u8, r: Ranking, free: usize, holder: Seat) -> Turned
     }
 }
 
-// A seat after a round: the bytes of a taken one begin anew, and it is choked unless it is among the marks.
-pub fn mark(m: Marks, s: Seat, i: usize) -> Seat
-    ensures { λ r. ⌜ r ≡ markStep m s i ⌝ }
+// A seat that a round chokes: the bytes of a taken one begin anew.
+pub fn choke(wanted: bool, s: Seat) -> Seat
+    ensures { λ r. ⌜ r ≡ chokeStep wanted s ⌝ }
 {
-    if !m.wanted {
+    if !wanted {
         return s;
     }
     if !on(s.taken) {
@@ -91,8 +89,23 @@ pub fn mark(m: Marks, s: Seat, i: usize) -> Seat
     }
     let mut t = s;
     t.bytes = 0;
-    t.am_choking = !marked(m, i) as u8;
+    t.am_choking = 1;
     t
+}
+
+// A seat that it unchokes after all.
+pub fn unchoke(wanted: bool, s: Seat) -> Seat
+    ensures { λ r. ⌜ r ≡ unchokeStep wanted s ⌝ }
+{
+    if !wanted {
+        return s;
+    }
+    let mut t = s;
+    if on(s.taken) {
+        t.am_choking = 0;
+        return t;
+    }
+    s
 }
 
 fn turned_head(h: Head, free: usize) -> Head
@@ -118,13 +131,13 @@ fn next_number(round: u32) -> u32
 fn last_place(h: Head, free: usize) -> u32
     ensures { λ r. ⌜ r ≡ lastOf h free ⌝ }
 {
-    if h.round != 0 {
-        return h.last;
-    }
     if free == NOBODY {
         return h.last;
     }
-    narrow(free)
+    if h.round == 0 {
+        return narrow(free);
+    }
+    h.last
 }
 
 fn marks_of(r: Ranking, free: usize) -> Marks
@@ -184,15 +197,6 @@ fn four_in(m: Marks) -> usize
         return 3;
     }
     4
-}
-
-fn marked(m: Marks, i: usize) -> bool
-    ensures { λ r. ⌜ r ≡ marked m i ⌝ }
-{
-    if i == m.free {
-        return true;
-    }
-    among(m, i)
 }
 
 // Whether seat i is one of the four.

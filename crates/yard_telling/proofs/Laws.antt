@@ -4,7 +4,7 @@ use mathlib.Core.Path.{_≡_, refl, sym, _∙_}
 use Prim.Native.Nat.{ℕ}
 use Rattle.refusal.specs.Paper.{Outcome, refused, taken}
 use Rattle.yard_tables.proofs.Keeping.{Unused, step-keeps}
-use Rattle.yard_tables.specs.Tables.{Yard, Out, Said, wait, done, used, serve, dropped, seated, wrote, listed, shows, holds, heldBy, scarce}
+use Rattle.yard_tables.specs.Tables.{Yard, Out, Said, wait, done, used, serve, dropped, seated, wrote, listed, shows, holds, heldBy, scarce, unchoked}
 use Rattle.yard_tables.specs.Step.{Call, step}
 use Rattle.yard_tables.specs.declared.Seat.{Seat}
 use Rattle.yard_telling.specs.Telling.{codeOf, toldOf, shownOf, Steps, Tells, Looks, Shows}
@@ -41,6 +41,7 @@ unused (taken (shows s)) h = h refl
 unused (taken (holds b)) h = h refl
 unused (taken (heldBy n)) h = h refl
 unused (taken (scarce p)) h = h refl
+unused (taken (unchoked n)) h = h refl
 
 pub told-kept : (a : Outcome Said) (was : Told) → Unused a → toldOf a was ≡ was
 told-kept (refused n p) was u = refl
@@ -56,6 +57,7 @@ told-kept (taken (shows s)) was u = absurd u
 told-kept (taken (holds b)) was u = absurd u
 told-kept (taken (heldBy n)) was u = absurd u
 told-kept (taken (scarce p)) was u = absurd u
+told-kept (taken (unchoked n)) was u = absurd u
 
 pub shown-kept : (a : Outcome Said) (was : Seat) → Unused a → shownOf a was ≡ was
 shown-kept (refused n p) was u = refl
@@ -71,6 +73,7 @@ shown-kept (taken (shows s)) was u = absurd u
 shown-kept (taken (holds b)) was u = absurd u
 shown-kept (taken (heldBy n)) was u = absurd u
 shown-kept (taken (scarce p)) was u = absurd u
+shown-kept (taken (unchoked n)) was u = absurd u
 
 -- r is the number of a
 other : (a : Outcome Said) (r : ℕ) → r ≡ codeOf a → (r ≡ 0 → ⊥) → Unused a

@@ -8,7 +8,7 @@ use mathlib.Core.Path.{_≡_, sym, _∙_}
 use mathlib.Core.Logic.{_⊎_, _↔_, Iff·trans}
 use mathlib.Core.Bool.{true, false}
 use mathlib.Core.List.{List}
-use Prim.Native.Nat.{ℕ, _+_, _*_, _≤_, _<_}
+use Prim.Native.Nat.{ℕ, _+_, _*_, _^_, _≤_, _<_}
 use native.Mathlib.Omega.{arith}
 use lib.ListN.{length, getD}
 use Rattle.refusal.specs.Paper.{taken, refused}
@@ -84,11 +84,11 @@ use Rattle.torrent_contents.specs.Pieces.{checkPaper, hashPaper as pieceHashPap
 use Rattle.torrent_contents.specs.declared.Found as file
 use Rattle.torrent_contents.specs.declared.Hash as hash
 use Rattle.torrent_contents.specs.declared.Checked as piece
-use Rattle.peer_wire.specs.Message.{Message, have, bitfield as bits}
+use Rattle.peer_wire.specs.Message.{Message, have, piece, bitfield as bits}
 use Rattle.yard_tables.specs.Rows.{width, bitAt}
 use Rattle.yard_tables.specs.Tables.{Yard}
 use Rattle.yard_tables.specs.Step.{Call, start, sit, feed, missing, look, has, count}
-use Rattle.yard_laws.specs.History.{History, sizesOf, seated, fresh, Spoke, pieces}
+use Rattle.yard_laws.specs.History.{History, sizesOf, seated, fresh, Spoke, pieces, sent, cameIn, blockIn}
 use Rattle.yard_laws.specs.Causes.{Sits, Nobody, On, Marks, Says, SpeaksOf, Fits, StartFits}
 use Rattle.yard_laws.specs.Run.{fixedBy}
 use Rattle.yard_laws.specs.Damage.{Unfit, Damaged}
@@ -618,15 +618,22 @@ start-38 lent h t m c r z e = yard-given lent h t m c r z e 38 (omega arith) (om
 pub yard-38 : (t : Tables) (c : Call) (r : ℕ) (z : Yard) → Permits t c r z → r ≡ 38 ↔ Unfit (found t) c
 yard-38 t c r z e = number-given (permits-step t c r z e .0) 38 (omega arith) (omega arith) (damage.sizes-exactly (found t) c)
 
--- ---- 39: "damaged: a count to be raised would pass its top, or one to be lowered is 0"
+-- ---- 39: "damaged: a count to be raised would pass its top, or one to be lowered is 0"; ticket 6 of document 02: "also where a byte count would pass 2^53, or a round finds
+-- a round number over 2 or a free place, now (nobody aside) or last, that is no seat"
 
 -- given by yard, on any tables
 pub yard-39 : (t : Tables) (c : Call) (r : ℕ) (z : Yard) → Permits t c r z → r ≡ 39 ↔ Damaged (found t) c
 yard-39 t c r z e = number-given (permits-step t c r z e .0) 39 (omega arith) (omega arith) (damage.damaged-exactly (found t) c)
 
--- never given by yard after an accepted start and any calls
-pub never-39 : (lent : Yard) (h : History) (t : Tables) → Made lent h (found t) → (c : Call) (r : ℕ) (z : Yard) → Permits t c r z → r ≡ 39 → ⊥
-never-39 lent h t m c r z e = number-never (permits-step t c r z e .0) 39 (omega arith) (omega arith) (runs.undamaged lent h (found t) (made-run lent h (found t) m) c)
+-- given by yard, after an accepted start and any calls: only of a piece with which its truck would have sent more than 2^53 bytes of blocks since the last round
+pub start-39 : (lent : Yard) (h : History) (t : Tables) → Made lent h (found t) → (c : Call) (r : ℕ) (z : Yard) → Permits t c r z
+    → r ≡ 39 ↔ ((i : ℕ) × (s : List ℕ) × (q : ℕ) × (b : ℕ) × (block : List ℕ) × (bytes : ℕ) × (c ≡ feed i s) × Sits (fixedBy lent) h i × Says s (piece q b block) bytes × (q < pieces h)
+    × Fits (fixedBy lent) h q b (length block) × (2 ^ 53 < sent h i + length block))
+start-39 lent h t m c r z e = yard-given lent h t m c r z e 39 (omega arith) (omega arith)
+
+-- so never where, with this call's, fewer than 2^53 bytes of blocks came in since the last round, a start counting as one
+pub never-39 : (lent : Yard) (h : History) (t : Tables) → Made lent h (found t) → (c : Call) (r : ℕ) (z : Yard) → Permits t c r z → cameIn h + blockIn c < 2 ^ 53 → r ≡ 39 → ⊥
+never-39 lent h t m c r z e few = number-never (permits-step t c r z e .0) 39 (omega arith) (omega arith) (runs.undamaged lent h (found t) (made-run lent h (found t) m) c few)
 
 -- ---- wait: "more bytes are needed, nothing is used"
 

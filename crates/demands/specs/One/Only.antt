@@ -221,8 +221,8 @@ write-no-other r out rest e k p x = let d = left-answer (as-framed r out rest e)
 pub put-no-other : (r : Put) (out : Lent (List ℕ)) (w : List ℕ) (at : ℕ) → Puts r out w at → (k p : ℕ) → putPaper r ≡ refused k p → k ≡ 37
 put-no-other r out w at e k p x = let d = left-answer (as-put r out w at e) .0 x in puts-laws.put-exactly w at (before out) k p .0 d .0
 
--- ---- the yard: "20", "21" and "30" to "38" of the table, after an accepted start and any calls
+-- ---- the yard: "20", "21" and "30" to "39" of the table, after an accepted start and any calls
 
 pub yard-no-other : (lent : Yard) (h : History) (t : Tables) → Made lent h (found t) → (c : Call) (r : ℕ) (z : Yard) → Permits t c r z → (r ≡ 0 → ⊥) → (r ≡ 255 → ⊥)
-    → In r (20 ∷ 21 ∷ 30 ∷ 31 ∷ 32 ∷ 33 ∷ 34 ∷ 35 ∷ 36 ∷ 37 ∷ 38 ∷ [])
+    → In r (20 ∷ 21 ∷ 30 ∷ 31 ∷ 32 ∷ 33 ∷ 34 ∷ 35 ∷ 36 ∷ 37 ∷ 38 ∷ 39 ∷ [])
 yard-no-other lent h t m c r z e a b = let x = number-refuses (permits-step t c r z e .0) r a b .0 refl in runs.given-one-of lent h (found t) (made-run lent h (found t) m) c r (x .0) (x .1)

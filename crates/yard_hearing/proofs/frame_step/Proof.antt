@@ -4,7 +4,7 @@ use native.Mathlib.Omega.{arith}
 use Rattle.yard_tables.specs.Frames.{requested}
 use Rattle.yard_tables.specs.Tables.{used}
 use Rattle.yard_tables.proofs.Blocks.{block-said}
-use Rattle.yard_hearing.proofs.Hearing.{heard-choke, heard-unchoke, heard-interested, heard-not-interested, heard-other, said-have, part-in, said-bits, said-request, said-piece, said-cancel}
+use Rattle.yard_hearing.proofs.Hearing.{heard-choke, heard-unchoke, heard-interested, heard-not-interested, heard-other, said-have, part-in, said-bits, said-request, piece-said, said-piece, said-cancel}
 use borrow.Author.Needs.{needs}
 use Rattle.yard_hearing.proofs.frame_step.Statement.{statement}
 use Rattle.yard_hearing.proofs.frame_step.Tie as tie
@@ -37,10 +37,10 @@ returns-7 : tie.Need-returns-7
 returns-7 c = said-request (c .before .before .before .before .before .before .before .before .before .before .args .h) (c .before .before .before .before .before .before .before .before .before .before .args .s) (c .before .before .before .before .before .before .before .before .before .before .args .rows .now) (c .before .before .before .before .before .before .before .before .before .before .args .holders .now) (c .before .before .before .before .before .before .before .before .before .before .args .n) (c .before .before .before .before .before .before .before .before .before .before .args .i) (c .before .before .before .before .before .before .before .before .before .before .args .used) (c .before .before .before .before .before .before .before .before .before .before .args .bytes .now) (c .before .before .before .before .before .before .before .before .before .before .args .f) _ _ _ _ (c .before .before .before .wide .result) (c .before .before .before .before .before .f3 .given .1) (c .before .before .before .wide .ensures) (block-said (c .before .before .before .before .before .before .before .before .before .before .args .h) (c .before .before .before .before .before .before .before .before .before .before .args .s) _ _ (c .before .before .before .wide .result) _ (requested (c .before .before .before .before .before .before .before .before .before .before .args .used) (c .before .before .before .before .before .before .before .before .before .before .args .s)) _ _ (c .before .before .before .before .before .before .before .before .before .before .args .rows .now) (c .before .before .before .before .before .before .before .before .before .before .args .holders .now) (c .before .before .lies-within .ensures) (c .before .asked .ensures) (c .block-step .ensures))
 
 returns-8 : tie.Need-returns-8
-returns-8 c = said-piece (c .before .before .before .before .before .before .before .before .args .h) (c .before .before .before .before .before .before .before .before .args .s) (c .before .before .before .before .before .before .before .before .args .rows .now) (c .before .before .before .before .before .before .before .before .args .holders .now) (c .before .before .before .before .before .before .before .before .args .n) (c .before .before .before .before .before .before .before .before .args .i) (c .before .before .before .before .before .before .before .before .args .used) (c .before .before .before .before .before .before .before .before .args .bytes .now) (c .before .before .before .before .before .before .before .before .args .f) _ _ _ _ (c .before .before .before .f4 .given .1) (c .before .before .before .before .before .before .before .before .pre .1) (block-said (c .before .before .before .before .before .before .before .before .args .h) (c .before .before .before .before .before .before .before .before .args .s) _ _ _ _ (used (c .before .before .before .before .before .before .before .before .args .used)) _ _ (c .before .before .before .before .before .before .before .before .args .rows .now) (c .before .before .before .before .before .before .before .before .args .holders .now) (c .before .lies-within2 .ensures) refl (c .block-step2 .ensures))
+returns-8 c = said-piece (c .before .before .before .before .before .before .before .before .args .h) (c .before .before .before .before .before .before .before .before .args .s) (c .before .before .before .before .before .before .before .before .args .rows .now) (c .before .before .before .before .before .before .before .before .args .holders .now) (c .before .before .before .before .before .before .before .before .args .n) (c .before .before .before .before .before .before .before .before .args .i) (c .before .before .before .before .before .before .before .before .args .used) (c .before .before .before .before .before .before .before .before .args .bytes .now) (c .before .before .before .before .before .before .before .before .args .f) _ _ _ _ (c .before .before .before .f4 .given .1) (c .before .before .before .before .before .before .before .before .pre .1) (piece-said (c .before .before .before .before .before .before .before .before .args .h) (c .before .before .before .before .before .before .before .before .args .s) _ _ _ (c .before .before .before .before .before .before .before .before .args .used) (c .before .before .before .before .before .before .before .before .args .rows .now) (c .before .before .before .before .before .before .before .before .args .holders .now) _ _ (c .before .lies-within2 .ensures) (c .piece-step .ensures))
 
 returns-9 : tie.Need-returns-9
-returns-9 c = said-cancel (c .before .before .before .before .before .before .before .before .before .args .h) (c .before .before .before .before .before .before .before .before .before .args .s) (c .before .before .before .before .before .before .before .before .before .args .rows .now) (c .before .before .before .before .before .before .before .before .before .args .holders .now) (c .before .before .before .before .before .before .before .before .before .args .n) (c .before .before .before .before .before .before .before .before .before .args .i) (c .before .before .before .before .before .before .before .before .before .args .used) (c .before .before .before .before .before .before .before .before .before .args .bytes .now) (c .before .before .before .before .before .before .before .before .before .args .f) _ _ _ _ (c .before .before .wide2 .result) (c .before .before .before .before .f5 .given .1) (c .before .before .wide2 .ensures) (block-said (c .before .before .before .before .before .before .before .before .before .args .h) (c .before .before .before .before .before .before .before .before .before .args .s) _ _ (c .before .before .wide2 .result) _ (used (c .before .before .before .before .before .before .before .before .before .args .used)) _ _ (c .before .before .before .before .before .before .before .before .before .args .rows .now) (c .before .before .before .before .before .before .before .before .before .args .holders .now) (c .before .lies-within3 .ensures) refl (c .block-step3 .ensures))
+returns-9 c = said-cancel (c .before .before .before .before .before .before .before .before .before .args .h) (c .before .before .before .before .before .before .before .before .before .args .s) (c .before .before .before .before .before .before .before .before .before .args .rows .now) (c .before .before .before .before .before .before .before .before .before .args .holders .now) (c .before .before .before .before .before .before .before .before .before .args .n) (c .before .before .before .before .before .before .before .before .before .args .i) (c .before .before .before .before .before .before .before .before .before .args .used) (c .before .before .before .before .before .before .before .before .before .args .bytes .now) (c .before .before .before .before .before .before .before .before .before .args .f) _ _ _ _ (c .before .before .wide2 .result) (c .before .before .before .before .f5 .given .1) (c .before .before .wide2 .ensures) (block-said (c .before .before .before .before .before .before .before .before .before .args .h) (c .before .before .before .before .before .before .before .before .before .args .s) _ _ (c .before .before .wide2 .result) _ (used (c .before .before .before .before .before .before .before .before .before .args .used)) _ _ (c .before .before .before .before .before .before .before .before .before .args .rows .now) (c .before .before .before .before .before .before .before .before .before .args .holders .now) (c .before .lies-within3 .ensures) refl (c .block-step2 .ensures))
 
 returns-10 : tie.Need-returns-10
 returns-10 c = heard-other (c .before .before .before .before .before .before .args .h) (c .before .before .before .before .before .before .args .s) (c .before .before .before .before .before .before .args .rows .now) (c .before .before .before .before .before .before .args .holders .now) (c .before .before .before .before .before .before .args .n) (c .before .before .before .before .before .before .args .i) (c .before .before .before .before .before .before .args .used) (c .before .before .before .before .before .before .args .bytes .now) (c .before .before .before .before .before .before .args .f) (c .before .before .before .before .before .before .args .s) (c .passed5 .result) (c .passed5 .ensures) _ _ (c .before .enum-told5 .given .1) refl

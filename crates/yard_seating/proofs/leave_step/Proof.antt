@@ -1,11 +1,12 @@
 -- `yard_seating::leave_step` meets its contract. Assumes nothing.
 use borrow.Author.Needs.{needs}
 use Rattle.yard_seating.proofs.Ways.{row-room, row-inside, leave-fault, leave-head, leave-piece, leave-done, fault-seat}
-use Rattle.yard_seating.proofs.Ways.{row-inside, leave-fault, leave-head, leave-piece, leave-done, fault-seat}
+use Rattle.yard_tables.specs.Replies.{headAtZero}
+use Rattle.yard_tables.specs.declared.Head.{Head}
 use lib.ListN.{length}
 use native.Mathlib.Omega.{arith}
 use Prim.Native.Nat.{_+_, _*_, _≤_}
-use mathlib.Core.Path.{refl, sym, _∙_}
+use mathlib.Core.Path.{refl, sym, ap, _∙_}
 use Rattle.yard_seating.proofs.leave_step.Statement.{statement}
 use Rattle.yard_seating.proofs.leave_step.Tie as tie
 
@@ -31,15 +32,15 @@ clear-requires : tie.Need-clear-requires
 clear-requires c κs = row-inside (c .before .before .before .before .before .before .before .before .before .before .before .before .before .before .before .before .before .args .h) (c .before .before .before .before .before .before .before .before .before .before .before .before .before .before .before .before .before .args .n) (length (c .before .before .before .before .before .before .before .before .before .before .before .before .before .before .before .before .before .args .rows .now)) (length (c .before .before .before .before .before .before .before .before .before .before .before .before .before .before .before .before .before .args .holders .now)) (fault-seat (c .before .before .before .before .before .before .before .before .before .before .before .before .before .before .before .before .before .args .h) (c .before .before .before .before .before .before .before .before .before .before .before .before .before .before .before .before .before .args .s) (c .before .before .before .before .before .before .before .before .before .before .before .before .before .before .before .before .before .args .i) (c .before .before .before .before .before .before .before .before .before .before .before .before .before .before .before .before .before .args .n) (c .before .before .before .before .before .before .before .before .before .before .before .before .before .before .before .before .before .args .rows .now) (c .before .before .before .before .before .before .before .before .before .before .before .before .before .before .before .before .before .args .holders .now) _ (c .before .before .before .before .before .before .before .before .before .before .before .before .before .before .fault-at .ensures) (c .before .before .before .before .before .before .before .before .before .before .before .before .before .if1 .left) .0) (c .before .before .before .before .before .before .before .before .before .before .before .before .before .before .before .before .before .args .i) _ (fault-seat (c .before .before .before .before .before .before .before .before .before .before .before .before .before .before .before .before .before .args .h) (c .before .before .before .before .before .before .before .before .before .before .before .before .before .before .before .before .before .args .s) (c .before .before .before .before .before .before .before .before .before .before .before .before .before .before .before .before .before .args .i) (c .before .before .before .before .before .before .before .before .before .before .before .before .before .before .before .before .before .args .n) (c .before .before .before .before .before .before .before .before .before .before .before .before .before .before .before .before .before .args .rows .now) (c .before .before .before .before .before .before .before .before .before .before .before .before .before .before .before .before .before .args .holders .now) _ (c .before .before .before .before .before .before .before .before .before .before .before .before .before .before .fault-at .ensures) (c .before .before .before .before .before .before .before .before .before .before .before .before .before .if1 .left) .1) (c .before .before .before .before .before .before .before .before .before .before .before .before .width .ensures)
 
 gone-requires : tie.Need-gone-requires
-gone-requires c κs = sym (c .before .before .before .before .before .before .before .before .before .before .before .before .before .before .head-at-zero .ensures) ∙ c .before .before .before .before .before .before .before .before .before .before .before .before .before .if2 .left
+gone-requires c κs = ap (λ (g : Head). headAtZero g (c .before .before .before .before .before .before .before .before .before .before .before .before .before .before .before .before .before .before .before .before .before .args .s)) (c .give-up .ensures) ∙ sym (c .before .before .before .before .before .before .before .before .before .before .before .before .before .before .before .head-at-zero .ensures) ∙ c .before .before .before .before .before .before .before .before .before .before .before .before .before .before .if2 .left
 
 returns-4 : tie.Need-returns-4
-returns-4 c = leave-done (c .before .before .before .before .before .before .before .before .before .before .before .before .before .before .before .before .before .before .before .before .before .args .h) (c .before .before .before .before .before .before .before .before .before .before .before .before .before .before .before .before .before .before .before .before .before .args .s) (c .before .before .before .before .before .before .before .before .before .before .before .before .before .before .before .before .before .before .before .before .before .args .i) (c .before .before .before .before .before .before .before .before .before .before .before .before .before .before .before .before .before .before .before .before .before .args .n) (c .before .before .before .before .before .before .before .before .before .before .before .before .before .before .before .before .before .before .before .before .before .args .rows .now) (c .before .before .before .before .before .before .before .before .before .before .before .before .before .before .before .before .before .before .before .before .before .args .holders .now) _ (c .before .before .before .before .before .before .before .before .before .before .before .before .before .before .before .before .before .before .fault-at .ensures) _ _ _ _ _ _ _ (c .before .before .before .before .before .before .before .before .before .before .before .before .before .before .before .before .before .if1 .left) (c .before .before .before .before .before .before .before .before .before .before .before .before .before .before .before .before .width .ensures) refl (c .before .before .before .before .before .before .before .before .before .before .before .before .before .before .before .head-at-zero .ensures) (c .before .before .before .before .before .before .before .before .before .before .before .before .before .before .if2 .left) (c .before .before .before .before .before .before .before .before .before .before .before .some-zero .ensures) (c .before .before .before .before .before .before .before .before .before .before .if3 .left) (c .before .before .before .before .before .before .before .lower .ensures) (c .before .before .before .clear .ensures) (c .gone .ensures)
+returns-4 c = leave-done (c .before .before .before .before .before .before .before .before .before .before .before .before .before .before .before .before .before .before .before .before .before .before .args .h) (c .before .before .before .before .before .before .before .before .before .before .before .before .before .before .before .before .before .before .before .before .before .before .args .s) (c .before .before .before .before .before .before .before .before .before .before .before .before .before .before .before .before .before .before .before .before .before .before .args .i) (c .before .before .before .before .before .before .before .before .before .before .before .before .before .before .before .before .before .before .before .before .before .before .args .n) (c .before .before .before .before .before .before .before .before .before .before .before .before .before .before .before .before .before .before .before .before .before .before .args .rows .now) (c .before .before .before .before .before .before .before .before .before .before .before .before .before .before .before .before .before .before .before .before .before .before .args .holders .now) _ (c .before .before .before .before .before .before .before .before .before .before .before .before .before .before .before .before .before .before .before .fault-at .ensures) _ _ _ _ _ _ _ _ (c .before .before .before .before .before .before .before .before .before .before .before .before .before .before .before .before .before .before .if1 .left) (c .before .before .before .before .before .before .before .before .before .before .before .before .before .before .before .before .before .width .ensures) refl (c .before .before .before .before .before .before .before .before .before .before .before .before .before .before .before .before .head-at-zero .ensures) (c .before .before .before .before .before .before .before .before .before .before .before .before .before .before .before .if2 .left) (c .before .before .before .before .before .before .before .before .before .before .before .before .some-zero .ensures) (c .before .before .before .before .before .before .before .before .before .before .before .if3 .left) (c .before .before .before .before .before .before .before .before .lower .ensures) (c .before .before .before .before .clear .ensures) (c .before .give-up .ensures) (c .gone .ensures)
 
 pub leave-step-spec : {M : Type 1} → statement M
 leave-step-spec =
     tie.close
     (tie.spec
     (λ c κs. search needs) (λ c κs. search needs) returns (λ c κs. search needs) mul-at (λ c κs. search needs) (λ c κs. search needs) returns-2
-    some-zero-requires (λ c κs. search needs) (λ c. search needs) (λ c. search needs) returns-3 lower-requires clear-requires gone-requires (λ c. search needs)
+    some-zero-requires (λ c κs. search needs) (λ c. search needs) (λ c. search needs) returns-3 lower-requires clear-requires (λ c κs. search needs) gone-requires (λ c. search needs)
     (λ c. search needs) returns-4)

@@ -37,12 +37,16 @@ returns-12 c = c .one4 .ensures ∙ ap (λ (x : Answer). toldOf (paper x) (c .be
 returns-13 : tie.Need-returns-13
 returns-13 c = c .one5 .ensures ∙ ap (λ (x : Answer). toldOf (paper x) (c .before .before .before .before .args .was)) (sym (c .before .before .a9 .given .1))
 
+returns-14 : tie.Need-returns-14
+returns-14 c = c .one6 .ensures ∙ ap (λ (x : Answer). toldOf (paper x) (c .before .before .before .before .args .was)) (sym (c .before .before .a10 .given .1))
+
 pub tell-spec : {M : Type 1} → statement M
 tell-spec =
     tie.close
     (tie.spec
-    (λ c. search needs) (λ c. search needs) (λ c. search needs) (λ c. search needs) (λ c κs. search needs) (λ c. search needs) (λ c κs. search needs)
-    (λ c. search needs) (λ c κs. search needs) (λ c. search needs) (λ c κs. search needs) (λ c. search needs) (λ c κs. search needs) (λ c. search needs)
-    (λ c κs. search needs) (λ c. search needs) (λ c. search needs) (λ c κs. search needs) (λ c. search needs) (λ c κs. search needs) (λ c. search needs)
-    (λ c κs. search needs) returns (λ c. search needs) (λ c. search needs) returns-4 returns-5 returns-6 returns-7 returns-8 returns-9 (λ c. search needs)
-    returns-11 returns-12 returns-13)
+    (λ c. search needs) (λ c. search needs) (λ c. search needs) (λ c. search needs) (λ c κs. search needs) (λ c. search needs)
+    (λ c κs. search needs) (λ c. search needs) (λ c κs. search needs) (λ c. search needs) (λ c κs. search needs) (λ c. search needs)
+    (λ c κs. search needs) (λ c. search needs) (λ c κs. search needs) (λ c. search needs) (λ c. search needs) (λ c κs. search needs)
+    (λ c. search needs) (λ c κs. search needs) (λ c. search needs) (λ c κs. search needs) (λ c. search needs) (λ c κs. search needs) returns
+    (λ c. search needs) (λ c. search needs) returns-4 returns-5 returns-6 returns-7 returns-8 returns-9 (λ c. search needs) returns-11 returns-12
+    returns-13 returns-14)

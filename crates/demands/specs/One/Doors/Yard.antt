@@ -145,3 +145,15 @@ count-determined seats rows holders piece head told r r′ head₁ head₂ told�
 
 pub count-keeps : (seats : Lent (List Seat)) (rows holders : Lent (List ℕ)) (piece : ℕ) → Keeps2 (count-ensures seats rows holders piece) (λ (r : ℕ). r ≡ 0 → ⊥)
 count-keeps seats rows holders piece r head told e k = (e .1, told-kept (Call.count piece) _ _ _ _ (e .0 .0) k (e .0 .1))
+
+-- yard::wardrail_yard_round
+abbrev pub round-ensures : (rows holders : Lent (List ℕ)) → ℕ → Lent Head → Lent (List Seat) → Lent Told → Type 0
+round-ensures rows holders r head seats told =
+    Tells (step Call.round (yardOf (now (head .entry)) (now (seats .entry)) (now (rows .entry)) (now (holders .entry)))) (now (told .entry)) r (now (told .exit)) (yardOf (now (head .exit)) (now (seats .exit)) (now (rows .entry)) (now (holders .entry)))
+
+pub round-determined : (rows holders : Lent (List ℕ)) → Determined3 (round-ensures rows holders)
+round-determined rows holders head seats told r r′ head₁ head₂ seats₁ seats₂ told₁ told₂ e f =
+    let t = same-tables (e .2) (f .2) in (e .0 ∙ sym (f .0), t .0, t .1, e .1 ∙ sym (f .1))
+
+pub round-keeps : (rows holders : Lent (List ℕ)) → Keeps3 (round-ensures rows holders) (λ (r : ℕ). r ≡ 0 → ⊥)
+round-keeps rows holders r head seats told e k = let t = tables-kept Call.round _ _ _ _ (e .0) k (e .2) in (t .0, t .1, told-kept Call.round _ _ _ _ (e .0) k (e .1))

@@ -7,12 +7,17 @@ use lib.ListN.{getD, set, length, replicate}
 use lib.Seq.{sets}
 use Rattle.refusal.specs.Paper.{taken}
 use Rattle.refusal.proofs.Outcomes.{not-refused}
+use Rattle.yard_tables.specs.Counting.{each}
 use Rattle.yard_tables.specs.Looks.{pageOf, linesOf}
+use Rattle.yard_tables.specs.Ranks.{ranked, markStep}
 use Rattle.yard_tables.specs.Seating.{lowestFree}
 use Rattle.yard_tables.specs.Seats.{cleared}
 use Rattle.yard_tables.specs.Tables.{listed}
+use Rattle.yard_tables.specs.declared.Head.{Head}
 use Rattle.yard_tables.specs.declared.Page.{Page}
 use Rattle.yard_tables.specs.declared.Seat.{Seat}
+use Rattle.yard_tables.specs.declared.rank.Ranking.{Ranking}
+use Rattle.yard_tables.specs.declared.round.Marks.{Marks}
 use Rattle.yard_scans.specs.Pages.{asLines}
 use Rattle.yard_scans.specs.declared.Asked.{Asked}
 use Rattle.demands.specs.One.{Lent, now, Determined, Determined1, Takes1}
@@ -44,6 +49,20 @@ clear-seats-ensures wanted r seats = now (seats .exit) ≡ cond wanted (replicat
 
 pub clear-seats-determined : (wanted : Bool) → Determined1 (clear-seats-ensures wanted)
 clear-seats-determined wanted seats r r′ seats₁ seats₂ e f = (refl, e ∙ sym f)
+
+-- yard_scans::rank_seats
+abbrev pub rank-seats-ensures : (seats : Lent (List Seat)) (h : Head) → Ranking → Type 0
+rank-seats-ensures seats h r = r ≡ ranked (h .last) (now (seats .entry))
+
+pub rank-seats-determined : (seats : Lent (List Seat)) (h : Head) → Determined (rank-seats-ensures seats h)
+rank-seats-determined seats h r r′ e f = e ∙ sym f
+
+-- yard_scans::mark_seats
+abbrev pub mark-seats-ensures : (marks : Marks) → Unit {0} → Lent (List Seat) → Type 0
+mark-seats-ensures marks r seats = now (seats .exit) ≡ each (λ i s. markStep marks s i) (now (seats .entry))
+
+pub mark-seats-determined : (marks : Marks) → Determined1 (mark-seats-ensures marks)
+mark-seats-determined marks seats r r′ seats₁ seats₂ e f = (refl, e ∙ sym f)
 
 -- yard_scans::list_missing
 abbrev pub list-missing-ensures : (seats : Lent (List Seat)) (asked : Asked) → Page → Lent (List ℕ) → Type 0

@@ -7,13 +7,19 @@ use Rattle.torrent_blocks.specs.declared.PieceNumber.{PieceNumber}
 use Rattle.torrent_blocks.specs.declared.PieceOffset.{PieceOffset}
 use Rattle.yard_tables.specs.Counting.{bit}
 use Rattle.yard_tables.specs.Frames.{blockFits, requested}
-use Rattle.yard_tables.specs.Replies.{stepped, refusing, blockStep, headAtZero}
+use Rattle.yard_tables.specs.Replies.{stepped, refusing, blockStep, pieceStep, headAtZero}
+use Rattle.yard_tables.specs.Rounds.{misplaced}
+use Rattle.yard_tables.specs.Ranks.{unranked, rankStep, freeOf, turned, markStep}
 use Rattle.yard_tables.specs.Rows.{digit}
+use Rattle.yard_tables.specs.Seating.{givenUp}
 use Rattle.yard_tables.specs.Seats.{on, cleared, arrived, spoken, theyChoke, theyWant}
 use Rattle.yard_tables.specs.Tables.{paper, sizesFit}
 use Rattle.yard_tables.specs.declared.Answer.{Answer}
 use Rattle.yard_tables.specs.declared.Head.{Head}
 use Rattle.yard_tables.specs.declared.Seat.{Seat}
+use Rattle.yard_tables.specs.declared.rank.Ranking.{Ranking}
+use Rattle.yard_tables.specs.declared.round.Marks.{Marks}
+use Rattle.yard_tables.specs.declared.round.Turned.{Turned}
 use Rattle.yard_tables.specs.declared.Stepped.{Stepped}
 use Rattle.yard_tables.proofs.Telling.{paper-tells}
 use Rattle.demands.specs.One.{Determined}
@@ -60,6 +66,13 @@ block-step-ensures h s p fits a r = r ≡ blockStep h s (p .0) fits a
 pub block-step-determined : (h : Head) (s : Seat) (p : PieceNumber) (fits : Bool) (a : Answer) → Determined (block-step-ensures h s p fits a)
 block-step-determined h s p fits a r r′ e f = e ∙ sym f
 
+-- yard_tables::block::piece_step
+abbrev pub piece-step-ensures : (h : Head) (s : Seat) (p : PieceNumber) (fits : Bool) (len used : ℕ) → Stepped → Type 0
+piece-step-ensures h s p fits len used r = r ≡ pieceStep h s (p .0) fits len used
+
+pub piece-step-determined : (h : Head) (s : Seat) (p : PieceNumber) (fits : Bool) (len used : ℕ) → Determined (piece-step-ensures h s p fits len used)
+piece-step-determined h s p fits len used r r′ e f = e ∙ sym f
+
 -- yard_tables::block::asked
 abbrev pub asked-ensures : (s : Seat) (used : ℕ) → Answer → Type 0
 asked-ensures s used r = paper r ≡ taken (requested used s)
@@ -81,12 +94,61 @@ head-at-zero-ensures h s r = r ≡ headAtZero h s
 pub head-at-zero-determined : (h : Head) (s : Seat) → Determined (head-at-zero-ensures h s)
 head-at-zero-determined h s r r′ e f = e ∙ sym f
 
+-- yard_tables::leaving::give_up
+abbrev pub give-up-ensures : (h : Head) (i : ℕ) → Head → Type 0
+give-up-ensures h i r = r ≡ givenUp i h
+
+pub give-up-determined : (h : Head) (i : ℕ) → Determined (give-up-ensures h i)
+give-up-determined h i r r′ e f = e ∙ sym f
+
 -- yard_tables::leaving::lower_to
 abbrev pub lower-to-ensures : (count : ℕ) (has : Bool) → ℕ → Type 0
 lower-to-ensures count has r = r ≡ count - bit has
 
 pub lower-to-determined : (count : ℕ) (has : Bool) → Determined (lower-to-ensures count has)
 lower-to-determined count has r r′ e f = e ∙ sym f
+
+-- yard_tables::rank::unranked
+abbrev pub unranked-ensures : Ranking → Type 0
+unranked-ensures r = r ≡ unranked
+
+pub unranked-determined : Determined unranked-ensures
+unranked-determined r r′ e f = e ∙ sym f
+
+-- yard_tables::rank::rank_step
+abbrev pub rank-step-ensures : (r : Ranking) (s : Seat) (i : ℕ) (h : Head) → Ranking → Type 0
+rank-step-ensures r s i h t = t ≡ rankStep (h .last) r s i
+
+pub rank-step-determined : (r : Ranking) (s : Seat) (i : ℕ) (h : Head) → Determined (rank-step-ensures r s i h)
+rank-step-determined r s i h t t′ e f = e ∙ sym f
+
+-- yard_tables::round::misplaced
+abbrev pub misplaced-ensures : (h : Head) (n : ℕ) → Bool → Type 0
+misplaced-ensures h n r = r ≡ misplaced h n
+
+pub misplaced-determined : (h : Head) (n : ℕ) → Determined (misplaced-ensures h n)
+misplaced-determined h n r r′ e f = e ∙ sym f
+
+-- yard_tables::round::free_place
+abbrev pub free-place-ensures : (h : Head) (r : Ranking) → ℕ → Type 0
+free-place-ensures h r f = f ≡ freeOf h r
+
+pub free-place-determined : (h : Head) (r : Ranking) → Determined (free-place-ensures h r)
+free-place-determined h r f f′ e g = e ∙ sym g
+
+-- yard_tables::round::turn
+abbrev pub turn-ensures : (h : Head) (fault : ℕ) (r : Ranking) (free : ℕ) (holder : Seat) → Turned → Type 0
+turn-ensures h fault r free holder t = t ≡ turned h fault r free holder
+
+pub turn-determined : (h : Head) (fault : ℕ) (r : Ranking) (free : ℕ) (holder : Seat) → Determined (turn-ensures h fault r free holder)
+turn-determined h fault r free holder t t′ e f = e ∙ sym f
+
+-- yard_tables::round::mark
+abbrev pub mark-ensures : (m : Marks) (s : Seat) (i : ℕ) → Seat → Type 0
+mark-ensures m s i r = r ≡ markStep m s i
+
+pub mark-determined : (m : Marks) (s : Seat) (i : ℕ) → Determined (mark-ensures m s i)
+mark-determined m s i r r′ e f = e ∙ sym f
 
 -- yard_tables::reply::refused
 abbrev pub refused-ensures : (h : Head) (s : Seat) (number : ℕ) → Stepped → Type 0
