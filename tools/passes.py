@@ -13,11 +13,11 @@ def pathed(name): return name if '::' in name else f'{CRATE}::{name}'
 
 
 class Pass(Author):
-    """fn: the pass; step: its covered step; first: what gives the first value that is carried along, if a function does; both with the path where
-    they stand in another crate; roles: what each parameter of the step is given; acc: the local that carries a value along,
-    and its type. locals: MIR types as text. at: local numbers of i, len, test, place and seat, and of lent, sent, new, len2 and place2
-    where there are such. tails: the names of the loop and of what follows it. turn: fields of a turn beside i and le; start, next: their
-    values; end: that the contract holds at exit; before: what the walk does before the loop; laws: what these cite."""
+    """fn: the pass; step: its covered step; first: the function that gives the value carried along its first content, where there is one;
+    both with their path where they stand in another crate; roles: what each parameter of the step is given; acc: the local that carries a
+    value along, and its type. locals: MIR types as text. at: local numbers of i, len, test, place and seat, and of lent, sent, new, len2
+    and place2 where there are such. tails: the names of the loop and of what follows it. turn: fields of a turn beside i and le; start,
+    next: their values; end: that the contract holds at exit; before: what the walk does before the loop; laws: what these cite."""
     def __init__(s, table): super().__init__(f"{CRATE}::{table['fn']}"); s.table = table
     def starts(s, w, given):
         """The call of `first`, whose answer goes to the local that is carried along. given: of each argument its type, value, Is and local."""
@@ -230,14 +230,19 @@ LOWEST_FREE = dict(
     before=lambda s, w: w.assign(f"(of-opd ! {w.fld('_1', 1)})", '_2', '(tt, record { fits = gs .0 })'),
     start='acc = length ys; is = (refl, gs .0); so = free-all ys')
 
-CLEAR_SEATS = dict(
-    laws='use mathlib.Core.List.{_++_}\nuse Rattle.yard_tables.specs.Counting.{eachFrom, each}\n' + PROOFS + 'Passes.{clearBy, each-next, clear-end}', fn='clear_seats', step='clear_step', roles=['wanted', 'seat'],
-    locals=['tyUnit', 'SeatsTy', 'tyBool', 'tyInt w64', 'tyInt w64', 'tyBool', 'L-Seat.mir', 'tyPtr', 'L-Seat.mir', 'tyInt w64', 'tyPtr'],
-    at=dict(i=3, len=4, test=5, new=6, place=7, seat=8, len2=9, place2=10), tails=('t-2', 't-3'),
-    turn=['zs : List Seat', 'ns : length zs ≡ length ys', 'so : take i zs ++ eachFrom i (clearBy wanted) (dropped i zs) ≡ each (clearBy wanted) ys'],
-    next=lambda z, better: 'zs = set (x .zs) (x .i) r; ns = length-set (x .zs) (x .i) r ∙ x .ns; so = each-next (clearBy wanted) (x .zs) (x .i) r lz e ∙ x .so',
-    end='clear-end wanted ys (x .zs) (x .i) (subst (λ (m : ℕ). m ≤ x .i) (sym (x .ns)) l) (x .so)',
-    before=lambda s, w: None, start='zs = ys; ns = refl; so = refl')
+def changing(by, end, **table):
+    """A pass that changes every seat, if that is wanted. by: the change; end: the law for the exit."""
+    return table | dict(
+        laws='use mathlib.Core.List.{_++_}\nuse Rattle.yard_tables.specs.Counting.{eachFrom, each}\n' + PROOFS + f"Passes.{{{by.split()[0]}, each-next, {end.split()[0]}}}",
+        locals=['tyUnit', 'SeatsTy', 'tyBool', 'tyInt w64', 'tyInt w64', 'tyBool', 'L-Seat.mir', 'tyPtr', 'L-Seat.mir', 'tyInt w64', 'tyPtr'],
+        at=dict(i=3, len=4, test=5, new=6, place=7, seat=8, len2=9, place2=10), tails=('t-2', 't-3'),
+        turn=['zs : List Seat', 'ns : length zs ≡ length ys', f'so : take i zs ++ eachFrom i ({by}) (dropped i zs) ≡ each ({by}) ys'],
+        next=lambda z, better: f'zs = set (x .zs) (x .i) r; ns = length-set (x .zs) (x .i) r ∙ x .ns; so = each-next ({by}) (x .zs) (x .i) r lz e ∙ x .so',
+        end=f'{end} ys (x .zs) (x .i) (subst (λ (m : ℕ). m ≤ x .i) (sym (x .ns)) l) (x .so)',
+        before=lambda s, w: None, start='zs = ys; ns = refl; so = refl')
+
+CLEAR_SEATS = changing('clearBy wanted', 'clear-end wanted', fn='clear_seats', step='clear_step', roles=['wanted', 'seat'])
+CHOKE_SEATS = changing('chokeBy wanted', 'each-end (chokeBy wanted)', fn='choke_seats', step='yard_tables::round::choke', roles=['wanted', 'seat'])
 
 RANK_SEATS = dict(
     laws='use Rattle.yard_tables.specs.Ranks.{rankFrom}\n' + PROOFS + 'Passes.{rank-next, rank-end}', fn='rank_seats', step='yard_tables::rank::rank_step',
@@ -248,14 +253,6 @@ RANK_SEATS = dict(
     end='rank-end (h .last) ys (x .i) (x .acc) l ∙ x .so',
     before=lambda s, w: s.starts(w, []),
     start='acc = r₀; is = subst (Is R-Ranking r₀) (L-Ranking.lowers .val-is r₀ _ is₀) is₀; so = ap (λ (k : Ranking). rankFrom (h .last) ys 0 k) e₀')
-
-CHOKE_SEATS = dict(
-    laws='use mathlib.Core.List.{_++_}\nuse Rattle.yard_tables.specs.Counting.{eachFrom}\n' + PROOFS + 'Passes.{chokeBy, each-next, each-end}', fn='choke_seats', step='yard_tables::round::choke',
-    roles=['wanted', 'seat'], locals=CLEAR_SEATS['locals'], at=CLEAR_SEATS['at'], tails=CLEAR_SEATS['tails'],
-    turn=['zs : List Seat', 'ns : length zs ≡ length ys', 'so : take i zs ++ eachFrom i (chokeBy wanted) (dropped i zs) ≡ each (chokeBy wanted) ys'],
-    next=lambda z, better: 'zs = set (x .zs) (x .i) r; ns = length-set (x .zs) (x .i) r ∙ x .ns; so = each-next (chokeBy wanted) (x .zs) (x .i) r lz e ∙ x .so',
-    end='each-end (chokeBy wanted) ys (x .zs) (x .i) (subst (λ (m : ℕ). m ≤ x .i) (sym (x .ns)) l) (x .so)',
-    before=lambda s, w: None, start='zs = ys; ns = refl; so = refl')
 
 def from_empty(s, w):
     """The length, and `empty_page` of it."""

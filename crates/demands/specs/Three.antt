@@ -1,27 +1,29 @@
 -- DEMAND 3: after any sequence of calls, the yard's counts are what the history of calls says. Assumes nothing.
 -- Nothing is asked of what stands in the tables that are lent first: the first call of a run is a start that is accepted, and from there on the tables are handed
--- from call to call as each leaves them. A history holds the calls with their answers, the newest first; `seated`, `announced`, `fresh` and the four marks are
+-- from call to call as each leaves them. A history holds the calls with their answers, the newest first; `seated`, `announced`, `fresh`, the four marks and the bytes sent are
 -- recursions on it that look at no table (yard_laws/specs/History.antt).
 use mathlib.Core.Path.{_≡_, refl, sym, ap, subst, _∙_}
-use mathlib.Core.Logic.{_↔_, Iff·trans}
-use mathlib.Core.Bool.{true, false, not, _&&_}
+use mathlib.Core.Logic.{_⊎_, _↔_, Iff·trans}
+use mathlib.Core.Bool.{true, false, not, _&&_, _||_}
 use mathlib.Core.List.{List, _∷_, _++_, List·Memᴰ as In}
-use Prim.Native.Nat.{ℕ, _*_, _≤_, _<_, min}
+use Prim.Native.Nat.{ℕ, _+_, _*_, _^_, _≤_, _<_, min}
+use lib.Dec.{eqb, ltb}
 use lib.ListN.{length, getD, take, drop}
 use lib.Seq.{sets}
 use Rattle.refusal.specs.Paper.{Outcome, taken, refused}
 use Rattle.peer_wire.specs.Causes.{Zero}
 use Rattle.yard_tables.specs.Counting.{bit, count, some}
 use Rattle.yard_tables.specs.Rows.{width, hasIn}
-use Rattle.yard_tables.specs.Seats.{cleared}
+use Rattle.yard_tables.specs.Seats.{on, cleared}
+use Rattle.yard_tables.specs.Rounds.{nobody, way, chosen}
 use Rattle.yard_tables.specs.Looks.{firstOr}
-use Rattle.yard_tables.specs.Tables.{Yard, Said, wait, serve, dropped, listed, scarce, seated as givesSeat}
-use Rattle.yard_tables.specs.Step.{Call, sit, feed, missing, scarcest, look, step, written}
+use Rattle.yard_tables.specs.Tables.{Yard, yardOf, Said, wait, serve, dropped, listed, scarce, unchoked, seated as givesSeat}
+use Rattle.yard_tables.specs.Step.{Call, sit, feed, missing, scarcest, look, round, step, written}
 use Rattle.yard_tables.specs.declared.Head.{Head}
 use Rattle.yard_tables.specs.declared.Seat.{Seat}
 use Rattle.yard_tables.specs.declared.Page.{Page}
-use Rattle.yard_laws.specs.History.{History, Fixed, entry, sizesOf, seated, announced, fresh, Spoke, weAreChoking, weAreInterested, theyAreChoking, theyAreInterested, pieces, sizesSet}
-use Rattle.yard_laws.specs.Says.{allOf, recordOf, Ascending, holders}
+use Rattle.yard_laws.specs.History.{History, Fixed, entry, sizesOf, seated, announced, fresh, Spoke, weAreChoking, weAreInterested, theyAreChoking, theyAreInterested, pieces, sizesSet, sent, wanting, roundNumber, freePlace, lastPlace, cameIn, blockIn}
+use Rattle.yard_laws.specs.Says.{allOf, recordOf, Ascending, holders, unchokes}
 use Rattle.yard_laws.specs.Expected.{answer, output}
 use Rattle.yard_laws.specs.Causes.{Sits, Cause, WaitCause, Serves, Drops}
 use Rattle.yard_laws.specs.Given.{Gives, Writes}
@@ -33,12 +35,14 @@ use Rattle.yard_laws.proofs.Theorem as theorem
 use Rattle.yard_laws.proofs.Demand as demand
 use Rattle.yard_laws.proofs.Pages as pages
 use Rattle.yard_laws.proofs.Keepalive as keepalive
+use Rattle.yard_laws.proofs.Rounds as rounds
 use Rattle.yard_telling.specs.Telling.{codeOf, toldOf, shownOf}
 use Rattle.yard_telling.specs.declared.Told.{Told}
 use Rattle.demands_laws.proofs.Refusals.{same-answer}
 use Rattle.demands_laws.proofs.Keeping.{same-tables}
 use Rattle.demands_laws.proofs.Tables.{no-wait}
 use Rattle.demands_laws.proofs.Runs as runs
+use Rattle.demands_laws.proofs.Rounds as after-round
 use Rattle.demands_laws.proofs.Runs.{start-taken}
 use Rattle.demands_laws.proofs.Numbered.{number-refuses, number-waits, at-any-place, page-told}
 use Rattle.demands_laws.proofs.Paging.{page-total, page-listed}
@@ -77,11 +81,14 @@ keepalive-says-nothing t i bytes r told e fit here none =
     let s = same-tables (e .2 ∙ k .1) refl in
     (e .0 ∙ ap codeOf (k .0), e .1 ∙ ap (λ (a : Outcome Said). toldOf a (before told)) (k .0), s .0, s .1, s .2, s .3)
 
--- nor does it change anything that a history says: of each seat its record and what is announced there, and the sizes
-pub keepalive-unsaid : (h : History) (i : ℕ) (s : List ℕ) (a : Outcome Said) (w : List ℕ) → Zero s
-    → ((j : ℕ) → recordOf (entry (feed i s) a w ∷ h) j ≡ recordOf h j)
+-- nor does it change anything that a history says: of each seat its record and what is announced there, the sizes, and whose turn it is in which round
+pub keepalive-unsaid : (h : History) (i : ℕ) (s : List ℕ) (a : Outcome Said) (w : List ℕ) → Zero s → (fixed : Fixed)
+    → ((j : ℕ) → recordOf fixed (entry (feed i s) a w ∷ h) j ≡ recordOf fixed h j)
     × ((j p : ℕ) → announced (entry (feed i s) a w ∷ h) j p ≡ announced h j p)
     × (sizesSet (entry (feed i s) a w ∷ h) ≡ sizesSet h)
+    × (roundNumber (entry (feed i s) a w ∷ h) ≡ roundNumber h)
+    × (freePlace fixed (entry (feed i s) a w ∷ h) ≡ freePlace fixed h)
+    × (lastPlace fixed (entry (feed i s) a w ∷ h) ≡ lastPlace fixed h)
 keepalive-unsaid h i s a w none = keepalive.keepalive-unsaid h i s a w none
 
 -- a truck that sits is fresh until a message of it with an id is taken: it is not exactly if one was taken since it sat down
@@ -119,11 +126,12 @@ module _ (lent : Yard) (h : History) (y : Yard) (made : Made lent h y) where
   pub seat-right : (i : ℕ) → i < seats → getD (y .seats) i cleared ≡ record {
     taken = bit (seated h i);
     fresh = bit (fresh h i);
-    «am_choking» = bit (weAreChoking h i);
+    «am_choking» = bit (weAreChoking fixed h i);
     «am_interested» = bit (weAreInterested h i);
     «peer_choking» = bit (theyAreChoking h i);
     «peer_interested» = bit (theyAreInterested h i);
     held = count (pieces h) (λ p. seated h i && announced h i p);
+    bytes = sent h i;
   }
   seat-right i l = agrees .seat-is i
 
@@ -194,8 +202,8 @@ module _ (lent : Yard) (h : History) (y : Yard) (made : Made lent h y) where
     pub writes-right : (w : List ℕ) → written c y ≡ w ↔ Writes fixed h c w
     writes-right = demand.writes-right fixed h y agrees c
 
-    -- none is 39
-    pub never-damaged : (place : ℕ) → step c y .answer ≡ refused 39 place → ⊥
+    -- none is 39, where fewer than 2^53 bytes of blocks came in since the last round, a start counting as one, those of this call among them
+    pub never-damaged : cameIn h + blockIn c < 2 ^ 53 → (place : ℕ) → step c y .answer ≡ refused 39 place → ⊥
     never-damaged = demand.never-damaged fixed h y agrees c
 
     -- as C sees it, r being the number that it gets: 255 is a wait, and any other but 0 a refusal
@@ -257,3 +265,61 @@ module _ (lent : Yard) (h : History) (y : Yard) (made : Made lent h y) where
       × ((q : ℕ) → q < pieces h → count seats (λ i. seated h i && announced h i p) ≤ count seats (λ i. seated h i && announced h i q))
       × ((q : ℕ) → q < p → count seats (λ i. seated h i && announced h i p) < count seats (λ i. seated h i && announced h i q))
   scarcest-right p q = let x = demand.scarcest-right fixed h y agrees p q in (x .within, x .least, x .first)
+
+  -- ---- Document 02, ticket 6: rounds
+
+  -- the head's round number, its free place and where that last was
+  pub places-right : (y .head .round ≡ roundNumber h) × (y .head .free ≡ freePlace fixed h) × (y .head .last ≡ lastPlace fixed h)
+  places-right = (ap (λ (k : Head). k .round) (agrees .head-is), ap (λ (k : Head). k .free) (agrees .head-is), ap (λ (k : Head). k .last) (agrees .head-is))
+
+  -- "the four that sent most bytes, ties to the lower seat": a truck that sits and is interested is one of them exactly if fewer than four that sit and are interested
+  -- sent more bytes, or as many and sit lower
+  pub four-right : (i : ℕ) → chosen seats (wanting h) (sent h) i ≡ true
+      ↔ ((seated h i ≡ true) × (theyAreInterested h i ≡ true)
+      × (count seats (λ j. (seated h j && theyAreInterested h j) && (ltb (sent h i) (sent h j) || (eqb (sent h j) (sent h i) && ltb j i))) < 4))
+  four-right = rounds.chosen-exactly fixed h
+
+  -- a round: `free` has the free place then
+  module _ (t : Tables) (f : found t ≡ y) (r : ℕ) (told : Lent Told) (e : yard.round-ensures (t .rows) (t .holders) r (t .head) (t .seats) told) where
+    abbrev then : Yard
+    then = yardOf (after (t .head)) (after (t .seats)) (before (t .rows)) (before (t .holders))
+
+    abbrev free : ℕ
+    free = after (t .head) .free
+
+    left : then ≡ step round y .yard
+    left = e .2 ∙ ap (λ (x : Yard). step round x .yard) f
+
+    -- it is never refused
+    pub round-taken : r ≡ 0
+    round-taken = e .0 ∙ ap (λ (x : Yard). codeOf (step round x .answer)) f ∙ ap codeOf (answer-right round)
+
+    -- "Our choke mark goes off at these and at the holder of the free place, and on at every other taken seat"; the bytes are cleared
+    pub round-marks : (i : ℕ) → seated h i ≡ true
+        → (getD (after (t .seats)) i cleared .«am_choking» ≡ bit (not (chosen seats (wanting h) (sent h) i || eqb i free))) × (getD (after (t .seats)) i cleared .bytes ≡ 0)
+    round-marks = after-round.marks-after fixed h y agrees then left
+
+    -- "Records of free seats stay"
+    pub round-spares : (i : ℕ) → seated h i ≡ false → getD (after (t .seats)) i cleared ≡ getD (y .seats) i cleared
+    round-spares = after-round.spares-after fixed h y agrees then left
+
+    -- "how many trucks are now unchoked", and these are at most five
+    pub at-most-five : (after told .value ≡ count seats (λ i. seated h i && not (on (getD (after (t .seats)) i cleared .«am_choking»)))) × (after told .value ≤ 5)
+    at-most-five =
+        let g : after told ≡ toldOf (taken (unchoked (unchokes fixed h))) (before told) =
+        e .1 ∙ ap (λ (x : Yard). toldOf (step round x .answer) (before told)) f ∙ ap (λ (o : Outcome Said). toldOf o (before told)) (answer-right round) in
+        let v : after told .value ≡ unchokes fixed h = ap (λ (x : Told). x .value) g in
+        let k = after-round.five-after fixed h y agrees then left in
+        (v ∙ k .0, rw v (k .1))
+
+    -- "On round number 0 the free place goes to the next seat, taken and interested, going round from the one after `last`, `last` itself coming last; to nobody if no
+    -- seat is interested". `way` is how many seats are passed until there (yard_tables/specs/Rounds.antt)
+    pub free-next : roundNumber h ≡ 0
+        → ((free ≡ nobody) × ((i : ℕ) → i < seats → wanting h i ≡ false))
+        ⊎ ((free < seats) × (wanting h free ≡ true)
+        × ((j : ℕ) → j < seats → wanting h j ≡ true → way seats (wanting h) (lastPlace fixed h) free ≤ way seats (wanting h) (lastPlace fixed h) j))
+    free-next = after-round.free-next fixed h y agrees then left
+
+    -- "On the other rounds its holder keeps it"
+    pub free-kept : (roundNumber h ≡ 0 → ⊥) → free ≡ freePlace fixed h
+    free-kept = after-round.free-kept fixed h y agrees then left

@@ -22,6 +22,7 @@ pub mod Keeping
 pub mod Reasons
 pub mod Tables
 pub mod Runs
+pub mod Rounds
 pub mod Numbered
 pub mod Paging
 pub mod Loaded

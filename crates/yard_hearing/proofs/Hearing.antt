@@ -1,7 +1,7 @@
 -- A frame for a seat, by what it says and by the checks before it. Assumes nothing.
 use mathlib.Core.Path.{_≡_, refl, sym, ap, _∙_, subst}
 use mathlib.Core.Logic.{inl, inr}
-use mathlib.Core.Bool.{Bool, true, false, cond, _&&_}
+use mathlib.Core.Bool.{Bool, true, false, _&&_}
 use mathlib.Core.List.{List}
 use Prim.Native.Nat.{ℕ, _+_, _-_, _≤_, _<_}
 use native.Mathlib.Omega.{arith}
@@ -9,8 +9,7 @@ use borrow.Author.Tests.{lt-ltb, le-ltb}
 use lib.Dec.{ltb}
 use lib.ListN.{length, getD, take, drop, length-drop}
 use lib.Seq.{length-take-le}
-use Rattle.refusal.specs.Numbers.{seat, sizes, beyond, outside, damaged}
-use Rattle.refusal.specs.Limits.{mostSent}
+use Rattle.refusal.specs.Numbers.{seat, sizes}
 use Rattle.refusal.specs.Paper.{Outcome, taken}
 use Rattle.refusal.specs.declared.Refusal.{Refusal}
 use Rattle.refusal.specs.Parts.{bytesAt}
@@ -27,10 +26,10 @@ use Rattle.peer_wire.specs.declared.Read.{Read}
 use Rattle.peer_wire.specs.declared.Read.the-variants.{Wait, Keepalive, Whole, Refused}
 use Rattle.peer_wire.proofs.Decided.{exactly}
 use Rattle.peer_wire.proofs.Steps.{by-id, message-other, read-sized, sized-whole}
-use Rattle.yard_tables.specs.Replies.{stepped, refusing, pieceStep}
-use Rattle.yard_tables.specs.Seats.{on, spoken, theyChoke, theyWant, having}
-use Rattle.yard_tables.specs.Tables.{used, Around, Turn, around, turn, refuse, says as saying, sizesFit}
-use Rattle.yard_tables.specs.Frames.{haveOf, bitfieldOf, blockFits, blockOf, pieceOf, hears, requested, messageOf, frameOf, feedOf}
+use Rattle.yard_tables.specs.Replies.{stepped, refusing}
+use Rattle.yard_tables.specs.Seats.{on, spoken, theyChoke, theyWant}
+use Rattle.yard_tables.specs.Tables.{used, Turn, around, turn, sizesFit}
+use Rattle.yard_tables.specs.Frames.{haveOf, bitfieldOf, blockOf, pieceOf, requested, messageOf, frameOf, feedOf}
 use Rattle.yard_tables.specs.declared.Head.{Head}
 use Rattle.yard_tables.specs.declared.Seat.{Seat}
 use Rattle.yard_tables.specs.declared.Answer.the-variants as A
@@ -64,25 +63,6 @@ whole-have s k b ek l e eb f =
     let id : getD s 4 0 ≡ 4 = sym eb ∙ f in
     read-sized s (omega arith) ∙ ap (sizedOf s) (sym ek ∙ e) ∙ sized-whole s 5 (omega arith) (omega arith) (omega arith) (ap (λ (x : ℕ). allowed x 5) id)
     ∙ ap {B = Outcome Found} (λ (x : ℕ). taken (found (messageBy (λ j. numberIn s (5 + j)) (λ j. record { from = 5 + j; len = 5 - (1 + j) }) x) 9)) id
-
--- ---- the step over a piece, by what its frame is to get
-
-module _ (h : Head) (s : Seat) (p begin len u : ℕ) (rows holders : List ℕ) where
-  abbrev X : Around
-  X = around h s rows holders
-
-  by-tests : (a b c : Bool) → turn (cond a (cond b (cond c (refusing h s damaged) (stepped h (spoken (having (s .bytes + len) s)) (A.Taken u))) (refusing h s outside)) (refusing h s beyond)) rows holders
-      ≡ cond a (cond b (cond c (refuse damaged X) (saying (used u) (hears (having (s .bytes + len)) X))) (refuse outside X)) (refuse beyond X)
-  by-tests true true true = refl
-  by-tests true true false = refl
-  by-tests true false c = refl
-  by-tests false b c = refl
-
-  pub piece-said : (fits : Bool) (r : Stepped) → fits ≡ blockFits h p begin len → r ≡ pieceStep h s p fits len u → turn r rows holders ≡ pieceOf p begin len u X
-  unfolding pieceOf
-  piece-said fits r ef er =
-      ap (λ (x : Stepped). turn x rows holders) (er ∙ ap (λ (b : Bool). pieceStep h s p b len u) ef)
-      ∙ by-tests (ltb p (h .pieces)) (blockFits h p begin len) (ltb mostSent (s .bytes + len))
 
 -- ---- by what the frame says
 

@@ -18,8 +18,8 @@ use Rattle.peer_wire.specs.Frames.{Found, readOf}
 use Rattle.yard_tables.specs.Counting.{bit, count, some, each}
 use Rattle.yard_tables.specs.Seats.{on, cleared, placed}
 use Rattle.yard_tables.specs.Tables.{Yard, Said, unchoked, Out, yardOf, sizesFit}
-use Rattle.yard_tables.specs.Rounds.{nobody, nextOf, freeThen, lastThen, before, chosen, served, nextRound, takenIn, wantsIn, sentIn, roundSeat, misplaced, headAfter, servedIn, roundOf}
-use Rattle.yard_tables.specs.Step.{Call, start, sit, leave, feed, choke, interest, missing, scarcest, look, has, count as countAt, round}
+use Rattle.yard_tables.specs.Rounds.{nobody, way, nextOf, freeThen, lastThen, before, chosen, served, nextRound, takenIn, wantsIn, sentIn, roundSeat, misplaced, headAfter, servedIn, roundOf}
+use Rattle.yard_tables.specs.Step.{Call, start, sit, leave, feed, choke, interest, missing, scarcest, look, has, count as countAt, round, step}
 use Rattle.yard_tables.specs.declared.Head.{Head}
 use Rattle.yard_tables.specs.declared.Seat.{Seat}
 use Rattle.yard_tables.proofs.Counts.{bit-le, count-ext, count-sub, count-none, count-or, some-none}
@@ -169,6 +169,35 @@ module _ (h : History) (k : ℕ) (w : List ℕ) where
       × (weAreInterested rounded i ≡ weAreInterested h i) × (theyAreChoking rounded i ≡ theyAreChoking h i) × (theyAreInterested rounded i ≡ theyAreInterested h i)
   unfolding event
   round-leaves i = (refl, λ p. refl, refl, refl, refl, refl)
+
+-- ---- a round on tables that agree with a history
+
+module _ (fixed : Fixed) (h : History) (y : Yard) (agrees : Agrees fixed h y) where
+  -- it is taken, and the tables then agree with the history after it
+  pub round-after : (step round y .answer ≡ taken (unchoked (unchokes fixed h))) × Agrees fixed (rounded h (unchokes fixed h) []) (step round y .yard)
+  unfolding step
+  round-after =
+      let k = round-kept fixed h y agrees [] in
+      (k .0, subst (λ (o : Outcome Said). Agrees fixed (entry round o [] ∷ h) (roundOf y .yard)) (k .0) (k .1))
+
+  -- on round number 0 the free place goes to the next seat, going round from the one after the last holder, or to nobody
+  pub free-turns : roundNumber h ≡ 0
+      → ((turnOf fixed h (freePlace fixed h) ≡ nobody) × ((i : ℕ) → i < fixed .seats → wanting h i ≡ false))
+      ⊎ ((turnOf fixed h (freePlace fixed h) < fixed .seats) × (wanting h (turnOf fixed h (freePlace fixed h)) ≡ true)
+      × ((j : ℕ) → j < fixed .seats → wanting h j ≡ true
+      → way (fixed .seats) (wanting h) (lastPlace fixed h) (turnOf fixed h (freePlace fixed h)) ≤ way (fixed .seats) (wanting h) (lastPlace fixed h) j))
+  free-turns e =
+      let s = sizes-here fixed h y agrees in
+      rw (eq-eqb (roundNumber h) 0 e) (next-right (fixed .seats) (wanting h) (lastPlace fixed h) (last-within fixed (s .seat) (omega (arith, s .seats)) h) (omega (arith, s .seats)))
+
+-- and else its holder keeps it
+pub free-stays : (fixed : Fixed) (h : History) → (roundNumber h ≡ 0 → ⊥) → turnOf fixed h (freePlace fixed h) ≡ freePlace fixed h
+free-stays fixed h f = rw (ne-eqb (roundNumber h) 0 f)
+
+-- after a round the free place is whose turn it was
+pub free-after : (fixed : Fixed) (h : History) (k : ℕ) (w : List ℕ) → freePlace fixed (rounded h k w) ≡ turnOf fixed h (freePlace fixed h)
+unfolding event
+free-after fixed h k w = refl
 
 -- ---- whom a round unchokes
 

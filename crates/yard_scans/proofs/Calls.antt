@@ -1,6 +1,6 @@
 -- What the straight lines of calls come to. Each law takes what the walk of its function has: the parameters, what the lent slices hold at exit, what each
 -- call answers, and what its contract says, in the order of the calls (tools/walker.py). Assumes nothing.
-use mathlib.Core.Path.{_≡_, ap, ap₂, _∙_}
+use mathlib.Core.Path.{_≡_, ap, _∙_}
 use mathlib.Core.Bool.{Bool}
 use mathlib.Core.List.{List}
 use Prim.Native.Nat.{ℕ}

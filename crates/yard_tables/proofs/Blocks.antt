@@ -11,7 +11,7 @@ use Rattle.refusal.specs.Numbers.{beyond, outside, damaged}
 use Rattle.refusal.specs.Paper.{Outcome, taken}
 use Rattle.refusal.proofs.Cases.{less-or, pick-yes, pick-no}
 use Rattle.yard_tables.specs.Seats.{on, spoken, having}
-use Rattle.yard_tables.specs.Tables.{Said, used, serve, dropped, around, turn, paper, refuse, says}
+use Rattle.yard_tables.specs.Tables.{Around, Said, used, serve, dropped, around, turn, paper, refuse, says}
 use Rattle.yard_tables.specs.Frames.{pieceSize, blockFits, blockOf, pieceOf, hears, passed, requested}
 use Rattle.yard_tables.specs.declared.Head.{Head}
 use Rattle.yard_tables.specs.declared.Seat.{Seat}
@@ -91,18 +91,23 @@ module _ (s : Seat) (len : ℕ) where
     much-counted m et er = pick-no (refusing h s damaged) (ltb mostSent (s .bytes + len)) m (er ∙ ap (λ (t : Seat). stepped h (spoken t) (Taken n)) et)
 
 -- its step, by what its frame is to get
-pub piece-said : (h : Head) (s : Seat) (p begin len bytes : ℕ) (fits : Bool) (r : Stepped) (rows holders : List ℕ)
-    → fits ≡ blockFits h p begin len → r ≡ pieceStep h s p fits len bytes → turn r rows holders ≡ pieceOf p begin len bytes (around h s rows holders)
-unfolding pieceOf
-piece-said h s p begin len bytes fits r rows holders ef er =
-    ap (λ (x : Stepped). turn x rows holders) er ∙ go (ltb p (h .pieces)) fits (ltb mostSent (s .bytes + len)) ∙ ap (λ (b : Bool). cond (ltb p (h .pieces)) (cond b (cond (ltb mostSent (s .bytes + len)) (refuse damaged (around h s rows holders)) (says (used bytes) (hears (having (s .bytes + len)) (around h s rows holders)))) (refuse outside (around h s rows holders))) (refuse beyond (around h s rows holders))) ef
-  where
-    go : (b c d : Bool) → turn (cond b (cond c (cond d (refusing h s damaged) (stepped h (spoken (having (s .bytes + len) s)) (Taken bytes))) (refusing h s outside)) (refusing h s beyond)) rows holders
-        ≡ cond b (cond c (cond d (refuse damaged (around h s rows holders)) (says (used bytes) (hears (having (s .bytes + len)) (around h s rows holders)))) (refuse outside (around h s rows holders))) (refuse beyond (around h s rows holders))
-    go true true true = refl
-    go true true false = refl
-    go true false d = refl
-    go false c d = refl
+
+module _ (h : Head) (s : Seat) (p begin len bytes : ℕ) (rows holders : List ℕ) where
+  abbrev at-seat : Around
+  at-seat = around h s rows holders
+
+  by-tests : (a b c : Bool) → turn (cond a (cond b (cond c (refusing h s damaged) (stepped h (spoken (having (s .bytes + len) s)) (Taken bytes))) (refusing h s outside)) (refusing h s beyond)) rows holders
+      ≡ cond a (cond b (cond c (refuse damaged at-seat) (says (used bytes) (hears (having (s .bytes + len)) at-seat))) (refuse outside at-seat)) (refuse beyond at-seat)
+  by-tests true true true = refl
+  by-tests true true false = refl
+  by-tests true false c = refl
+  by-tests false b c = refl
+
+  pub piece-said : (fits : Bool) (r : Stepped) → fits ≡ blockFits h p begin len → r ≡ pieceStep h s p fits len bytes → turn r rows holders ≡ pieceOf p begin len bytes at-seat
+  unfolding pieceOf
+  piece-said fits r ef er =
+      ap (λ (x : Stepped). turn x rows holders) (er ∙ ap (λ (b : Bool). pieceStep h s p b len bytes) ef)
+      ∙ by-tests (ltb p (h .pieces)) (blockFits h p begin len) (ltb mostSent (s .bytes + len))
 
 -- a request
 module _ (used : ℕ) (s : Seat) where

@@ -3,8 +3,8 @@ use mathlib.Core.Path.{refl}
 use native.Mathlib.Omega.{arith}
 use Rattle.yard_tables.specs.Frames.{requested}
 use Rattle.yard_tables.specs.Tables.{used}
-use Rattle.yard_tables.proofs.Blocks.{block-said}
-use Rattle.yard_hearing.proofs.Hearing.{heard-choke, heard-unchoke, heard-interested, heard-not-interested, heard-other, said-have, part-in, said-bits, said-request, piece-said, said-piece, said-cancel}
+use Rattle.yard_tables.proofs.Blocks.{block-said, piece-said}
+use Rattle.yard_hearing.proofs.Hearing.{heard-choke, heard-unchoke, heard-interested, heard-not-interested, heard-other, said-have, part-in, said-bits, said-request, said-piece, said-cancel}
 use borrow.Author.Needs.{needs}
 use Rattle.yard_hearing.proofs.frame_step.Statement.{statement}
 use Rattle.yard_hearing.proofs.frame_step.Tie as tie

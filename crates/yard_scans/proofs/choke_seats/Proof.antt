@@ -85,9 +85,9 @@ module _ {M : Type 1} (𝓤 : URA M) (H : Heap 𝓤) (A : Atoms 𝓤) (W : Given
       qed W (Had (x .zs) ([])) ∵
       suffices ! _ (ends-at 𝓤 H A f.ended stayed (f.clauses 𝓤 H A mem run) W bound (vunit) (tt) (x .zs, (tt, tt)) (x .ns, (tt, tt))) $ says ! e $
       move ! (1 ∷ 2 ∷ []) $ fjoin ! $ pureI ! (at-slice R-Seat (at-seats (x .zs)) (sv ∷ [])) (tt, (tt, tt))
-          (ap (λ (m : ℕ). sliceVal (b, o) m ∷ []) (sym (x .ns)), subst (Room R-Seat) (sym (x .ns)) gs) $ fjoin ! $ nothing ! $ move ! (2 ∷ 0 ∷ []) $ join ! $
-          nothing ! $ owned ! Boolean (Is Boolean) (bool-makes 𝓤 H A W) wanted (vbool wanted ∷ []) g-wanted $ fjoin ! $ move ! (2 ∷ 0 ∷ []) $ fjoin ! $
-          move ! (1 ∷ 0 ∷ []) $ frame ! $ frame ! $ owned ! Nothing (Is Nothing) (nothing-makes 𝓤 H A W) tt (vunit ∷ []) refl $ done !
+      (ap (λ (m : ℕ). sliceVal (b, o) m ∷ []) (sym (x .ns)), subst (Room R-Seat) (sym (x .ns)) gs) $ fjoin ! $ nothing ! $ move ! (2 ∷ 0 ∷ []) $ join ! $
+      nothing ! $ owned ! Boolean (Is Boolean) (bool-makes 𝓤 H A W) wanted (vbool wanted ∷ []) g-wanted $ fjoin ! $ move ! (2 ∷ 0 ∷ []) $ fjoin ! $
+      move ! (1 ∷ 0 ∷ []) $ frame ! $ frame ! $ owned ! Nothing (Is Nothing) (nothing-makes 𝓤 H A W) tt (vunit ∷ []) refl $ done !
 
   -- the call
   module _ (s : Seat) (i : ℕ) where
@@ -99,9 +99,9 @@ module _ {M : Type 1} (𝓤 : URA M) (H : Heap 𝓤) (A : Atoms 𝓤) (W : Given
 
     goes-stp : Is Boolean wanted (vbool wanted ∷ []) → Is R-Seat s (L-Seat.lowered s ∷ []) → i < 2 ^ 64 → ent 𝓤 (⋆ 𝓤 H A ([])) (Stp 𝓤 H A mem run .pre to-stp)
     goes-stp g-wanted iss gi =
-        qed W ([]) ∵ 
+        qed W ([]) ∵
         nothing ! $ nothing ! $ owned ! R-Seat (Is R-Seat) (LL.makes T-Seat.the-type L-Seat.the-plain 𝓤 H A) s (L-Seat.lowered s ∷ []) iss $ fjoin ! $
-            owned ! Boolean (Is Boolean) (bool-makes 𝓤 H A W) wanted (vbool wanted ∷ []) g-wanted $ fjoin ! $ move ! (1 ∷ 0 ∷ []) $ join ! $ frame ! $ done !
+        owned ! Boolean (Is Boolean) (bool-makes 𝓤 H A W) wanted (vbool wanted ∷ []) g-wanted $ fjoin ! $ move ! (1 ∷ 0 ∷ []) $ join ! $ frame ! $ done !
 
   -- ---- the loop
   abbrev Nearer : Turn ys wanted → Turn ys wanted → Type 0
@@ -140,42 +140,42 @@ module _ {M : Type 1} (𝓤 : URA M) (H : Heap 𝓤) (A : Atoms 𝓤) (W : Given
       unfolding afterTurn
       more x l lz =
           assigns ! (of-opd ! (load ! (from ! (fld ! refl (stop !))) (look-in ! 18 (sub ! 1 refl (whole !))))) (from ! (stop !)) (init ! 12 refl
-              (tt, record { fits = gs .0 })) $ assigns ! (bin ! (load ! (from ! (stop !)) (look ! 14 refl)) (load ! (from ! (stop !)) (look ! 12 refl)) tt)
-              (from ! (stop !)) (init ! 10 refl (tt, tt)) $ rewrite ! 10 (λ (t : Bool). ‵ (fat fullShare tyBool l5 0 (vbool t))) (lt-ltb (x .i) (length ys) l)
-              refl $ stays ! (load ! (from ! (stop !)) (look ! 10 refl)) $ assigns ! (bin ! (load ! (from ! (stop !)) (look ! 14 refl)) (lit ! tt) (record
-              { fits = within-fits seat-size (x .i) (length ys) l (gs .1) })) (from ! (stop !)) (store ! 12 refl
-              (tt, record { fits = within-fits seat-size (x .i) (length ys) l (gs .1) })) $ assigns ! (bin ! (load ! (from ! (fld ! refl (stop !))) (look-in !
-              18 (sub ! 0 refl (whole !)))) (load ! (from ! (stop !)) (look ! 12 refl)) tt) (from ! (stop !)) (init ! 6 refl (tt, tt)) $
-              rewrite ! 6 (λ (p : ℕ). ‵ (fat fullShare tyPtr l7 0 (vptr b p))) (sym (place-is seat-size o (x .i))) refl $
+          (tt, record { fits = gs .0 })) $ assigns ! (bin ! (load ! (from ! (stop !)) (look ! 14 refl)) (load ! (from ! (stop !)) (look ! 12 refl)) tt)
+          (from ! (stop !)) (init ! 10 refl (tt, tt)) $ rewrite ! 10 (λ (t : Bool). ‵ (fat fullShare tyBool l5 0 (vbool t))) (lt-ltb (x .i) (length ys) l)
+          refl $ stays ! (load ! (from ! (stop !)) (look ! 10 refl)) $ assigns ! (bin ! (load ! (from ! (stop !)) (look ! 14 refl)) (lit ! tt) (record
+          { fits = within-fits seat-size (x .i) (length ys) l (gs .1) })) (from ! (stop !)) (store ! 12 refl
+          (tt, record { fits = within-fits seat-size (x .i) (length ys) l (gs .1) })) $ assigns ! (bin ! (load ! (from ! (fld ! refl (stop !))) (look-in !
+          18 (sub ! 0 refl (whole !)))) (load ! (from ! (stop !)) (look ! 12 refl)) tt) (from ! (stop !)) (init ! 6 refl (tt, tt)) $
+          rewrite ! 6 (λ (p : ℕ). ‵ (fat fullShare tyPtr l7 0 (vptr b p))) (sym (place-is seat-size o (x .i))) refl $
           -- the seats' borrow is opened, and the i-th seat taken out of the row
           move ! (23 ∷ 24 ∷ 22 ∷ []) $ opens-slice ! tt R-Seat (x .zs) b o $ elem-out ! R-Seat (Is R-Seat) (shows 𝓤 H A R-Seat) (λ d. L-Seat.lowered d ∷ [])
-              (L-Seat.lowers .val-is) fullShare (x .zs) (x .i) cleared b o lz (λ iss. assigns ! (of-opd ! (load ! (from ! (hop ! (look ! 12 refl) (stop !)))
-              (look-raw ! 0 refl))) (from ! (stop !)) (init ! 10 refl (LL.lawful T-Seat.the-type L-Seat.the-laws 𝓤 H A W .typed elem _ iss .0)) $
-              move ! (1 ∷ []) $ drop ! $ use0 W (raw (Stp 𝓤 H A mem run .pre (to-stp elem (x .i)))) (goes-stp elem (x .i) g-wanted iss gi) $
-              calls-at ! (fmOf 𝓤 H (W .laws) 𝓣) (Stp 𝓤 H A mem run) known-g (to-stp elem (x .i)) (and-then ! (load ! (from ! (stop !)) (look ! 22 refl))
-              (and-then ! (load ! (from ! (stop !)) (look ! 10 refl)) (no-more !))) (λ v. use1 W (later (some (λ (r : Seat). ((‵ ftrue) ⊛ ‵ (R-Seat .own r (v ∷
-              []))) ⊛ raw (ensured 𝓤 H A g.ended (g.clauses 𝓤 H A mem run) tt (stp-args elem (x .i)) tt r)))) (id⊢ 𝓤 _) $ await ! tt $ pick ! (λ r. split ! $
-              move ! (1 ∷ []) $ use1 W (some (λ (ws : Lasts g.ended tt (stp-args elem (x .i))). ‵ (lasts g.ended tt (stp-args elem (x .i)) ws) ⊛ raw (fact 𝓤 (r
-              ≡ chokeStep wanted elem)))) (id⊢ 𝓤 _) $ pick ! (λ ws. split ! $ move ! (1 ∷ []) $ heard ! (r ≡ chokeStep wanted elem) (λ e. fsplit ! $ drop ! $
-              fsplit ! $ drop ! $ drop ! $ split ! $ drop ! $ peeks ! R-Seat (Is R-Seat) (shows 𝓤 H A R-Seat) r (v ∷ []) (λ isr. drop ! $
-              land ! (from ! (stop !)) (init ! 13 refl (LL.lawful T-Seat.the-type L-Seat.the-laws 𝓤 H A W .typed r _ isr .0)) $
-              rewrite ! 13 (λ (u : Val). ‵ (fat fullShare L-Seat.mir l6 0 u)) (ap only (L-Seat.lowers .val-is r _ isr)) refl $
+          (L-Seat.lowers .val-is) fullShare (x .zs) (x .i) cleared b o lz (λ iss. assigns ! (of-opd ! (load ! (from ! (hop ! (look ! 12 refl) (stop !)))
+          (look-raw ! 0 refl))) (from ! (stop !)) (init ! 10 refl (LL.lawful T-Seat.the-type L-Seat.the-laws 𝓤 H A W .typed elem _ iss .0)) $
+          move ! (1 ∷ []) $ drop ! $ use0 W (raw (Stp 𝓤 H A mem run .pre (to-stp elem (x .i)))) (goes-stp elem (x .i) g-wanted iss gi) $
+          calls-at ! (fmOf 𝓤 H (W .laws) 𝓣) (Stp 𝓤 H A mem run) known-g (to-stp elem (x .i)) (and-then ! (load ! (from ! (stop !)) (look ! 22 refl))
+          (and-then ! (load ! (from ! (stop !)) (look ! 10 refl)) (no-more !))) (λ v. use1 W (later (some (λ (r : Seat). ((‵ ftrue) ⊛ ‵ (R-Seat .own r (v ∷
+          []))) ⊛ raw (ensured 𝓤 H A g.ended (g.clauses 𝓤 H A mem run) tt (stp-args elem (x .i)) tt r)))) (id⊢ 𝓤 _) $ await ! tt $ pick ! (λ r. split ! $
+          move ! (1 ∷ []) $ use1 W (some (λ (ws : Lasts g.ended tt (stp-args elem (x .i))). ‵ (lasts g.ended tt (stp-args elem (x .i)) ws) ⊛ raw (fact 𝓤 (r
+          ≡ chokeStep wanted elem)))) (id⊢ 𝓤 _) $ pick ! (λ ws. split ! $ move ! (1 ∷ []) $ heard ! (r ≡ chokeStep wanted elem) (λ e. fsplit ! $ drop ! $
+          fsplit ! $ drop ! $ drop ! $ split ! $ drop ! $ peeks ! R-Seat (Is R-Seat) (shows 𝓤 H A R-Seat) r (v ∷ []) (λ isr. drop ! $
+          land ! (from ! (stop !)) (init ! 13 refl (LL.lawful T-Seat.the-type L-Seat.the-laws 𝓤 H A W .typed r _ isr .0)) $
+          rewrite ! 13 (λ (u : Val). ‵ (fat fullShare L-Seat.mir l6 0 u)) (ap only (L-Seat.lowers .val-is r _ isr)) refl $
           -- the new seat is stored in its place, and the seats' borrow is closed
           assigns ! (bin ! (load ! (from ! (stop !)) (look ! 19 refl)) (lit ! tt) (record { fits = within-fits seat-size (x .i) (length ys) l (gs .1) })) (from
-              ! (stop !)) (init ! 7 refl (tt, record { fits = within-fits seat-size (x .i) (length ys) l (gs .1) })) $
-              assigns ! (bin ! (load ! (from ! (fld ! refl (stop !))) (look-in ! 23 (sub ! 0 refl (whole !)))) (load ! (from ! (stop !)) (look ! 7 refl)) tt)
-              (from ! (stop !)) (init ! 5 refl (tt, tt)) $ rewrite ! 5 (λ (p : ℕ). ‵ (fat fullShare tyPtr l10 0 (vptr b p))) (sym (place-is seat-size o (x .i)))
-              refl $ assigns ! (of-opd ! (load ! (from ! (stop !)) (look ! 13 refl))) (from ! (hop ! (look ! 5 refl) (stop !))) (store-raw ! 0 refl (LL.lawful
-              T-Seat.the-type L-Seat.the-laws 𝓤 H A W .typed r _ (subst (Is R-Seat r) (L-Seat.lowers .val-is r _ isr) isr) .0)) $
-              owned ! R-Seat (Is R-Seat) (LL.makes T-Seat.the-type L-Seat.the-plain 𝓤 H A) r (L-Seat.lowered r ∷ []) (subst (Is R-Seat r) (L-Seat.lowers .val-is
-              r _ isr) isr) $ move ! (1 ∷ 0 ∷ 2 ∷ []) $ elem-put ! R-Seat fullShare (x .zs) (x .i) r (L-Seat.lowered r ∷ []) b o lz $
-              closes-slice ! tt R-Seat (x .zs) (set (x .zs) (x .i) r) (length-set (x .zs) (x .i) r) b o $ assigns-last ! (bin ! (load ! (from ! (stop !)) (look
-              ! 17 refl)) (lit ! tt) (record { fits = le-fits (x .i + 1) (length ys) (next-le (x .i) (length ys) l) (gs .0) })) (from ! (stop !)) (store ! 17
-              refl (tt, record { fits = le-fits (x .i + 1) (length ys) (next-le (x .i) (length ys) l) (gs .0) })) $ forget ! 15 refl $ forget ! 13 refl $
-              forget ! 9 refl $ forget ! 7 refl $ forget ! 11 refl $ forget ! 5 refl $ forget ! 3 refl $ keep ! (3 ∷ 4 ∷ 5 ∷ 6 ∷ 7 ∷ 8 ∷ 9 ∷ 10 ∷ 11 ∷ 12 ∷ 13 ∷
-              14 ∷ 15 ∷ 16 ∷ 17 ∷ 18 ∷ 19 ∷ 20 ∷ 21 ∷ 22 ∷ 23 ∷ 24 ∷ 2 ∷ 0 ∷ 1 ∷ []) $ again ! Nearer At x (record
-              { i = x .i + 1; le = next-le (x .i) (length ys) l; zs = set (x .zs) (x .i) r; ns = length-set (x .zs) (x .i) r ∙ x .ns; so = each-next (chokeBy wanted) (x .zs) (x .i) r lz e ∙ x .so })
-              (nearer-less (x .i) (length ys) l)))))))
+          ! (stop !)) (init ! 7 refl (tt, record { fits = within-fits seat-size (x .i) (length ys) l (gs .1) })) $
+          assigns ! (bin ! (load ! (from ! (fld ! refl (stop !))) (look-in ! 23 (sub ! 0 refl (whole !)))) (load ! (from ! (stop !)) (look ! 7 refl)) tt)
+          (from ! (stop !)) (init ! 5 refl (tt, tt)) $ rewrite ! 5 (λ (p : ℕ). ‵ (fat fullShare tyPtr l10 0 (vptr b p))) (sym (place-is seat-size o (x .i)))
+          refl $ assigns ! (of-opd ! (load ! (from ! (stop !)) (look ! 13 refl))) (from ! (hop ! (look ! 5 refl) (stop !))) (store-raw ! 0 refl (LL.lawful
+          T-Seat.the-type L-Seat.the-laws 𝓤 H A W .typed r _ (subst (Is R-Seat r) (L-Seat.lowers .val-is r _ isr) isr) .0)) $
+          owned ! R-Seat (Is R-Seat) (LL.makes T-Seat.the-type L-Seat.the-plain 𝓤 H A) r (L-Seat.lowered r ∷ []) (subst (Is R-Seat r) (L-Seat.lowers .val-is
+          r _ isr) isr) $ move ! (1 ∷ 0 ∷ 2 ∷ []) $ elem-put ! R-Seat fullShare (x .zs) (x .i) r (L-Seat.lowered r ∷ []) b o lz $
+          closes-slice ! tt R-Seat (x .zs) (set (x .zs) (x .i) r) (length-set (x .zs) (x .i) r) b o $ assigns-last ! (bin ! (load ! (from ! (stop !)) (look
+          ! 17 refl)) (lit ! tt) (record { fits = le-fits (x .i + 1) (length ys) (next-le (x .i) (length ys) l) (gs .0) })) (from ! (stop !)) (store ! 17
+          refl (tt, record { fits = le-fits (x .i + 1) (length ys) (next-le (x .i) (length ys) l) (gs .0) })) $ forget ! 15 refl $ forget ! 13 refl $
+          forget ! 9 refl $ forget ! 7 refl $ forget ! 11 refl $ forget ! 5 refl $ forget ! 3 refl $ keep ! (3 ∷ 4 ∷ 5 ∷ 6 ∷ 7 ∷ 8 ∷ 9 ∷ 10 ∷ 11 ∷ 12 ∷ 13 ∷
+          14 ∷ 15 ∷ 16 ∷ 17 ∷ 18 ∷ 19 ∷ 20 ∷ 21 ∷ 22 ∷ 23 ∷ 24 ∷ 2 ∷ 0 ∷ 1 ∷ []) $ again ! Nearer At x (record
+          { i = x .i + 1; le = next-le (x .i) (length ys) l; zs = set (x .zs) (x .i) r; ns = length-set (x .zs) (x .i) r ∙ x .ns; so = each-next (chokeBy wanted) (x .zs) (x .i) r lz e ∙ x .so })
+          (nearer-less (x .i) (length ys) l)))))))
         where
           elem : Seat
           elem = getD (x .zs) (x .i) cleared
@@ -187,19 +187,22 @@ module _ {M : Type 1} (𝓤 : URA M) (H : Heap 𝓤) (A : Atoms 𝓤) (W : Given
       unfolding afterTurn
       ends x l =
           assigns ! (of-opd ! (load ! (from ! (fld ! refl (stop !))) (look-in ! 18 (sub ! 1 refl (whole !))))) (from ! (stop !)) (init ! 12 refl
-              (tt, record { fits = gs .0 })) $ assigns ! (bin ! (load ! (from ! (stop !)) (look ! 14 refl)) (load ! (from ! (stop !)) (look ! 12 refl)) tt)
-              (from ! (stop !)) (init ! 10 refl (tt, tt)) $ rewrite ! 10 (λ (t : Bool). ‵ (fat fullShare tyBool l5 0 (vbool t))) (le-ltb (x .i) (length ys) l)
-              refl $ leaves-loop ! (load ! (from ! (stop !)) (look ! 10 refl)) $ exec ! C Λ En Mir.t-3 (atRet En Post) $
-              assigns ! (of-opd ! (unit-lit !)) (from ! (stop !)) (init ! 20 refl (tt, tt)) $ returns ! (look ! 20 refl) $ forget ! 20 refl $ forget ! 18 refl $
-              forget ! 16 refl $ forget ! 14 refl $ forget ! 12 refl $ forget ! 10 refl $ move ! (20 ∷ 21 ∷ []) $ free1 ! $ move ! (18 ∷ 19 ∷ []) $ free1 ! $
-              move ! (16 ∷ 17 ∷ []) $ free1 ! $ move ! (14 ∷ 15 ∷ []) $ free1 ! $ move ! (12 ∷ 13 ∷ []) $ free1 ! $ move ! (10 ∷ 11 ∷ []) $ free1 ! $
-              move ! (8 ∷ 9 ∷ []) $ free1 ! $ move ! (6 ∷ 7 ∷ []) $ free1 ! $ move ! (4 ∷ 5 ∷ []) $ free1 ! $ move ! (2 ∷ 3 ∷ []) $ free1 ! $ free1 ! $
-              free0 ! $ keep ! (0 ∷ 1 ∷ 2 ∷ []) $ by ! (exits x gs g-wanted (each-end (chokeBy wanted) ys (x .zs) (x .i) (subst (λ (m : ℕ). m ≤ x .i) (sym (x
-              .ns)) l) (x .so)))
+          (tt, record { fits = gs .0 })) $ assigns ! (bin ! (load ! (from ! (stop !)) (look ! 14 refl)) (load ! (from ! (stop !)) (look ! 12 refl)) tt)
+          (from ! (stop !)) (init ! 10 refl (tt, tt)) $ rewrite ! 10 (λ (t : Bool). ‵ (fat fullShare tyBool l5 0 (vbool t))) (le-ltb (x .i) (length ys) l)
+          refl $ leaves-loop ! (load ! (from ! (stop !)) (look ! 10 refl)) $ exec ! C Λ En Mir.t-3 (atRet En Post) $
+          assigns ! (of-opd ! (unit-lit !)) (from ! (stop !)) (init ! 20 refl (tt, tt)) $ returns ! (look ! 20 refl) $ forget ! 20 refl $ forget ! 18 refl $
+          forget ! 16 refl $ forget ! 14 refl $ forget ! 12 refl $ forget ! 10 refl $ move ! (20 ∷ 21 ∷ []) $ free1 ! $ move ! (18 ∷ 19 ∷ []) $ free1 ! $
+          move ! (16 ∷ 17 ∷ []) $ free1 ! $ move ! (14 ∷ 15 ∷ []) $ free1 ! $ move ! (12 ∷ 13 ∷ []) $ free1 ! $ move ! (10 ∷ 11 ∷ []) $ free1 ! $
+          move ! (8 ∷ 9 ∷ []) $ free1 ! $ move ! (6 ∷ 7 ∷ []) $ free1 ! $ move ! (4 ∷ 5 ∷ []) $ free1 ! $ move ! (2 ∷ 3 ∷ []) $ free1 ! $ free1 ! $
+          free0 ! $ keep ! (0 ∷ 1 ∷ 2 ∷ []) $ by ! (exits x gs g-wanted (each-end (chokeBy wanted) ys (x .zs) (x .i) (subst (λ (m : ℕ). m ≤ x .i) (sym (x
+          .ns)) l) (x .so)))
 
       turns : (x : Turn ys wanted) → Sq W (At x) (runs C Λ En Mir.turn-1 (anyQ (Turned x)))
-      turns x = elim (by-test (ltb (x .i) (length ys))) [ inl t ↦ more x (ltb-true (x .i) (length ys) t) (subst (λ (m : ℕ). x .i < m) (sym (x .ns)) (ltb-true (x
-          .i) (length ys) t)) | inr t ↦ ends x (ltb-false (x .i) (length ys) t) ]
+      turns x = elim (by-test (ltb (x .i) (length ys))) [
+        | inl t ↦ more x (ltb-true (x .i) (length ys) t) (subst (λ (m : ℕ). x .i < m) (sym (x .ns)) (ltb-true (x
+            .i) (length ys) t))
+        | inr t ↦ ends x (ltb-false (x .i) (length ys) t)
+      ]
 
       -- the loop, and what follows it
       loop-on : (x : Turn ys wanted) → Sq W (At x) (runs C Λ En Mir.t-2 (atRet En Post))
@@ -208,13 +211,13 @@ module _ {M : Type 1} (𝓤 : URA M) (H : Heap 𝓤) (A : Atoms 𝓤) (W : Given
     walk : ent 𝓤 (onEntry 𝓤 H A f.signature (κ0, tt) (q0, tt) xs at) (WpFn 𝓤 H C Λ code.function (sv ∷ vbool wanted ∷ []) Post)
     walk =
         qed W ((‵ (flft κ0 q0) ⊛ ‵ ftrue) ∷ ‵ (owns (MutSlice (named 0) κ0 R-Seat ∷ Boolean ∷ []) xs at) ∷ []) ∵ enter ! C Λ code.function (sv ∷ vbool wanted ∷
-            []) _ $
+        []) _ $
         alloc1 ! (λ l0. alloc1 ! (λ l1. alloc1 ! (λ l2. alloc1 ! (λ l3. alloc1 ! (λ l4. alloc1 ! (λ l5. alloc1 ! (λ l6. alloc1 ! (λ l7. alloc1 ! (λ l8. alloc1 !
-            (λ l9. alloc1 ! (λ l10. alloc0 ! $ params1 ! $ pass1 ! (init ! 18 refl (tt, (tt, (record { fits = gs .0 }, tt)))) $
-            pass1 ! (init ! 16 refl (tt, tt)) $ pass0 ! $ assigns ! (of-opd ! (lit ! tt)) (from ! (stop !)) (init ! 14 refl (tt, record { fits = lit< tt })) $
-            move ! (22 ∷ []) $ split ! $ move ! (1 ∷ []) $ drop ! $ move ! (23 ∷ []) $ fsplit ! $ move ! (1 ∷ []) $ drop ! $ fsplit ! $ drop ! $ fsplit ! $
-            keep ! (3 ∷ 4 ∷ 5 ∷ 6 ∷ 7 ∷ 8 ∷ 9 ∷ 10 ∷ 11 ∷ 12 ∷ 13 ∷ 14 ∷ 15 ∷ 16 ∷ 17 ∷ 18 ∷ 19 ∷ 20 ∷ 21 ∷ 22 ∷ 23 ∷ 24 ∷ 2 ∷ 0 ∷ 1 ∷ []) $
-            loop-on l0 l1 l2 l3 l4 l5 l6 l7 l8 l9 l10 (record { i = 0; le = zero-le; zs = ys; ns = refl; so = refl }))))))))))))
+        (λ l9. alloc1 ! (λ l10. alloc0 ! $ params1 ! $ pass1 ! (init ! 18 refl (tt, (tt, (record { fits = gs .0 }, tt)))) $
+        pass1 ! (init ! 16 refl (tt, tt)) $ pass0 ! $ assigns ! (of-opd ! (lit ! tt)) (from ! (stop !)) (init ! 14 refl (tt, record { fits = lit< tt })) $
+        move ! (22 ∷ []) $ split ! $ move ! (1 ∷ []) $ drop ! $ move ! (23 ∷ []) $ fsplit ! $ move ! (1 ∷ []) $ drop ! $ fsplit ! $ drop ! $ fsplit ! $
+        keep ! (3 ∷ 4 ∷ 5 ∷ 6 ∷ 7 ∷ 8 ∷ 9 ∷ 10 ∷ 11 ∷ 12 ∷ 13 ∷ 14 ∷ 15 ∷ 16 ∷ 17 ∷ 18 ∷ 19 ∷ 20 ∷ 21 ∷ 22 ∷ 23 ∷ 24 ∷ 2 ∷ 0 ∷ 1 ∷ []) $
+        loop-on l0 l1 l2 l3 l4 l5 l6 l7 l8 l9 l10 (record { i = 0; le = zero-le; zs = ys; ns = refl; so = refl }))))))))))))
 
 module _ {M : Type 1} (𝓤 : URA M) (H : Heap 𝓤) (A : Atoms 𝓤) (W : Given 𝓤 H A) (mem : Memory → SProp 𝓤) (run : Routine → Fun 𝓤) where
   f-walks : (𝓣 : Tables 𝓤 H) → Triple 𝓤 (𝓣 .C #yard-tables·round·choke) (Stp 𝓤 H A mem run) → Walks 𝓤 H A f.ended stayed (WpFn 𝓤 H (𝓣 .C) (𝓣 .Λ) code.function)
@@ -222,7 +225,7 @@ module _ {M : Type 1} (𝓤 : URA M) (H : Heap 𝓤) (A : Atoms 𝓤) (W : Given
   f-walks 𝓣 known-g = walked 𝓤 H A f.ended stayed (f.clauses 𝓤 H A mem run) (WpFn 𝓤 H (𝓣 .C) (𝓣 .Λ) code.function) (λ κs. (slice-vals, (bool-vals, tt))) (λ κs.
       (mut-slice-tells (named 0) (κs .0) R-Seat, (bool-tells, tt)))
       (λ κs qs bounds a _ are. via 𝓤 _ (fst∗ 𝓤 _ (emp 𝓤)) (walk 𝓤 H A W mem run (κs .0) (qs .0) (a .0 .ptr .0) (a .0 .ptr .1) (a .0 .name) (a .0 .now) (a .1 .0)
-          𝓣 known-g (are .0 .0 .1) (are .1 .0)))
+      𝓣 known-g (are .0 .0 .1) (are .1 .0)))
 
 f-meets : {M : Type 1} (𝓤 : URA M) (H : Heap 𝓤) (A : Atoms 𝓤) → Given 𝓤 H A → (mem : Memory → SProp 𝓤) (run : Routine → Fun 𝓤) (𝓣 : Tables 𝓤 H) → Triple 𝓤 (𝓣 .C
     #yard-tables·round·choke) (Stp 𝓤 H A mem run)

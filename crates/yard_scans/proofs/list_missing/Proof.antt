@@ -124,11 +124,11 @@ module _ {M : Type 1} (𝓤 : URA M) (H : Heap 𝓤) (A : Atoms 𝓤) (W : Given
   exits x gs g-asked e =
       qed W (Had (ys) (x .pg)) ∵
       suffices ! _ (ends-at 𝓤 H A f.ended stayed (f.clauses 𝓤 H A mem run) W bound (L-Page.lowered (x .acc)) (x .acc) (tt, (x .pg, (tt, tt)))
-          (tt, (x .np, (tt, tt)))) $ says ! e $
+      (tt, (x .np, (tt, tt)))) $ says ! e $
       move ! (3 ∷ 4 ∷ []) $ fjoin ! $ move ! (3 ∷ 0 ∷ []) $ fjoin ! $ nothing ! $ move ! (3 ∷ 0 ∷ []) $ join ! $ move ! (2 ∷ 0 ∷ []) $ join ! $ nothing ! $
-          owned ! R-Asked (Is R-Asked) (LL.makes T-Asked.the-type L-Asked.the-plain 𝓤 H A) asked (L-Asked.lowered asked ∷ []) g-asked $ fjoin ! $
-          move ! (3 ∷ 0 ∷ []) $ fjoin ! $ move ! (2 ∷ 0 ∷ []) $ fjoin ! $ move ! (1 ∷ 0 ∷ []) $ frame ! $ frame ! $
-          owned ! R-Page (Is R-Page) (LL.makes T-Page.the-type L-Page.the-plain 𝓤 H A) (x .acc) (L-Page.lowered (x .acc) ∷ []) (x .is) $ done !
+      owned ! R-Asked (Is R-Asked) (LL.makes T-Asked.the-type L-Asked.the-plain 𝓤 H A) asked (L-Asked.lowered asked ∷ []) g-asked $ fjoin ! $
+      move ! (3 ∷ 0 ∷ []) $ fjoin ! $ move ! (2 ∷ 0 ∷ []) $ fjoin ! $ move ! (1 ∷ 0 ∷ []) $ frame ! $ frame ! $
+      owned ! R-Page (Is R-Page) (LL.makes T-Page.the-type L-Page.the-plain 𝓤 H A) (x .acc) (L-Page.lowered (x .acc) ∷ []) (x .is) $ done !
 
   -- the call
   module _ (ν : ℕ) (δ : GName) (c : Page) (s : Seat) (ci : List ℕ) (i : ℕ) where
@@ -145,10 +145,10 @@ module _ {M : Type 1} (𝓤 : URA M) (H : Heap 𝓤) (A : Atoms 𝓤) (W : Given
     goes-stp g-asked isc iss gi ok =
         qed W (‵ (flft (ν ∷ []) fullShare) ∷ ‵ (MutSlice (named 0) (ν ∷ []) u32 .own (at-page δ ci) (pv (length cs) ∷ [])) ∷ []) ∵ says ! ok $
         nothing ! $ move ! (1 ∷ 0 ∷ []) $ join ! $ nothing ! $ move ! (2 ∷ 0 ∷ []) $ fjoin ! $ owned ! usize (Is usize) (uint-makes 𝓤 H A W w64) i (vint w64 i ∷
-            []) (refl, gi) $ fjoin ! $ owned ! R-Seat (Is R-Seat) (LL.makes T-Seat.the-type L-Seat.the-plain 𝓤 H A) s (L-Seat.lowered s ∷ []) iss $ fjoin ! $
-            owned ! R-Page (Is R-Page) (LL.makes T-Page.the-type L-Page.the-plain 𝓤 H A) c (L-Page.lowered c ∷ []) isc $ fjoin ! $
-            owned ! R-Asked (Is R-Asked) (LL.makes T-Asked.the-type L-Asked.the-plain 𝓤 H A) asked (L-Asked.lowered asked ∷ []) g-asked $ fjoin ! $
-            move ! (1 ∷ 0 ∷ []) $ frame ! $ done !
+        []) (refl, gi) $ fjoin ! $ owned ! R-Seat (Is R-Seat) (LL.makes T-Seat.the-type L-Seat.the-plain 𝓤 H A) s (L-Seat.lowered s ∷ []) iss $ fjoin ! $
+        owned ! R-Page (Is R-Page) (LL.makes T-Page.the-type L-Page.the-plain 𝓤 H A) c (L-Page.lowered c ∷ []) isc $ fjoin ! $
+        owned ! R-Asked (Is R-Asked) (LL.makes T-Asked.the-type L-Asked.the-plain 𝓤 H A) asked (L-Asked.lowered asked ∷ []) g-asked $ fjoin ! $
+        move ! (1 ∷ 0 ∷ []) $ frame ! $ done !
 
   -- ---- the loop
   abbrev Nearer : Turn ys cs asked → Turn ys cs asked → Type 0
@@ -177,7 +177,7 @@ module _ {M : Type 1} (𝓤 : URA M) (H : Heap 𝓤) (A : Atoms 𝓤) (W : Given
           ∷ ‵ (froom tyBool l8 0) ∷ ‵ (fdies tyBool l8) ∷ ‵ (froom (tyInt w64) l7 0) ∷ ‵ (fdies (tyInt w64) l7)
           ∷ ‵ (froom (tyInt w64) l6 0) ∷ ‵ (fdies (tyInt w64) l6) ∷ ‵ (fat fullShare (tyInt w64) l5 0 (vint w64 (x .i))) ∷ ‵ (fdies (tyInt w64) l5)
           ∷ ‵ (fat fullShare L-Page.mir l4 0 (L-Page.lowered (x .acc))) ∷ ‵ (fdies L-Page.mir l4) ∷ ‵ (fat fullShare L-Asked.mir l3 0 (L-Asked.lowered asked)) ∷
-              ‵ (fdies L-Asked.mir l3)
+          ‵ (fdies L-Asked.mir l3)
           ∷ ‵ (fat fullShare PageTy l2 0 (pv (length cs))) ∷ ‵ (fdies PageTy l2) ∷ ‵ (fat fullShare SeatsTy l1 0 sv) ∷ ‵ (fdies SeatsTy l1)
           ∷ ‵ (froom L-Page.mir l0 0) ∷ ‵ (fdies L-Page.mir l0) ∷ Had (ys) (x .pg)
 
@@ -189,51 +189,59 @@ module _ {M : Type 1} (𝓤 : URA M) (H : Heap 𝓤) (A : Atoms 𝓤) (W : Given
       unfolding afterTurn
       more x l =
           assigns ! (of-opd ! (load ! (from ! (fld ! refl (stop !))) (look-in ! 22 (sub ! 1 refl (whole !))))) (from ! (stop !)) (init ! 10 refl
-              (tt, record { fits = gs .0 })) $ assigns ! (bin ! (load ! (from ! (stop !)) (look ! 14 refl)) (load ! (from ! (stop !)) (look ! 10 refl)) tt)
-              (from ! (stop !)) (init ! 8 refl (tt, tt)) $ rewrite ! 8 (λ (t : Bool). ‵ (fat fullShare tyBool l8 0 (vbool t))) (lt-ltb (x .i) (length ys) l)
-              refl $ stays ! (load ! (from ! (stop !)) (look ! 8 refl)) $ assigns ! (bin ! (load ! (from ! (stop !)) (look ! 14 refl)) (lit ! tt) (record
-              { fits = within-fits seat-size (x .i) (length ys) l (gs .1) })) (from ! (stop !)) (store ! 10 refl
-              (tt, record { fits = within-fits seat-size (x .i) (length ys) l (gs .1) })) $ assigns ! (bin ! (load ! (from ! (fld ! refl (stop !))) (look-in !
-              22 (sub ! 0 refl (whole !)))) (load ! (from ! (stop !)) (look ! 10 refl)) tt) (from ! (stop !)) (init ! 6 refl (tt, tt)) $
-              rewrite ! 6 (λ (p : ℕ). ‵ (fat fullShare tyPtr l9 0 (vptr b p))) (sym (place-is seat-size o (x .i))) refl $ move ! (30 ∷ 26 ∷ []) $
-              looks-slice ! tt R-Seat (Is R-Seat) (shows 𝓤 H A R-Seat) (λ d. L-Seat.lowered d ∷ []) (L-Seat.lowers .val-is) (LL.copy T-Seat.the-type
-              L-Seat.the-copy 𝓤 H A W) ys b o (λ q′. elem-out ! R-Seat (Is R-Seat) (shows 𝓤 H A R-Seat) (λ d. L-Seat.lowered d ∷ []) (L-Seat.lowers .val-is) q′
-              ys (x .i) cleared b o l (λ iss. assigns ! (of-opd ! (load ! (from ! (hop ! (look ! 11 refl) (stop !))) (look-raw ! 0 refl))) (from ! (stop !))
-              (init ! 9 refl (LL.lawful T-Seat.the-type L-Seat.the-laws 𝓤 H A W .typed elem _ iss .0)) $ elem-back ! R-Seat q′ ys (x .i) cleared (L-Seat.lowered
-              elem ∷ []) b o l $ shuts-slice ! tt R-Seat q′ ys b o $
+          (tt, record { fits = gs .0 })) $ assigns ! (bin ! (load ! (from ! (stop !)) (look ! 14 refl)) (load ! (from ! (stop !)) (look ! 10 refl)) tt)
+          (from ! (stop !)) (init ! 8 refl (tt, tt)) $ rewrite ! 8 (λ (t : Bool). ‵ (fat fullShare tyBool l8 0 (vbool t))) (lt-ltb (x .i) (length ys) l)
+          refl $ stays ! (load ! (from ! (stop !)) (look ! 8 refl)) $ assigns ! (bin ! (load ! (from ! (stop !)) (look ! 14 refl)) (lit ! tt) (record
+          { fits = within-fits seat-size (x .i) (length ys) l (gs .1) })) (from ! (stop !)) (store ! 10 refl
+          (tt, record { fits = within-fits seat-size (x .i) (length ys) l (gs .1) })) $ assigns ! (bin ! (load ! (from ! (fld ! refl (stop !))) (look-in !
+          22 (sub ! 0 refl (whole !)))) (load ! (from ! (stop !)) (look ! 10 refl)) tt) (from ! (stop !)) (init ! 6 refl (tt, tt)) $
+          rewrite ! 6 (λ (p : ℕ). ‵ (fat fullShare tyPtr l9 0 (vptr b p))) (sym (place-is seat-size o (x .i))) refl $ move ! (30 ∷ 26 ∷ []) $
+          looks-slice ! tt R-Seat (Is R-Seat) (shows 𝓤 H A R-Seat) (λ d. L-Seat.lowered d ∷ []) (L-Seat.lowers .val-is) (LL.copy T-Seat.the-type
+          L-Seat.the-copy 𝓤 H A W) ys b o (λ q′. elem-out ! R-Seat (Is R-Seat) (shows 𝓤 H A R-Seat) (λ d. L-Seat.lowered d ∷ []) (L-Seat.lowers .val-is) q′
+          ys (x .i) cleared b o l (λ iss. assigns ! (of-opd ! (load ! (from ! (hop ! (look ! 11 refl) (stop !))) (look-raw ! 0 refl))) (from ! (stop !))
+          (init ! 9 refl (LL.lawful T-Seat.the-type L-Seat.the-laws 𝓤 H A W .typed elem _ iss .0)) $ elem-back ! R-Seat q′ ys (x .i) cleared (L-Seat.lowered
+          elem ∷ []) b o l $ shuts-slice ! tt R-Seat q′ ys b o $
           -- the page is lent again for a lifetime ν of the call
           assigns ! (addr ! (from ! (fld ! refl (hop ! (look-in ! 22 (sub ! 0 refl (whole !))) (stop !))))) (from ! (stop !)) (init ! 4 refl (tt, tt)) $
-              assigns ! (agg ! (and-then ! (load ! (from ! (stop !)) (look ! 4 refl)) (and-then ! (load ! (from ! (fld ! refl (stop !))) (look-in ! 22 (sub ! 1
-              refl (whole !)))) (no-more !)))) (from ! (stop !)) (init ! 2 refl (tt, (tt, (record { fits = gp .0 }, tt)))) $
-              lft-new ! tt (λ ν. rewrite ! 32 (λ (m : ℕ). ‵ (MutSlice (named 1) κ1 u32 .own (at-page γ₁ (x .pg)) (pv m ∷ []))) (sym (x .np)) refl $
-              move ! (32 ∷ 29 ∷ []) $ use2 W (later (some (λ (δ : GName). ‵ (MutSlice (named 0) (ν ∷ []) u32 .own (at-page δ (x .pg)) (pv (length (x .pg)) ∷
-              [])) ⊛ ‵ (LentAgain u32 κ1 (ν ∷ []) q1 γ₁ b₁ o₁ δ (x .pg))))) (lends-again u32 κ1 (ν ∷ []) q1 γ₁ b₁ o₁ 𝓤 H A W (named 1) (named 0) (x .pg)) $
-              await ! tt $ pick ! (λ δ. split ! $ rewrite ! 0 (λ (m : ℕ). ‵ (MutSlice (named 0) (ν ∷ []) u32 .own (at-page δ (x .pg)) (pv m ∷ []))) (x .np) refl
-              $ move ! (2 ∷ 0 ∷ []) $ use2 W (raw (Stp 𝓤 H A mem run .pre (to-stp ν δ (x .acc) elem (x .pg) (x .i)))) (goes-stp ν δ (x .acc) elem (x .pg) (x .i)
-              g-asked (x .is) iss gi ok) $ calls-at ! (fmOf 𝓤 H (W .laws) 𝓣) (Stp 𝓤 H A mem run) known-g (to-stp ν δ (x .acc) elem (x .pg) (x .i)) (and-then !
-              (load ! (from ! (stop !)) (look ! 22 refl)) (and-then ! (load ! (from ! (stop !)) (look ! 20 refl)) (and-then ! (load ! (from ! (stop !)) (look !
-              8 refl)) (and-then ! (load ! (from ! (stop !)) (look ! 18 refl)) (and-then ! (load ! (from ! (stop !)) (look ! 4 refl)) (no-more !)))))) (λ v.
-              use1 W (later (some (λ (r : Page). ((‵ (flft (ν ∷ []) fullShare) ⊛ ‵ ftrue) ⊛ ‵ (R-Page .own r (v ∷ []))) ⊛ raw (ensured 𝓤 H A g.ended (g.clauses
-              𝓤 H A mem run) (ν ∷ [], tt) (stp-args ν δ (x .acc) elem (x .pg) (x .i)) tt r)))) (id⊢ 𝓤 _) $ await ! tt $ pick ! (λ r. split ! $ move ! (1 ∷ []) $
-              use1 W (some (λ (ws : Lasts g.ended (ν ∷ [], tt) (stp-args ν δ (x .acc) elem (x .pg) (x .i))). ‵ (lasts g.ended (ν ∷ [], tt) (stp-args ν δ (x
-              .acc) elem (x .pg) (x .i)) ws) ⊛ raw (fact 𝓤 ((r ≡ pageStep asked (x .acc) elem (x .i)) × ((ws .1 .1 .1 .1 .0) ≡ lineStep asked (x .acc) elem (x
-              .i) (x .pg)))))) (id⊢ 𝓤 _) $ pick ! (λ ws. split ! $ move ! (1 ∷ []) $ heard ! ((r ≡ pageStep asked (x .acc) elem (x .i)) × ((ws .1 .1 .1 .1 .0) ≡
-              lineStep asked (x .acc) elem (x .i) (x .pg))) (λ e. fsplit ! $ drop ! $ fsplit ! $ drop ! $ fsplit ! $ drop ! $ fsplit ! $ drop ! $ fsplit ! $
-              fsplit ! $ move ! (1 ∷ []) $ feqL ! (λ n. move ! (1 ∷ []) $ drop ! $ move ! (1 ∷ []) $ split ! $ split ! $ move ! (1 ∷ []) $ drop ! $
-              move ! (1 ∷ []) $ peeks ! R-Page (Is R-Page) (shows 𝓤 H A R-Page) r (v ∷ []) (λ isr. drop ! $ land ! (from ! (stop !)) (store ! 21 refl (LL.lawful
-              T-Page.the-type L-Page.the-laws 𝓤 H A W .typed r _ isr .0)) $ rewrite ! 21 (λ (u : Val). ‵ (fat fullShare L-Page.mir l4 0 u)) (ap only
-              (L-Page.lowers .val-is r _ isr)) refl $ lft-end ! tt $ move ! (0 ∷ 2 ∷ 1 ∷ []) $ use3 W (later (‵ (MutSlice (named 1) κ1 u32 .own (at-page γ₁ (ws
-              .1 .1 .1 .1 .0)) (pv (length (x .pg)) ∷ [])) ⊛ ‵ (flft κ1 q1))) (comes-back u32 κ1 (ν ∷ []) q1 γ₁ b₁ o₁ 𝓤 H A W (named 1) (named 0) (x .pg) δ (ws
-              .1 .1 .1 .1 .0) (subst (Room u32) (sym (x .np)) gp) n) $ await ! tt $ split ! $ rewrite ! 0 (λ (m : ℕ). ‵ (MutSlice (named 1) κ1 u32 .own (at-page
-              γ₁ (ws .1 .1 .1 .1 .0)) (pv m ∷ []))) (x .np) refl $ assigns-last ! (bin ! (load ! (from ! (stop !)) (look ! 18 refl)) (lit ! tt) (record
-              { fits = le-fits (x .i + 1) (length ys) (next-le (x .i) (length ys) l) (gs .0) })) (from ! (stop !)) (store ! 18 refl
-              (tt, record { fits = le-fits (x .i + 1) (length ys) (next-le (x .i) (length ys) l) (gs .0) })) $ forget ! 14 refl $ forget ! 12 refl $
-              forget ! 10 refl $ forget ! 8 refl $ forget ! 6 refl $ forget ! 4 refl $ keep ! (4 ∷ 5 ∷ 6 ∷ 7 ∷ 8 ∷ 9 ∷ 10 ∷ 11 ∷ 12 ∷ 13 ∷ 14 ∷ 15 ∷ 16 ∷ 17 ∷
-              18 ∷ 19 ∷ 20 ∷ 21 ∷ 22 ∷ 23 ∷ 24 ∷ 25 ∷ 26 ∷ 27 ∷ 28 ∷ 29 ∷ 2 ∷ 1 ∷ 30 ∷ 31 ∷ 3 ∷ 0 ∷ []) $ again ! Nearer At x (record
-              { i = x .i + 1; le = next-le (x .i) (length ys) l; acc = r; is = (subst (Is R-Page r) (L-Page.lowers .val-is r _ isr) isr); pg = (ws .1 .1 .1 .1 .0); np = n ∙ x .np; wt = subst (λ (p : Page). p .written ≤ p .total) (sym (e .0)) (step-bounds asked (x .acc) elem (x .i) (x .pg) (x .wt) (x .tl) .0); tl = subst (λ (p : Page). p .total ≤ x .i + 1) (sym (e .0)) (step-bounds asked (x .acc) elem (x .i) (x .pg) (x .wt) (x .tl) .1);
+          assigns ! (agg ! (and-then ! (load ! (from ! (stop !)) (look ! 4 refl)) (and-then ! (load ! (from ! (fld ! refl (stop !))) (look-in ! 22 (sub ! 1
+          refl (whole !)))) (no-more !)))) (from ! (stop !)) (init ! 2 refl (tt, (tt, (record { fits = gp .0 }, tt)))) $
+          lft-new ! tt (λ ν. rewrite ! 32 (λ (m : ℕ). ‵ (MutSlice (named 1) κ1 u32 .own (at-page γ₁ (x .pg)) (pv m ∷ []))) (sym (x .np)) refl $
+          move ! (32 ∷ 29 ∷ []) $ use2 W (later (some (λ (δ : GName). ‵ (MutSlice (named 0) (ν ∷ []) u32 .own (at-page δ (x .pg)) (pv (length (x .pg)) ∷
+          [])) ⊛ ‵ (LentAgain u32 κ1 (ν ∷ []) q1 γ₁ b₁ o₁ δ (x .pg))))) (lends-again u32 κ1 (ν ∷ []) q1 γ₁ b₁ o₁ 𝓤 H A W (named 1) (named 0) (x .pg)) $
+          await ! tt $ pick ! (λ δ. split ! $ rewrite ! 0 (λ (m : ℕ). ‵ (MutSlice (named 0) (ν ∷ []) u32 .own (at-page δ (x .pg)) (pv m ∷ []))) (x .np) refl
+          $ move ! (2 ∷ 0 ∷ []) $ use2 W (raw (Stp 𝓤 H A mem run .pre (to-stp ν δ (x .acc) elem (x .pg) (x .i)))) (goes-stp ν δ (x .acc) elem (x .pg) (x .i)
+          g-asked (x .is) iss gi ok) $ calls-at ! (fmOf 𝓤 H (W .laws) 𝓣) (Stp 𝓤 H A mem run) known-g (to-stp ν δ (x .acc) elem (x .pg) (x .i)) (and-then !
+          (load ! (from ! (stop !)) (look ! 22 refl)) (and-then ! (load ! (from ! (stop !)) (look ! 20 refl)) (and-then ! (load ! (from ! (stop !)) (look !
+          8 refl)) (and-then ! (load ! (from ! (stop !)) (look ! 18 refl)) (and-then ! (load ! (from ! (stop !)) (look ! 4 refl)) (no-more !)))))) (λ v.
+          use1 W (later (some (λ (r : Page). ((‵ (flft (ν ∷ []) fullShare) ⊛ ‵ ftrue) ⊛ ‵ (R-Page .own r (v ∷ []))) ⊛ raw (ensured 𝓤 H A g.ended (g.clauses
+          𝓤 H A mem run) (ν ∷ [], tt) (stp-args ν δ (x .acc) elem (x .pg) (x .i)) tt r)))) (id⊢ 𝓤 _) $ await ! tt $ pick ! (λ r. split ! $ move ! (1 ∷ []) $
+          use1 W (some (λ (ws : Lasts g.ended (ν ∷ [], tt) (stp-args ν δ (x .acc) elem (x .pg) (x .i))). ‵ (lasts g.ended (ν ∷ [], tt) (stp-args ν δ (x
+          .acc) elem (x .pg) (x .i)) ws) ⊛ raw (fact 𝓤 ((r ≡ pageStep asked (x .acc) elem (x .i)) × ((ws .1 .1 .1 .1 .0) ≡ lineStep asked (x .acc) elem (x
+          .i) (x .pg)))))) (id⊢ 𝓤 _) $ pick ! (λ ws. split ! $ move ! (1 ∷ []) $ heard ! ((r ≡ pageStep asked (x .acc) elem (x .i)) × ((ws .1 .1 .1 .1 .0) ≡
+          lineStep asked (x .acc) elem (x .i) (x .pg))) (λ e. fsplit ! $ drop ! $ fsplit ! $ drop ! $ fsplit ! $ drop ! $ fsplit ! $ drop ! $ fsplit ! $
+          fsplit ! $ move ! (1 ∷ []) $ feqL ! (λ n. move ! (1 ∷ []) $ drop ! $ move ! (1 ∷ []) $ split ! $ split ! $ move ! (1 ∷ []) $ drop ! $
+          move ! (1 ∷ []) $ peeks ! R-Page (Is R-Page) (shows 𝓤 H A R-Page) r (v ∷ []) (λ isr. drop ! $ land ! (from ! (stop !)) (store ! 21 refl (LL.lawful
+          T-Page.the-type L-Page.the-laws 𝓤 H A W .typed r _ isr .0)) $ rewrite ! 21 (λ (u : Val). ‵ (fat fullShare L-Page.mir l4 0 u)) (ap only
+          (L-Page.lowers .val-is r _ isr)) refl $ lft-end ! tt $ move ! (0 ∷ 2 ∷ 1 ∷ []) $ use3 W (later (‵ (MutSlice (named 1) κ1 u32 .own (at-page γ₁ (ws
+          .1 .1 .1 .1 .0)) (pv (length (x .pg)) ∷ [])) ⊛ ‵ (flft κ1 q1))) (comes-back u32 κ1 (ν ∷ []) q1 γ₁ b₁ o₁ 𝓤 H A W (named 1) (named 0) (x .pg) δ (ws
+          .1 .1 .1 .1 .0) (subst (Room u32) (sym (x .np)) gp) n) $ await ! tt $ split ! $ rewrite ! 0 (λ (m : ℕ). ‵ (MutSlice (named 1) κ1 u32 .own (at-page
+          γ₁ (ws .1 .1 .1 .1 .0)) (pv m ∷ []))) (x .np) refl $ assigns-last ! (bin ! (load ! (from ! (stop !)) (look ! 18 refl)) (lit ! tt) (record
+          { fits = le-fits (x .i + 1) (length ys) (next-le (x .i) (length ys) l) (gs .0) })) (from ! (stop !)) (store ! 18 refl
+          (tt, record { fits = le-fits (x .i + 1) (length ys) (next-le (x .i) (length ys) l) (gs .0) })) $ forget ! 14 refl $ forget ! 12 refl $
+          forget ! 10 refl $ forget ! 8 refl $ forget ! 6 refl $ forget ! 4 refl $ keep ! (4 ∷ 5 ∷ 6 ∷ 7 ∷ 8 ∷ 9 ∷ 10 ∷ 11 ∷ 12 ∷ 13 ∷ 14 ∷ 15 ∷ 16 ∷ 17 ∷
+          18 ∷ 19 ∷ 20 ∷ 21 ∷ 22 ∷ 23 ∷ 24 ∷ 25 ∷ 26 ∷ 27 ∷ 28 ∷ 29 ∷ 2 ∷ 1 ∷ 30 ∷ 31 ∷ 3 ∷ 0 ∷ []) $ again ! Nearer At x (record {
+            i = x .i + 1;
+            le = next-le (x .i) (length ys) l;
+            acc = r;
+            is = (subst (Is R-Page r) (L-Page.lowers .val-is r _ isr) isr);
+            pg = (ws .1 .1 .1 .1 .0);
+            np = n ∙ x .np;
+            wt = subst (λ (p : Page). p .written ≤ p .total) (sym (e .0)) (step-bounds asked (x .acc) elem (x .i) (x .pg) (x .wt) (x .tl) .0);
+            tl = subst (λ (p : Page). p .total ≤ x .i + 1) (sym (e .0)) (step-bounds asked (x .acc) elem (x .i) (x .pg) (x .wt) (x .tl) .1);
             so = ap (λ (p : Page). listFrom asked (dropped (x .i + 1) ys) (x .i + 1) (listing p (ws .1 .1 .1 .1 .0))) (e .0) ∙ ap (λ (l : List ℕ). listFrom
                 asked (dropped (x .i + 1) ys) (x .i + 1) (listing (pageStep asked (x .acc) elem (x .i)) l)) (e .1) ∙ list-next asked ys (x .i) (listing (x .acc)
-                (x .pg)) l ∙ x .so }) (nearer-less (x .i) (length ys) l)))))))))))
+                (x .pg)) l ∙ x .so;
+          }) (nearer-less (x .i) (length ys) l)))))))))))
         where
           elem : Seat
           elem = getD (ys) (x .i) cleared
@@ -248,17 +256,17 @@ module _ {M : Type 1} (𝓤 : URA M) (H : Heap 𝓤) (A : Atoms 𝓤) (W : Given
       unfolding afterTurn
       ends x l =
           assigns ! (of-opd ! (load ! (from ! (fld ! refl (stop !))) (look-in ! 22 (sub ! 1 refl (whole !))))) (from ! (stop !)) (init ! 10 refl
-              (tt, record { fits = gs .0 })) $ assigns ! (bin ! (load ! (from ! (stop !)) (look ! 14 refl)) (load ! (from ! (stop !)) (look ! 10 refl)) tt)
-              (from ! (stop !)) (init ! 8 refl (tt, tt)) $ rewrite ! 8 (λ (t : Bool). ‵ (fat fullShare tyBool l8 0 (vbool t))) (le-ltb (x .i) (length ys) l)
-              refl $ leaves-loop ! (load ! (from ! (stop !)) (look ! 8 refl)) $ exec ! C Λ En Mir.t-5 (atRet En Post) $
-              assigns ! (of-opd ! (load ! (from ! (stop !)) (look ! 16 refl))) (from ! (stop !)) (init ! 24 refl (LL.lawful T-Page.the-type L-Page.the-laws 𝓤 H
-              A W .typed (x .acc) _ (x .is) .0)) $ returns ! (look ! 24 refl) $ forget ! 24 refl $ forget ! 22 refl $ forget ! 20 refl $ forget ! 18 refl $
-              forget ! 16 refl $ forget ! 14 refl $ forget ! 10 refl $ forget ! 8 refl $ move ! (24 ∷ 25 ∷ []) $ free1 ! $ move ! (22 ∷ 23 ∷ []) $ free1 ! $
-              move ! (20 ∷ 21 ∷ []) $ free1 ! $ move ! (18 ∷ 19 ∷ []) $ free1 ! $ move ! (16 ∷ 17 ∷ []) $ free1 ! $ move ! (14 ∷ 15 ∷ []) $ free1 ! $
-              move ! (12 ∷ 13 ∷ []) $ free1 ! $ move ! (10 ∷ 11 ∷ []) $ free1 ! $ move ! (8 ∷ 9 ∷ []) $ free1 ! $ move ! (6 ∷ 7 ∷ []) $ free1 ! $
-              move ! (4 ∷ 5 ∷ []) $ free1 ! $ move ! (2 ∷ 3 ∷ []) $ free1 ! $ free1 ! $ free0 ! $ keep ! (0 ∷ 1 ∷ 2 ∷ 3 ∷ 4 ∷ 5 ∷ []) $
-              by ! (exits x gs g-asked
-              ((ap (λ (t : Listing). t .page) (list-end asked ys (x .i) (listing (x .acc) (x .pg)) l ∙ x .so), ap (λ (t : Listing). t .lines) (list-end asked ys (x .i) (listing (x .acc) (x .pg)) l ∙ x .so))))
+          (tt, record { fits = gs .0 })) $ assigns ! (bin ! (load ! (from ! (stop !)) (look ! 14 refl)) (load ! (from ! (stop !)) (look ! 10 refl)) tt)
+          (from ! (stop !)) (init ! 8 refl (tt, tt)) $ rewrite ! 8 (λ (t : Bool). ‵ (fat fullShare tyBool l8 0 (vbool t))) (le-ltb (x .i) (length ys) l)
+          refl $ leaves-loop ! (load ! (from ! (stop !)) (look ! 8 refl)) $ exec ! C Λ En Mir.t-5 (atRet En Post) $
+          assigns ! (of-opd ! (load ! (from ! (stop !)) (look ! 16 refl))) (from ! (stop !)) (init ! 24 refl (LL.lawful T-Page.the-type L-Page.the-laws 𝓤 H
+          A W .typed (x .acc) _ (x .is) .0)) $ returns ! (look ! 24 refl) $ forget ! 24 refl $ forget ! 22 refl $ forget ! 20 refl $ forget ! 18 refl $
+          forget ! 16 refl $ forget ! 14 refl $ forget ! 10 refl $ forget ! 8 refl $ move ! (24 ∷ 25 ∷ []) $ free1 ! $ move ! (22 ∷ 23 ∷ []) $ free1 ! $
+          move ! (20 ∷ 21 ∷ []) $ free1 ! $ move ! (18 ∷ 19 ∷ []) $ free1 ! $ move ! (16 ∷ 17 ∷ []) $ free1 ! $ move ! (14 ∷ 15 ∷ []) $ free1 ! $
+          move ! (12 ∷ 13 ∷ []) $ free1 ! $ move ! (10 ∷ 11 ∷ []) $ free1 ! $ move ! (8 ∷ 9 ∷ []) $ free1 ! $ move ! (6 ∷ 7 ∷ []) $ free1 ! $
+          move ! (4 ∷ 5 ∷ []) $ free1 ! $ move ! (2 ∷ 3 ∷ []) $ free1 ! $ free1 ! $ free0 ! $ keep ! (0 ∷ 1 ∷ 2 ∷ 3 ∷ 4 ∷ 5 ∷ []) $
+          by ! (exits x gs g-asked
+          ((ap (λ (t : Listing). t .page) (list-end asked ys (x .i) (listing (x .acc) (x .pg)) l ∙ x .so), ap (λ (t : Listing). t .lines) (list-end asked ys (x .i) (listing (x .acc) (x .pg)) l ∙ x .so))))
 
       turns : (x : Turn ys cs asked) → Sq W (At x) (runs C Λ En Mir.turn-1 (anyQ (Turned x)))
       turns x = elim (by-test (ltb (x .i) (length ys))) [ inl t ↦ more x (ltb-true (x .i) (length ys) t) | inr t ↦ ends x (ltb-false (x .i) (length ys) t) ]
@@ -271,28 +279,36 @@ module _ {M : Type 1} (𝓤 : URA M) (H : Heap 𝓤) (A : Atoms 𝓤) (W : Given
         Post)
     walk =
         qed W ((‵ (flft κ0 q0) ⊛ ‵ (flft κ1 q1) ⊛ ‵ ftrue) ∷ ‵ (owns (ShrSlice (named 0) κ0 R-Seat ∷ MutSlice (named 1) κ1 u32 ∷ R-Asked ∷ []) xs at) ∷ []) ∵
-            enter ! C Λ code.function (sv ∷ pv (length cs) ∷ L-Asked.lowered asked ∷ []) _ $
+        enter ! C Λ code.function (sv ∷ pv (length cs) ∷ L-Asked.lowered asked ∷ []) _ $
         alloc1 ! (λ l0. alloc1 ! (λ l1. alloc1 ! (λ l2. alloc1 ! (λ l3. alloc1 ! (λ l4. alloc1 ! (λ l5. alloc1 ! (λ l6. alloc1 ! (λ l7. alloc1 ! (λ l8. alloc1 !
-            (λ l9. alloc1 ! (λ l10. alloc1 ! (λ l11. alloc1 ! (λ l12. alloc0 ! $ params1 ! $ pass1 ! (init ! 22 refl (tt, (tt, (record { fits = gs .0 }, tt))))
-            $ pass1 ! (init ! 20 refl (tt, (tt, (record { fits = gp .0 }, tt)))) $ pass1 ! (init ! 18 refl (LL.lawful T-Asked.the-type L-Asked.the-laws 𝓤 H A W
-            .typed asked _ g-asked .0)) $ pass0 ! $ assigns ! (of-opd ! (load ! (from ! (fld ! refl (stop !))) (look-in ! 22 (sub ! 1 refl (whole !))))) (from !
-            (stop !)) (init ! 12 refl (tt, record { fits = gs .0 })) $ use0 W (raw (Fst 𝓤 H A mem run .pre
-            ((tt, tt, tt, ((length ys), tt), (vint w64 (length ys) ∷ [], tt)), tt))) (qed W [] ∵ nothing ! $ nothing ! $
-            owned ! usize (Is usize) (uint-makes 𝓤 H A W w64) (length ys) (vint w64 (length ys) ∷ []) (refl, gs .0) $ fjoin ! $ move ! (1 ∷ 0 ∷ []) $ join ! $
-            frame ! $ done !) $ calls-at ! (fmOf 𝓤 H (W .laws) 𝓣) (Fst 𝓤 H A mem run) known-k
-            ((tt, tt, tt, ((length ys), tt), (vint w64 (length ys) ∷ [], tt)), tt) (and-then ! (load ! (from ! (stop !)) (look ! 13 refl)) (no-more !)) (λ v₀.
-            use1 W (later (some (λ (r₀ : Page). (‵ ftrue ⊛ ‵ (R-Page .own r₀ (v₀ ∷ []))) ⊛ raw (ensured 𝓤 H A k.ended (k.clauses 𝓤 H A mem run) tt
-            ((length ys), tt) tt r₀)))) (id⊢ 𝓤 _) $ await ! tt $ pick ! (λ r₀. split ! $ move ! (1 ∷ []) $ use1 W (some (λ (ws : Lasts k.ended tt
-            ((length ys), tt)). ‵ (lasts k.ended tt ((length ys), tt) ws) ⊛ raw (fact 𝓤 (r₀ ≡ emptyPage (length ys))))) (id⊢ 𝓤 _) $ pick ! (λ ws₀. split ! $
-            move ! (1 ∷ []) $ heard ! (r₀ ≡ emptyPage (length ys)) (λ e₀. drop ! $ split ! $ drop ! $ peeks ! R-Page (Is R-Page) (shows 𝓤 H A R-Page) r₀ (v₀ ∷
-            []) (λ is₀. drop ! $ land ! (from ! (stop !)) (init ! 16 refl (LL.lawful T-Page.the-type L-Page.the-laws 𝓤 H A W .typed r₀ _ is₀ .0)) $
-            rewrite ! 16 (λ (u : Val). ‵ (fat fullShare L-Page.mir l4 0 u)) (ap only (L-Page.lowers .val-is r₀ _ is₀)) refl $ forget ! 12 refl $
-            assigns ! (of-opd ! (lit ! tt)) (from ! (stop !)) (init ! 14 refl (tt, record { fits = lit< tt })) $ move ! (26 ∷ []) $ split ! $ move ! (1 ∷ []) $
-            split ! $ move ! (1 ∷ []) $ drop ! $ move ! (28 ∷ []) $ fsplit ! $ move ! (1 ∷ []) $ fsplit ! $ move ! (1 ∷ []) $ drop ! $ move ! (1 ∷ []) $
-            fsplit ! $ move ! (1 ∷ []) $ fsplit ! $ keep ! (6 ∷ 7 ∷ 8 ∷ 9 ∷ 10 ∷ 11 ∷ 12 ∷ 13 ∷ 14 ∷ 15 ∷ 16 ∷ 17 ∷ 18 ∷ 19 ∷ 20 ∷ 21 ∷ 22 ∷ 23 ∷ 24 ∷ 25 ∷ 26 ∷
-            27 ∷ 28 ∷ 29 ∷ 30 ∷ 31 ∷ 5 ∷ 4 ∷ 2 ∷ 0 ∷ 1 ∷ 3 ∷ []) $ loop-on l0 l1 l2 l3 l4 l5 l6 l7 l8 l9 l10 l11 l12 (record
-            { i = 0; le = zero-le; acc = r₀; is = subst (Is R-Page r₀) (L-Page.lowers .val-is r₀ _ is₀) is₀; pg = cs; np = refl; wt = subst (λ (p : Page). p .written ≤ p .total) (sym e₀) zero-le; tl = subst (λ (p : Page). p .total ≤ 0) (sym e₀) zero-le;
-            so = ap (λ (p : Page). listFrom asked ys 0 (listing p cs)) e₀ ∙ list-all asked ys cs })))))))))))))))))))
+        (λ l9. alloc1 ! (λ l10. alloc1 ! (λ l11. alloc1 ! (λ l12. alloc0 ! $ params1 ! $ pass1 ! (init ! 22 refl (tt, (tt, (record { fits = gs .0 }, tt))))
+        $ pass1 ! (init ! 20 refl (tt, (tt, (record { fits = gp .0 }, tt)))) $ pass1 ! (init ! 18 refl (LL.lawful T-Asked.the-type L-Asked.the-laws 𝓤 H A W
+        .typed asked _ g-asked .0)) $ pass0 ! $ assigns ! (of-opd ! (load ! (from ! (fld ! refl (stop !))) (look-in ! 22 (sub ! 1 refl (whole !))))) (from !
+        (stop !)) (init ! 12 refl (tt, record { fits = gs .0 })) $ use0 W (raw (Fst 𝓤 H A mem run .pre
+        ((tt, tt, tt, ((length ys), tt), (vint w64 (length ys) ∷ [], tt)), tt))) (qed W [] ∵ nothing ! $ nothing ! $
+        owned ! usize (Is usize) (uint-makes 𝓤 H A W w64) (length ys) (vint w64 (length ys) ∷ []) (refl, gs .0) $ fjoin ! $ move ! (1 ∷ 0 ∷ []) $ join ! $
+        frame ! $ done !) $ calls-at ! (fmOf 𝓤 H (W .laws) 𝓣) (Fst 𝓤 H A mem run) known-k
+        ((tt, tt, tt, ((length ys), tt), (vint w64 (length ys) ∷ [], tt)), tt) (and-then ! (load ! (from ! (stop !)) (look ! 13 refl)) (no-more !)) (λ v₀.
+        use1 W (later (some (λ (r₀ : Page). (‵ ftrue ⊛ ‵ (R-Page .own r₀ (v₀ ∷ []))) ⊛ raw (ensured 𝓤 H A k.ended (k.clauses 𝓤 H A mem run) tt
+        ((length ys), tt) tt r₀)))) (id⊢ 𝓤 _) $ await ! tt $ pick ! (λ r₀. split ! $ move ! (1 ∷ []) $ use1 W (some (λ (ws : Lasts k.ended tt
+        ((length ys), tt)). ‵ (lasts k.ended tt ((length ys), tt) ws) ⊛ raw (fact 𝓤 (r₀ ≡ emptyPage (length ys))))) (id⊢ 𝓤 _) $ pick ! (λ ws₀. split ! $
+        move ! (1 ∷ []) $ heard ! (r₀ ≡ emptyPage (length ys)) (λ e₀. drop ! $ split ! $ drop ! $ peeks ! R-Page (Is R-Page) (shows 𝓤 H A R-Page) r₀ (v₀ ∷
+        []) (λ is₀. drop ! $ land ! (from ! (stop !)) (init ! 16 refl (LL.lawful T-Page.the-type L-Page.the-laws 𝓤 H A W .typed r₀ _ is₀ .0)) $
+        rewrite ! 16 (λ (u : Val). ‵ (fat fullShare L-Page.mir l4 0 u)) (ap only (L-Page.lowers .val-is r₀ _ is₀)) refl $ forget ! 12 refl $
+        assigns ! (of-opd ! (lit ! tt)) (from ! (stop !)) (init ! 14 refl (tt, record { fits = lit< tt })) $ move ! (26 ∷ []) $ split ! $ move ! (1 ∷ []) $
+        split ! $ move ! (1 ∷ []) $ drop ! $ move ! (28 ∷ []) $ fsplit ! $ move ! (1 ∷ []) $ fsplit ! $ move ! (1 ∷ []) $ drop ! $ move ! (1 ∷ []) $
+        fsplit ! $ move ! (1 ∷ []) $ fsplit ! $ keep ! (6 ∷ 7 ∷ 8 ∷ 9 ∷ 10 ∷ 11 ∷ 12 ∷ 13 ∷ 14 ∷ 15 ∷ 16 ∷ 17 ∷ 18 ∷ 19 ∷ 20 ∷ 21 ∷ 22 ∷ 23 ∷ 24 ∷ 25 ∷ 26 ∷
+        27 ∷ 28 ∷ 29 ∷ 30 ∷ 31 ∷ 5 ∷ 4 ∷ 2 ∷ 0 ∷ 1 ∷ 3 ∷ []) $ loop-on l0 l1 l2 l3 l4 l5 l6 l7 l8 l9 l10 l11 l12 (record {
+          i = 0;
+          le = zero-le;
+          acc = r₀;
+          is = subst (Is R-Page r₀) (L-Page.lowers .val-is r₀ _ is₀) is₀;
+          pg = cs;
+          np = refl;
+          wt = subst (λ (p : Page). p .written ≤ p .total) (sym e₀) zero-le;
+          tl = subst (λ (p : Page). p .total ≤ 0) (sym e₀) zero-le;
+          so = ap (λ (p : Page). listFrom asked ys 0 (listing p cs)) e₀ ∙ list-all asked ys cs;
+        })))))))))))))))))))
 
 module _ {M : Type 1} (𝓤 : URA M) (H : Heap 𝓤) (A : Atoms 𝓤) (W : Given 𝓤 H A) (mem : Memory → SProp 𝓤) (run : Routine → Fun 𝓤) where
   f-walks : (𝓣 : Tables 𝓤 H) → Triple 𝓤 (𝓣 .C #yard-scans·list-step) (Stp 𝓤 H A mem run) → Triple 𝓤 (𝓣 .C #yard-scans·empty-page) (Fst 𝓤 H A mem run) → Walks 𝓤
@@ -301,8 +317,8 @@ module _ {M : Type 1} (𝓤 : URA M) (H : Heap 𝓤) (A : Atoms 𝓤) (W : Given
       (slice-vals, (slice-vals, ((λ d. L-Asked.lowered d ∷ []), tt)))) (λ κs.
       (shr-slice-tells (named 0) (κs .0) R-Seat, (mut-slice-tells (named 1) (κs .1 .0) u32, (L-Asked.lowers .val-is, tt))))
       (λ κs qs bounds a _ are. via 𝓤 _ (fst∗ 𝓤 _ (emp 𝓤)) (walk 𝓤 H A W mem run (κs .0) (κs .1 .0) (qs .0) (qs .1 .0) (a .0 .ptr .0) (a .0 .ptr .1) (a .0 .name)
-          (a .0 .now) (a .1 .0 .ptr .0) (a .1 .0 .ptr .1) (a .1 .0 .name) (a .1 .0 .now) (a .1 .1 .0) 𝓣 known-g known-k (are .0 .0 .1) (are .1 .0 .0 .1) (are .1
-          .1 .0)))
+      (a .0 .now) (a .1 .0 .ptr .0) (a .1 .0 .ptr .1) (a .1 .0 .name) (a .1 .0 .now) (a .1 .1 .0) 𝓣 known-g known-k (are .0 .0 .1) (are .1 .0 .0 .1) (are .1
+      .1 .0)))
 
 f-meets : {M : Type 1} (𝓤 : URA M) (H : Heap 𝓤) (A : Atoms 𝓤) → Given 𝓤 H A → (mem : Memory → SProp 𝓤) (run : Routine → Fun 𝓤) (𝓣 : Tables 𝓤 H) → Triple 𝓤 (𝓣 .C
     #yard-scans·list-step) (Stp 𝓤 H A mem run) → Triple 𝓤 (𝓣 .C #yard-scans·empty-page) (Fst 𝓤 H A mem run)

@@ -42,7 +42,7 @@ abbrev SeatsTy : Ty
 SeatsTy = sliceTy (tyRef (named 0) imm (pointee (R-Seat .written)))
 
 -- where a turn begins
-record Turn (ys : List Seat)  : Type 0 where
+record Turn (ys : List Seat) : Type 0 where
   i : ℕ
   le : i ≤ length ys
   acc : ℕ
@@ -55,7 +55,7 @@ module _ {M : Type 1} (𝓤 : URA M) (H : Heap 𝓤) (A : Atoms 𝓤) (mem : Mem
   Stp = tripleOf 𝓤 H A g.signature (g.spec 𝓤 H A mem run)
 
 module _ {M : Type 1} (𝓤 : URA M) (H : Heap 𝓤) (A : Atoms 𝓤) (W : Given 𝓤 H A) (mem : Memory → SProp 𝓤) (run : Routine → Fun 𝓤) (κ0 : Lft) (q0 : Share)
-    (b o : ℕ) (γ : GName) (ys : List Seat)  where
+    (b o : ℕ) (γ : GName) (ys : List Seat) where
   abbrev at-seats : List Seat → RefT (List Seat)
   at-seats l = record { ptr = (b, o); name = γ; now = l }
 
@@ -80,11 +80,11 @@ module _ {M : Type 1} (𝓤 : URA M) (H : Heap 𝓤) (A : Atoms 𝓤) (W : Given
       arr-parts (shares R-Seat) (length zs) .part s zs b o)) ∷ []
 
   exits : (x : Turn ys) → Room R-Seat (length ys) → (x .acc) ≡ lowestFree ys → ent 𝓤 (⋆ 𝓤 H A (Had (ys) ([]))) (Post (vint w64 (x .acc)))
-  exits x gs  e =
+  exits x gs e =
       qed W (Had (ys) ([])) ∵
       suffices ! _ (ends-at 𝓤 H A f.ended stayed (f.clauses 𝓤 H A mem run) W bound (vint w64 (x .acc)) (x .acc) (tt, tt) (tt, tt)) $ says ! e $
       move ! (2 ∷ 3 ∷ []) $ fjoin ! $ move ! (2 ∷ 0 ∷ []) $ fjoin ! $ nothing ! $ move ! (2 ∷ 0 ∷ []) $ join ! $ nothing ! $ move ! (2 ∷ 0 ∷ []) $ fjoin ! $
-          move ! (1 ∷ 0 ∷ []) $ frame ! $ frame ! $ owned ! usize (Is usize) (uint-makes 𝓤 H A W w64) (x .acc) (vint w64 (x .acc) ∷ []) (x .is) $ done !
+      move ! (1 ∷ 0 ∷ []) $ frame ! $ frame ! $ owned ! usize (Is usize) (uint-makes 𝓤 H A W w64) (x .acc) (vint w64 (x .acc) ∷ []) (x .is) $ done !
 
   -- the call
   module _ (c : ℕ) (s : Seat) (i : ℕ) where
@@ -95,11 +95,11 @@ module _ {M : Type 1} (𝓤 : URA M) (H : Heap 𝓤) (A : Atoms 𝓤) (W : Given
     to-stp = ((tt, tt, tt, stp-args, (vint w64 c ∷ [], (L-Seat.lowered s ∷ [], (vint w64 i ∷ [], tt)))), tt)
 
     goes-stp : Is usize c (vint w64 c ∷ []) → Is R-Seat s (L-Seat.lowered s ∷ []) → i < 2 ^ 64 → ent 𝓤 (⋆ 𝓤 H A ([])) (Stp 𝓤 H A mem run .pre to-stp)
-    goes-stp  isc iss gi =
-        qed W ([]) ∵ 
+    goes-stp isc iss gi =
+        qed W ([]) ∵
         nothing ! $ nothing ! $ owned ! usize (Is usize) (uint-makes 𝓤 H A W w64) i (vint w64 i ∷ []) (refl, gi) $ fjoin ! $
-            owned ! R-Seat (Is R-Seat) (LL.makes T-Seat.the-type L-Seat.the-plain 𝓤 H A) s (L-Seat.lowered s ∷ []) iss $ fjoin ! $
-            owned ! usize (Is usize) (uint-makes 𝓤 H A W w64) c (vint w64 c ∷ []) isc $ fjoin ! $ move ! (1 ∷ 0 ∷ []) $ join ! $ frame ! $ done !
+        owned ! R-Seat (Is R-Seat) (LL.makes T-Seat.the-type L-Seat.the-plain 𝓤 H A) s (L-Seat.lowered s ∷ []) iss $ fjoin ! $
+        owned ! usize (Is usize) (uint-makes 𝓤 H A W w64) c (vint w64 c ∷ []) isc $ fjoin ! $ move ! (1 ∷ 0 ∷ []) $ join ! $ frame ! $ done !
 
   -- ---- the loop
   abbrev Nearer : Turn ys → Turn ys → Type 0
@@ -108,7 +108,7 @@ module _ {M : Type 1} (𝓤 : URA M) (H : Heap 𝓤) (A : Atoms 𝓤) (W : Given
   Nearer-wf : WellFounded Nearer
   Nearer-wf = InvImage·wf (λ (x : Turn ys). length ys - x .i) (Nat·lt-wfRel .wf)
 
-  module _ (𝓣 : Tables 𝓤 H) (known-g : Triple 𝓤 (𝓣 .C #yard-scans·free-step) (Stp 𝓤 H A mem run)) (gs : Room R-Seat (length ys))  where
+  module _ (𝓣 : Tables 𝓤 H) (known-g : Triple 𝓤 (𝓣 .C #yard-scans·free-step) (Stp 𝓤 H A mem run)) (gs : Room R-Seat (length ys)) where
     abbrev C : Calls 𝓤 H
     C = 𝓣 .C
 
@@ -124,7 +124,7 @@ module _ {M : Type 1} (𝓤 : URA M) (H : Heap 𝓤) (A : Atoms 𝓤) (W : Given
       At x = ‵ (froom L-Seat.mir l7 0) ∷ ‵ (fdies L-Seat.mir l7) ∷ ‵ (froom tyPtr l6 0) ∷ ‵ (fdies tyPtr l6)
           ∷ ‵ (froom tyBool l5 0) ∷ ‵ (fdies tyBool l5) ∷ ‵ (froom (tyInt w64) l4 0) ∷ ‵ (fdies (tyInt w64) l4)
           ∷ ‵ (fat fullShare (tyInt w64) l3 0 (vint w64 (x .i))) ∷ ‵ (fdies (tyInt w64) l3) ∷ ‵ (fat fullShare (tyInt w64) l2 0 (vint w64 (x .acc))) ∷ ‵ (fdies
-              (tyInt w64) l2)
+          (tyInt w64) l2)
           ∷ ‵ (fat fullShare SeatsTy l1 0 sv) ∷ ‵ (fdies SeatsTy l1) ∷ ‵ (froom (tyInt w64) l0 0) ∷ ‵ (fdies (tyInt w64) l0) ∷ Had (ys) ([])
 
       -- a turn's postcondition: it ends nearer to the end, or the loop is left and the rest of the body runs
@@ -135,34 +135,34 @@ module _ {M : Type 1} (𝓤 : URA M) (H : Heap 𝓤) (A : Atoms 𝓤) (W : Given
       unfolding afterTurn
       more x l =
           assigns ! (of-opd ! (load ! (from ! (fld ! refl (stop !))) (look-in ! 12 (sub ! 1 refl (whole !))))) (from ! (stop !)) (init ! 6 refl
-              (tt, record { fits = gs .0 })) $ assigns ! (bin ! (load ! (from ! (stop !)) (look ! 8 refl)) (load ! (from ! (stop !)) (look ! 6 refl)) tt) (from
-              ! (stop !)) (init ! 4 refl (tt, tt)) $ rewrite ! 4 (λ (t : Bool). ‵ (fat fullShare tyBool l5 0 (vbool t))) (lt-ltb (x .i) (length ys) l) refl $
-              stays ! (load ! (from ! (stop !)) (look ! 4 refl)) $ assigns ! (bin ! (load ! (from ! (stop !)) (look ! 8 refl)) (lit ! tt) (record
-              { fits = within-fits seat-size (x .i) (length ys) l (gs .1) })) (from ! (stop !)) (store ! 6 refl
-              (tt, record { fits = within-fits seat-size (x .i) (length ys) l (gs .1) })) $ assigns ! (bin ! (load ! (from ! (fld ! refl (stop !))) (look-in !
-              12 (sub ! 0 refl (whole !)))) (load ! (from ! (stop !)) (look ! 6 refl)) tt) (from ! (stop !)) (init ! 2 refl (tt, tt)) $
-              rewrite ! 2 (λ (p : ℕ). ‵ (fat fullShare tyPtr l6 0 (vptr b p))) (sym (place-is seat-size o (x .i))) refl $ move ! (19 ∷ 16 ∷ []) $
-              looks-slice ! tt R-Seat (Is R-Seat) (shows 𝓤 H A R-Seat) (λ d. L-Seat.lowered d ∷ []) (L-Seat.lowers .val-is) (LL.copy T-Seat.the-type
-              L-Seat.the-copy 𝓤 H A W) ys b o (λ q′. elem-out ! R-Seat (Is R-Seat) (shows 𝓤 H A R-Seat) (λ d. L-Seat.lowered d ∷ []) (L-Seat.lowers .val-is) q′
-              ys (x .i) cleared b o l (λ iss. assigns ! (of-opd ! (load ! (from ! (hop ! (look ! 7 refl) (stop !))) (look-raw ! 0 refl))) (from ! (stop !))
-              (init ! 5 refl (LL.lawful T-Seat.the-type L-Seat.the-laws 𝓤 H A W .typed elem _ iss .0)) $ elem-back ! R-Seat q′ ys (x .i) cleared (L-Seat.lowered
-              elem ∷ []) b o l $ shuts-slice ! tt R-Seat q′ ys b o $ use0 W (raw (Stp 𝓤 H A mem run .pre (to-stp (x .acc) elem (x .i)))) (goes-stp (x .acc) elem
-              (x .i)  (x .is) iss gi) $ calls-at ! (fmOf 𝓤 H (W .laws) 𝓣) (Stp 𝓤 H A mem run) known-g (to-stp (x .acc) elem (x .i)) (and-then ! (load ! (from !
-              (stop !)) (look ! 13 refl)) (and-then ! (load ! (from ! (stop !)) (look ! 3 refl)) (and-then ! (load ! (from ! (stop !)) (look ! 11 refl))
-              (no-more !)))) (λ v. use1 W (later (some (λ (r : ℕ). ((‵ ftrue) ⊛ ‵ (usize .own r (v ∷ []))) ⊛ raw (ensured 𝓤 H A g.ended (g.clauses 𝓤 H A mem
-              run) tt (stp-args (x .acc) elem (x .i)) tt r)))) (id⊢ 𝓤 _) $ await ! tt $ pick ! (λ r. split ! $ move ! (1 ∷ []) $
-              use1 W (some (λ (ws : Lasts g.ended tt (stp-args (x .acc) elem (x .i))). ‵ (lasts g.ended tt (stp-args (x .acc) elem (x .i)) ws) ⊛ raw (fact 𝓤 (r
-              ≡ cond (ltb (x .acc) (x .i) || on (elem .taken)) (x .acc) (x .i))))) (id⊢ 𝓤 _) $ pick ! (λ ws. split ! $ move ! (1 ∷ []) $
-              heard ! (r ≡ cond (ltb (x .acc) (x .i) || on (elem .taken)) (x .acc) (x .i)) (λ e. fsplit ! $ drop ! $ fsplit ! $ drop ! $ fsplit ! $ drop ! $
-              drop ! $ split ! $ drop ! $ peeks ! usize (Is usize) (shows 𝓤 H A usize) r (v ∷ []) (λ isr. drop ! $
-              land ! (from ! (stop !)) (store ! 12 refl (uint-lawful 𝓤 H A W w64 .typed r _ isr .0)) $ rewrite ! 12 (λ (u : Val). ‵ (fat fullShare (tyInt w64)
-              l2 0 u)) (ap only (isr .0)) refl $ assigns-last ! (bin ! (load ! (from ! (stop !)) (look ! 10 refl)) (lit ! tt) (record
-              { fits = le-fits (x .i + 1) (length ys) (next-le (x .i) (length ys) l) (gs .0) })) (from ! (stop !)) (store ! 10 refl
-              (tt, record { fits = le-fits (x .i + 1) (length ys) (next-le (x .i) (length ys) l) (gs .0) })) $ forget ! 8 refl $ forget ! 6 refl $
-              forget ! 4 refl $ forget ! 2 refl $ keep ! (2 ∷ 3 ∷ 4 ∷ 5 ∷ 6 ∷ 7 ∷ 8 ∷ 9 ∷ 10 ∷ 11 ∷ 12 ∷ 13 ∷ 14 ∷ 15 ∷ 16 ∷ 17 ∷ 0 ∷ 18 ∷ 19 ∷ 1 ∷ []) $
-              again ! Nearer At x (record
-              { i = x .i + 1; le = next-le (x .i) (length ys) l; acc = r; is = (refl, isr .1); so = ap (λ (k : ℕ). freeFrom (dropped (x .i + 1) ys) (x .i + 1) k) e ∙ free-next ys (x .i) (x .acc) l ∙ x .so })
-              (nearer-less (x .i) (length ys) l))))))))
+          (tt, record { fits = gs .0 })) $ assigns ! (bin ! (load ! (from ! (stop !)) (look ! 8 refl)) (load ! (from ! (stop !)) (look ! 6 refl)) tt) (from
+          ! (stop !)) (init ! 4 refl (tt, tt)) $ rewrite ! 4 (λ (t : Bool). ‵ (fat fullShare tyBool l5 0 (vbool t))) (lt-ltb (x .i) (length ys) l) refl $
+          stays ! (load ! (from ! (stop !)) (look ! 4 refl)) $ assigns ! (bin ! (load ! (from ! (stop !)) (look ! 8 refl)) (lit ! tt) (record
+          { fits = within-fits seat-size (x .i) (length ys) l (gs .1) })) (from ! (stop !)) (store ! 6 refl
+          (tt, record { fits = within-fits seat-size (x .i) (length ys) l (gs .1) })) $ assigns ! (bin ! (load ! (from ! (fld ! refl (stop !))) (look-in !
+          12 (sub ! 0 refl (whole !)))) (load ! (from ! (stop !)) (look ! 6 refl)) tt) (from ! (stop !)) (init ! 2 refl (tt, tt)) $
+          rewrite ! 2 (λ (p : ℕ). ‵ (fat fullShare tyPtr l6 0 (vptr b p))) (sym (place-is seat-size o (x .i))) refl $ move ! (19 ∷ 16 ∷ []) $
+          looks-slice ! tt R-Seat (Is R-Seat) (shows 𝓤 H A R-Seat) (λ d. L-Seat.lowered d ∷ []) (L-Seat.lowers .val-is) (LL.copy T-Seat.the-type
+          L-Seat.the-copy 𝓤 H A W) ys b o (λ q′. elem-out ! R-Seat (Is R-Seat) (shows 𝓤 H A R-Seat) (λ d. L-Seat.lowered d ∷ []) (L-Seat.lowers .val-is) q′
+          ys (x .i) cleared b o l (λ iss. assigns ! (of-opd ! (load ! (from ! (hop ! (look ! 7 refl) (stop !))) (look-raw ! 0 refl))) (from ! (stop !))
+          (init ! 5 refl (LL.lawful T-Seat.the-type L-Seat.the-laws 𝓤 H A W .typed elem _ iss .0)) $ elem-back ! R-Seat q′ ys (x .i) cleared (L-Seat.lowered
+          elem ∷ []) b o l $ shuts-slice ! tt R-Seat q′ ys b o $ use0 W (raw (Stp 𝓤 H A mem run .pre (to-stp (x .acc) elem (x .i)))) (goes-stp (x .acc) elem
+          (x .i) (x .is) iss gi) $ calls-at ! (fmOf 𝓤 H (W .laws) 𝓣) (Stp 𝓤 H A mem run) known-g (to-stp (x .acc) elem (x .i)) (and-then ! (load ! (from !
+          (stop !)) (look ! 13 refl)) (and-then ! (load ! (from ! (stop !)) (look ! 3 refl)) (and-then ! (load ! (from ! (stop !)) (look ! 11 refl))
+          (no-more !)))) (λ v. use1 W (later (some (λ (r : ℕ). ((‵ ftrue) ⊛ ‵ (usize .own r (v ∷ []))) ⊛ raw (ensured 𝓤 H A g.ended (g.clauses 𝓤 H A mem
+          run) tt (stp-args (x .acc) elem (x .i)) tt r)))) (id⊢ 𝓤 _) $ await ! tt $ pick ! (λ r. split ! $ move ! (1 ∷ []) $
+          use1 W (some (λ (ws : Lasts g.ended tt (stp-args (x .acc) elem (x .i))). ‵ (lasts g.ended tt (stp-args (x .acc) elem (x .i)) ws) ⊛ raw (fact 𝓤 (r
+          ≡ cond (ltb (x .acc) (x .i) || on (elem .taken)) (x .acc) (x .i))))) (id⊢ 𝓤 _) $ pick ! (λ ws. split ! $ move ! (1 ∷ []) $
+          heard ! (r ≡ cond (ltb (x .acc) (x .i) || on (elem .taken)) (x .acc) (x .i)) (λ e. fsplit ! $ drop ! $ fsplit ! $ drop ! $ fsplit ! $ drop ! $
+          drop ! $ split ! $ drop ! $ peeks ! usize (Is usize) (shows 𝓤 H A usize) r (v ∷ []) (λ isr. drop ! $
+          land ! (from ! (stop !)) (store ! 12 refl (uint-lawful 𝓤 H A W w64 .typed r _ isr .0)) $ rewrite ! 12 (λ (u : Val). ‵ (fat fullShare (tyInt w64)
+          l2 0 u)) (ap only (isr .0)) refl $ assigns-last ! (bin ! (load ! (from ! (stop !)) (look ! 10 refl)) (lit ! tt) (record
+          { fits = le-fits (x .i + 1) (length ys) (next-le (x .i) (length ys) l) (gs .0) })) (from ! (stop !)) (store ! 10 refl
+          (tt, record { fits = le-fits (x .i + 1) (length ys) (next-le (x .i) (length ys) l) (gs .0) })) $ forget ! 8 refl $ forget ! 6 refl $
+          forget ! 4 refl $ forget ! 2 refl $ keep ! (2 ∷ 3 ∷ 4 ∷ 5 ∷ 6 ∷ 7 ∷ 8 ∷ 9 ∷ 10 ∷ 11 ∷ 12 ∷ 13 ∷ 14 ∷ 15 ∷ 16 ∷ 17 ∷ 0 ∷ 18 ∷ 19 ∷ 1 ∷ []) $
+          again ! Nearer At x (record
+          { i = x .i + 1; le = next-le (x .i) (length ys) l; acc = r; is = (refl, isr .1); so = ap (λ (k : ℕ). freeFrom (dropped (x .i + 1) ys) (x .i + 1) k) e ∙ free-next ys (x .i) (x .acc) l ∙ x .so })
+          (nearer-less (x .i) (length ys) l))))))))
         where
           elem : Seat
           elem = getD (ys) (x .i) cleared
@@ -174,14 +174,14 @@ module _ {M : Type 1} (𝓤 : URA M) (H : Heap 𝓤) (A : Atoms 𝓤) (W : Given
       unfolding afterTurn
       ends x l =
           assigns ! (of-opd ! (load ! (from ! (fld ! refl (stop !))) (look-in ! 12 (sub ! 1 refl (whole !))))) (from ! (stop !)) (init ! 6 refl
-              (tt, record { fits = gs .0 })) $ assigns ! (bin ! (load ! (from ! (stop !)) (look ! 8 refl)) (load ! (from ! (stop !)) (look ! 6 refl)) tt) (from
-              ! (stop !)) (init ! 4 refl (tt, tt)) $ rewrite ! 4 (λ (t : Bool). ‵ (fat fullShare tyBool l5 0 (vbool t))) (le-ltb (x .i) (length ys) l) refl $
-              leaves-loop ! (load ! (from ! (stop !)) (look ! 4 refl)) $ exec ! C Λ En Mir.t-4 (atRet En Post) $
-              assigns ! (of-opd ! (load ! (from ! (stop !)) (look ! 10 refl))) (from ! (stop !)) (init ! 14 refl (tt, record { fits = (x .is) .1 })) $
-              returns ! (look ! 14 refl) $ forget ! 14 refl $ forget ! 12 refl $ forget ! 10 refl $ forget ! 8 refl $ forget ! 6 refl $ forget ! 4 refl $
-              move ! (14 ∷ 15 ∷ []) $ free1 ! $ move ! (12 ∷ 13 ∷ []) $ free1 ! $ move ! (10 ∷ 11 ∷ []) $ free1 ! $ move ! (8 ∷ 9 ∷ []) $ free1 ! $
-              move ! (6 ∷ 7 ∷ []) $ free1 ! $ move ! (4 ∷ 5 ∷ []) $ free1 ! $ move ! (2 ∷ 3 ∷ []) $ free1 ! $ free1 ! $ free0 ! $ keep ! (0 ∷ 1 ∷ 2 ∷ 3 ∷ []) $
-              by ! (exits x gs  (free-end ys (x .i) (x .acc) l ∙ x .so))
+          (tt, record { fits = gs .0 })) $ assigns ! (bin ! (load ! (from ! (stop !)) (look ! 8 refl)) (load ! (from ! (stop !)) (look ! 6 refl)) tt) (from
+          ! (stop !)) (init ! 4 refl (tt, tt)) $ rewrite ! 4 (λ (t : Bool). ‵ (fat fullShare tyBool l5 0 (vbool t))) (le-ltb (x .i) (length ys) l) refl $
+          leaves-loop ! (load ! (from ! (stop !)) (look ! 4 refl)) $ exec ! C Λ En Mir.t-4 (atRet En Post) $
+          assigns ! (of-opd ! (load ! (from ! (stop !)) (look ! 10 refl))) (from ! (stop !)) (init ! 14 refl (tt, record { fits = (x .is) .1 })) $
+          returns ! (look ! 14 refl) $ forget ! 14 refl $ forget ! 12 refl $ forget ! 10 refl $ forget ! 8 refl $ forget ! 6 refl $ forget ! 4 refl $
+          move ! (14 ∷ 15 ∷ []) $ free1 ! $ move ! (12 ∷ 13 ∷ []) $ free1 ! $ move ! (10 ∷ 11 ∷ []) $ free1 ! $ move ! (8 ∷ 9 ∷ []) $ free1 ! $
+          move ! (6 ∷ 7 ∷ []) $ free1 ! $ move ! (4 ∷ 5 ∷ []) $ free1 ! $ move ! (2 ∷ 3 ∷ []) $ free1 ! $ free1 ! $ free0 ! $ keep ! (0 ∷ 1 ∷ 2 ∷ 3 ∷ []) $
+          by ! (exits x gs (free-end ys (x .i) (x .acc) l ∙ x .so))
 
       turns : (x : Turn ys) → Sq W (At x) (runs C Λ En Mir.turn-1 (anyQ (Turned x)))
       turns x = elim (by-test (ltb (x .i) (length ys))) [ inl t ↦ more x (ltb-true (x .i) (length ys) t) | inr t ↦ ends x (ltb-false (x .i) (length ys) t) ]
@@ -194,12 +194,12 @@ module _ {M : Type 1} (𝓤 : URA M) (H : Heap 𝓤) (A : Atoms 𝓤) (W : Given
     walk =
         qed W ((‵ (flft κ0 q0) ⊛ ‵ ftrue) ∷ ‵ (owns (ShrSlice (named 0) κ0 R-Seat ∷ []) xs at) ∷ []) ∵ enter ! C Λ code.function (sv ∷ []) _ $
         alloc1 ! (λ l0. alloc1 ! (λ l1. alloc1 ! (λ l2. alloc1 ! (λ l3. alloc1 ! (λ l4. alloc1 ! (λ l5. alloc1 ! (λ l6. alloc1 ! (λ l7. alloc0 ! $ params1 ! $
-            pass1 ! (init ! 12 refl (tt, (tt, (record { fits = gs .0 }, tt)))) $ pass0 ! $ assigns ! (of-opd ! (load ! (from ! (fld ! refl (stop !))) (look-in !
-            12 (sub ! 1 refl (whole !))))) (from ! (stop !)) (init ! 10 refl (tt, record { fits = gs .0 })) $ assigns ! (of-opd ! (lit ! tt)) (from ! (stop !))
-            (init ! 8 refl (tt, record { fits = lit< tt })) $ move ! (16 ∷ []) $ split ! $ move ! (1 ∷ []) $ drop ! $ move ! (17 ∷ []) $ fsplit ! $
-            move ! (1 ∷ []) $ drop ! $ fsplit ! $ move ! (1 ∷ []) $ fsplit ! $ keep ! (4 ∷ 5 ∷ 6 ∷ 7 ∷ 8 ∷ 9 ∷ 10 ∷ 11 ∷ 12 ∷ 13 ∷ 14 ∷ 15 ∷ 16 ∷ 17 ∷ 18 ∷ 19 ∷
-            3 ∷ 2 ∷ 0 ∷ 1 ∷ []) $ loop-on l0 l1 l2 l3 l4 l5 l6 l7 (record
-            { i = 0; le = zero-le; acc = length ys; is = (refl, gs .0); so = free-all ys })))))))))
+        pass1 ! (init ! 12 refl (tt, (tt, (record { fits = gs .0 }, tt)))) $ pass0 ! $ assigns ! (of-opd ! (load ! (from ! (fld ! refl (stop !))) (look-in !
+        12 (sub ! 1 refl (whole !))))) (from ! (stop !)) (init ! 10 refl (tt, record { fits = gs .0 })) $ assigns ! (of-opd ! (lit ! tt)) (from ! (stop !))
+        (init ! 8 refl (tt, record { fits = lit< tt })) $ move ! (16 ∷ []) $ split ! $ move ! (1 ∷ []) $ drop ! $ move ! (17 ∷ []) $ fsplit ! $
+        move ! (1 ∷ []) $ drop ! $ fsplit ! $ move ! (1 ∷ []) $ fsplit ! $ keep ! (4 ∷ 5 ∷ 6 ∷ 7 ∷ 8 ∷ 9 ∷ 10 ∷ 11 ∷ 12 ∷ 13 ∷ 14 ∷ 15 ∷ 16 ∷ 17 ∷ 18 ∷ 19 ∷
+        3 ∷ 2 ∷ 0 ∷ 1 ∷ []) $ loop-on l0 l1 l2 l3 l4 l5 l6 l7 (record
+        { i = 0; le = zero-le; acc = length ys; is = (refl, gs .0); so = free-all ys })))))))))
 
 module _ {M : Type 1} (𝓤 : URA M) (H : Heap 𝓤) (A : Atoms 𝓤) (W : Given 𝓤 H A) (mem : Memory → SProp 𝓤) (run : Routine → Fun 𝓤) where
   f-walks : (𝓣 : Tables 𝓤 H) → Triple 𝓤 (𝓣 .C #yard-scans·free-step) (Stp 𝓤 H A mem run) → Walks 𝓤 H A f.ended stayed (WpFn 𝓤 H (𝓣 .C) (𝓣 .Λ) code.function)
@@ -207,7 +207,7 @@ module _ {M : Type 1} (𝓤 : URA M) (H : Heap 𝓤) (A : Atoms 𝓤) (W : Given
   f-walks 𝓣 known-g = walked 𝓤 H A f.ended stayed (f.clauses 𝓤 H A mem run) (WpFn 𝓤 H (𝓣 .C) (𝓣 .Λ) code.function) (λ κs. (slice-vals, tt)) (λ κs.
       (shr-slice-tells (named 0) (κs .0) R-Seat, tt))
       (λ κs qs bounds a _ are. via 𝓤 _ (fst∗ 𝓤 _ (emp 𝓤)) (walk 𝓤 H A W mem run (κs .0) (qs .0) (a .0 .ptr .0) (a .0 .ptr .1) (a .0 .name) (a .0 .now) 𝓣 known-g
-          (are .0 .0 .1)))
+      (are .0 .0 .1)))
 
 f-meets : {M : Type 1} (𝓤 : URA M) (H : Heap 𝓤) (A : Atoms 𝓤) → Given 𝓤 H A → (mem : Memory → SProp 𝓤) (run : Routine → Fun 𝓤) (𝓣 : Tables 𝓤 H) → Triple 𝓤 (𝓣 .C
     #yard-scans·free-step) (Stp 𝓤 H A mem run)
