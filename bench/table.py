@@ -15,8 +15,8 @@ from statistics import mean
 COLUMNS = ["what", "size", "of", "ours_us", "peer", "peer_us", "goal"]
 SHA1_BYTES = 16_777_216
 CHECK_GOAL, UNAIDED_GOAL = (3, 0.88) if platform.machine() == "x86_64" else (2.5, 0.95)
-# a call of the yard may take so many times as long as plain C
-YARD_MOST = {"have": 1.1, "full bitfield": 1.3, "leave of a full truck": 1.3, "page of 2,000 seats": 1.3}
+# a call of the yard may take so many times as long as plain C; a piece frame has no goal
+YARD_MOST = {"have": 1.1, "piece frame": None, "full bitfield": 1.3, "leave of a full truck": 1.3, "page of 2,000 seats": 1.3, "round of 2,000 seats": 1.3}
 
 
 def main():
@@ -93,7 +93,7 @@ def yard(said):
     for what, most in YARD_MOST.items():
         found(rf"^{what} +([\d.]+)", said)
         ours, theirs = (min(map(float, column)) / 1e3 for column in zip(*re.findall(rf"^{what} +([\d.]+) +([\d.]+)", said, re.M)))
-        rows.append([what, 2000, "seats", ours, "plain C", theirs, 1 / most])
+        rows.append([what, 2000, "seats", ours, "plain C", theirs, most and 1 / most])
     return rows
 
 

@@ -9,6 +9,7 @@
 #include <time.h>
 
 enum { SEATS = 2000, PIECES = 16384, WIDTH = PIECES / 8, TURNS = 15 };
+static const uint64_t MOST_SENT = 1ull << 53;
 
 struct yard {
     struct wardrail_head head;
@@ -73,6 +74,12 @@ static int hear_bitfield(struct wardrail_head *h, struct wardrail_seat *s, size_
     return 0;
 }
 
+static int hear_piece(struct wardrail_seat *s, uint32_t count) {
+    if (s->bytes > MOST_SENT || count > MOST_SENT - s->bytes) return 39;
+    s->bytes += count;
+    return 0;
+}
+
 static int hear_block(const struct wardrail_head *h, uint32_t p, uint32_t begin, uint32_t count) {
     if (p >= h->pieces) return 31;
     uint32_t size = p + 1 == h->pieces ? h->last_length : h->piece_length;
@@ -118,6 +125,7 @@ OUT_OF_LINE static uint64_t plain_feed(WARDRAIL_TABLES, size_t seat, const uint8
     case 7:
         if (len < 10) return 21;
         bad = hear_block(head, word(load), word(load + 4), len - 9);
+        if (!bad) bad = hear_piece(s, len - 9);
         break;
     case 8:
         if (len != 13) return 21;
@@ -144,6 +152,7 @@ OUT_OF_LINE static uint64_t plain_leave(WARDRAIL_TABLES, size_t seat) {
     memset(row, 0, width);
     head->taken--;
     if (s->held == pieces) head->complete--;
+    if (head->free == seat) head->free = WARDRAIL_NOBODY;
     memset(s, 0, sizeof *s);
     return 0;
 }
@@ -160,6 +169,36 @@ OUT_OF_LINE static uint64_t plain_missing(WARDRAIL_TABLES_READ, size_t first, ui
         if (told->listed < page_count) page[told->listed++] = (uint32_t)i;
         else if (told->next == seats_count) told->next = i;
     }
+    return 0;
+}
+
+/* the four that sent most, the best first, and the next seat for the free place in one pass, and the marks in another */
+OUT_OF_LINE static uint64_t plain_round(WARDRAIL_TABLES, struct wardrail_told *told) {
+    if (!fit(head, seats_count, rows_count, holders_count)) return 38;
+    (void)rows, (void)holders;
+    if (head->round > 2 || (head->free != WARDRAIL_NOBODY && head->free >= seats_count) || head->last >= seats_count) return 39;
+    size_t best[4], four = 0;
+    uint32_t lowest = WARDRAIL_NOBODY, next = WARDRAIL_NOBODY;
+    for (size_t i = 0; i < seats_count; i++) {
+        if (!seats[i].taken || !seats[i].peer_interested) continue;
+        if (lowest == WARDRAIL_NOBODY) lowest = (uint32_t)i;
+        if (next == WARDRAIL_NOBODY && i > head->last) next = (uint32_t)i;
+        if (four == 4 && seats[best[3]].bytes >= seats[i].bytes) continue;
+        size_t k = four < 4 ? four++ : 3;
+        for (; k > 0 && seats[best[k - 1]].bytes < seats[i].bytes; k--) best[k] = best[k - 1];
+        best[k] = i;
+    }
+    if (head->round == 0) {
+        head->free = next != WARDRAIL_NOBODY ? next : lowest;
+        if (head->free != WARDRAIL_NOBODY) head->last = head->free;
+    }
+    head->round = (head->round + 1) % 3;
+    for (size_t i = 0; i < seats_count; i++)
+        if (seats[i].taken) seats[i].bytes = 0, seats[i].am_choking = 1;
+    uint64_t unchoked = four;
+    for (size_t k = 0; k < four; k++) seats[best[k]].am_choking = 0;
+    if (head->free != WARDRAIL_NOBODY && seats[head->free].taken && seats[head->free].am_choking) seats[head->free].am_choking = 0, unchoked++;
+    *told = (struct wardrail_told){.unchoked = unchoked};
     return 0;
 }
 
@@ -215,6 +254,37 @@ static void frame(uint32_t n, uint8_t id, uint32_t number, uint8_t last, size_t 
     alike(seat, b, sizeof b, expected);
 }
 
+/* each truck sent fewer bytes than this, as if at random, so that few or many are alike */
+static void sent(uint64_t most) {
+    static uint64_t state = 88172645463325252u;
+    for (size_t i = 0; i < SEATS; i++) {
+        state ^= state << 13, state ^= state >> 7, state ^= state << 17;
+        ours.seats[i].bytes = theirs.seats[i].bytes = state % most;
+    }
+}
+
+static void turn(uint64_t expected) {
+    struct wardrail_told a = {{7}, 7, 7, 7}, t = a;
+    uint64_t x = wardrail_yard_round(OURS, &a), y = plain_round(THEIRS, &t);
+    if (x != y || x != expected || memcmp(&a, &t, sizeof a)) {
+        fprintf(stderr, "bench: a round: %llu beside %llu\n", (unsigned long long)x, (unsigned long long)y);
+        exit(1);
+    }
+    same("the tables after a round differ, so the comparison");
+}
+
+/* rounds with nobody interested, one truck, every third, and all of them; then a free place, a last one and a number that are none */
+static void rounds(void) {
+    for (size_t k = 0; k < 4; k++) {
+        for (size_t i = 0; i < SEATS; i++) ours.seats[i].peer_interested = theirs.seats[i].peer_interested = k == 1 ? i == 1234 : k == 2 ? i % 3 == 2 : k == 3;
+        for (uint64_t most = 1; most < 8; most++) sent(most), turn(0);
+    }
+    ours.head.round = theirs.head.round = 1, ours.head.free = theirs.head.free = SEATS, turn(39);
+    ours.head.free = theirs.head.free = WARDRAIL_NOBODY, turn(0);
+    ours.head.last = theirs.head.last = SEATS, turn(39);
+    ours.head.last = theirs.head.last = 0, ours.head.round = theirs.head.round = 3, turn(39);
+}
+
 static void answers(void) {
     for (uint8_t id = 0; id < 4; id++) frame(1, id, 0, 0, 7, 0), frame(2, id, 0, 0, 7, 21);
     frame(0, 0, 0, 0, 7, 0);
@@ -227,6 +297,8 @@ static void answers(void) {
         if (id != 7) frame(13, id, 2, 0, 7, 34);
     }
     frame(9, 7, 2, 0, 7, 21), frame(16393, 7, PIECES - 1, 0, 7, 0);
+    ours.seats[7].bytes = theirs.seats[7].bytes = MOST_SENT - 1;
+    frame(10, 7, 2, 0, 7, 0), frame(10, 7, 2, 0, 7, 39);
     ours.seats[7].am_choking = theirs.seats[7].am_choking = 0;
     frame(1, 2, 0, 0, 7, 0), frame(13, 6, 2, 64, 7, 0);
     ours.seats[7].held = theirs.seats[7].held = PIECES;
@@ -238,6 +310,7 @@ static void answers(void) {
 
 int main(void) {
     static uint8_t have[9] = {0, 0, 0, 5, 4}, full[5 + WIDTH] = {0, 0, (1 + WIDTH) >> 8, (1 + WIDTH) & 255, 5};
+    static uint8_t piece[4 + 16393] = {0, 0, 16393 >> 8, 16393 & 255, 7};
     static uint32_t page[SEATS], page2[SEATS];
     double a[TURNS], b[TURNS], c[TURNS], d[TURNS], t;
     struct wardrail_told told, told2;
@@ -248,6 +321,8 @@ int main(void) {
     static struct yard fresh;
     fresh = ours;
     answers();
+    ours = theirs = fresh;
+    rounds();
     ours = theirs = fresh;
     printf("%-36s %12s %12s %8s\n", "2,000 seats, 16,384 pieces: ns a call", "ours", "plain C", "ratio");
     for (int k = 0; k < TURNS; k++) {
@@ -264,6 +339,18 @@ int main(void) {
     same("the tables after haves differ, so the comparison");
     row("have", a, b);
     for (int k = 0; k < TURNS; k++) {
+        /* a whole block, from each seat by turns */
+        t = now();
+        for (size_t i = 0; i < SEATS; i++) must(wardrail_yard_feed(OURS, i, piece, sizeof piece, &told), "piece");
+        a[k] = (now() - t) / SEATS;
+        t = now();
+        for (size_t i = 0; i < SEATS; i++) must(plain_feed(THEIRS, i, piece, sizeof piece, &told2), "plain piece");
+        b[k] = (now() - t) / SEATS;
+        if (memcmp(&told, &told2, sizeof told)) must(1, "what is told of a piece differs, so the comparison");
+    }
+    same("the tables after pieces differ, so the comparison");
+    row("piece frame", a, b);
+    for (int k = 0; k < TURNS; k++) {
         /* a page of every seat */
         t = now();
         for (int i = 0; i < 50; i++) must(wardrail_yard_missing(OURS, 0, page, SEATS, &told), "missing");
@@ -274,6 +361,24 @@ int main(void) {
         if (memcmp(&told, &told2, sizeof told) || memcmp(page, page2, sizeof page)) must(1, "the pages differ, so the comparison");
     }
     row("page of 2,000 seats", a, b);
+    for (size_t i = 0; i < SEATS; i++) ours.seats[i].peer_interested = theirs.seats[i].peer_interested = 1;
+    for (int k = 0; k < TURNS; k++) {
+        /* every truck is interested, and has sent anew */
+        double ta = 0, tb = 0;
+        for (int i = 0; i < 50; i++) {
+            sent(1u << 30);
+            t = now();
+            must(wardrail_yard_round(OURS, &told), "round");
+            ta += now() - t;
+            t = now();
+            must(plain_round(THEIRS, &told2), "plain round");
+            tb += now() - t;
+            if (memcmp(&told, &told2, sizeof told)) must(1, "what is told of a round differs, so the comparison");
+        }
+        a[k] = ta / 50, b[k] = tb / 50;
+        same("the tables after rounds differ, so the comparison");
+    }
+    row("round of 2,000 seats", a, b);
     for (int k = 0; k < TURNS; k++) {
         /* 50 trucks come anew, say that they have all, and leave */
         double ta = 0, tb = 0, tc = 0, td = 0;

@@ -7,7 +7,9 @@
 #include <stdio.h>
 #include <string.h>
 
-enum { SEATS = 2, PIECES = 10, WIDTH = 2, ROWS = SEATS * WIDTH };
+enum { SEATS = 8, PIECES = 10, WIDTH = 2, ROWS = SEATS * WIDTH };
+/* the most bytes that a seat counts */
+static const uint64_t MOST_SENT = 1ull << 53;
 
 struct yard {
     struct wardrail_head head;
@@ -38,6 +40,13 @@ static uint64_t bitfield(struct yard *y, size_t seat, uint8_t first, uint8_t las
 
 static uint64_t sit(struct yard *y) { return wardrail_yard_sit(TABLES(y), &told); }
 static uint64_t leave(struct yard *y, size_t seat) { return wardrail_yard_leave(TABLES(y), seat); }
+static uint64_t next_round(struct yard *y) { return wardrail_yard_round(TABLES(y), &told); }
+
+/* A block of one byte. */
+static uint64_t piece(struct yard *y, size_t seat) {
+    const uint8_t frame[14] = {0, 0, 0, 10, 7};
+    return feed(y, seat, frame, sizeof frame);
+}
 
 /* A yard of ten pieces: the truck of seat 0 has all of them, that of seat 1 has said nothing. */
 static struct yard sound(void) {
@@ -120,6 +129,43 @@ static void spares(void) {
     says("a seat that was not clear is cleared", sit(&y) == 0 && told.seat == 1 && y.rows[WIDTH] == 0 && y.seats[1].held == 0 && y.holders[0] == 1);
 }
 
+/* Bytes at their top, and what a round finds in the head and the seats. */
+static void rounds(void) {
+    struct yard y = sound(), was;
+    y.seats[1].bytes = MOST_SENT - 1;
+    says("a piece, bytes come to their top", piece(&y, 1) == 0 && y.seats[1].bytes == MOST_SENT && !y.seats[1].fresh);
+    REFUSES("a piece, bytes at their top", y, 39, piece(&y, 1));
+    y.seats[1].bytes = MOST_SENT + 1;
+    REFUSES("a piece, bytes past their top", y, 39, piece(&y, 1));
+    y.seats[1].bytes = UINT64_MAX;
+    REFUSES("a piece, bytes as high as can be", y, 39, piece(&y, 1));
+    says("a have asks nothing of bytes", have(&y, 1, 3) == 0 && y.seats[1].bytes == UINT64_MAX);
+    says("a round takes any bytes", next_round(&y) == 0 && told.unchoked == 0 && y.seats[1].bytes == 0 && y.head.round == 1);
+    y = sound(), y.head.round = 3;
+    REFUSES("round number 3", y, 39, next_round(&y));
+    y.head.round = UINT32_MAX;
+    REFUSES("round number as high as can be", y, 39, next_round(&y));
+    y = sound(), y.head.free = SEATS;
+    REFUSES("a free place past the seats", y, 39, next_round(&y));
+    y.head.free = WARDRAIL_NOBODY - 1;
+    REFUSES("a free place before nobody", y, 39, next_round(&y));
+    says("a sit asks nothing of the free place", sit(&y) == 0 && told.seat == 2 && y.head.free == WARDRAIL_NOBODY - 1);
+    y = sound(), y.head.last = SEATS;
+    REFUSES("a last place past the seats", y, 39, next_round(&y));
+    y.head.last = WARDRAIL_NOBODY;
+    REFUSES("a last place that is nobody", y, 39, next_round(&y));
+    says("a leave asks nothing of the last place", leave(&y, 1) == 0 && y.head.last == WARDRAIL_NOBODY);
+    /* seat 5 is free: it keeps the free place and its record, and nobody is unchoked there */
+    y = sound(), y.head.round = 1, y.head.free = 5;
+    y.seats[5] = (struct wardrail_seat){0, 9, 8, 7, 6, 5, 4, 3};
+    was = y, was.head.round = 2;
+    says("a free place that names a free seat", next_round(&y) == 0 && told.unchoked == 0 && !memcmp(&y, &was, sizeof y));
+    /* flags that are neither 0 nor 1 are on; a round writes 0 and 1 */
+    y = sound(), y.seats[0].taken = 200, y.seats[0].peer_interested = 7, y.seats[0].am_choking = 9, y.seats[1].am_choking = 9;
+    was = y, was.head.round = 1, was.head.free = was.head.last = 0, was.seats[0].am_choking = 0, was.seats[1].am_choking = 1;
+    says("a round and other flags than 0 and 1", next_round(&y) == 0 && told.unchoked == 1 && !memcmp(&y, &was, sizeof y));
+}
+
 /* Every call refuses sizes that do not fit. */
 static void unfit(const char *what, struct yard y) {
     uint8_t frame[5] = {1, 2, 3, 4, 5};
@@ -130,6 +176,7 @@ static void unfit(const char *what, struct yard y) {
     REFUSES(what, y, 38, have(&y, 1, 3));
     REFUSES(what, y, 38, wardrail_yard_choke(TABLES(&y), 0, false, frame, 5));
     REFUSES(what, y, 38, wardrail_yard_interest(TABLES(&y), 0, true, frame, 5));
+    REFUSES(what, y, 38, next_round(&y));
     REFUSES(what, y, 38, wardrail_yard_missing(TABLES(&y), 0, page, 2, &told));
     REFUSES(what, y, 38, wardrail_yard_scarcest(TABLES(&y), &told));
     REFUSES(what, y, 38, wardrail_yard_look(TABLES(&y), 0, &seen));
@@ -159,10 +206,10 @@ static void sizes(void) {
     REFUSES("start, other pieces than counts", y, 38, wardrail_yard_start(TABLES(&y), PIECES + 1, 16384, 1));
 }
 
-/* A start asks nothing of what stands in the tables: it makes zeros of everything but the sizes, and leaves what lies past them. */
+/* A start asks nothing of what stands in the tables: it makes zeros of everything but the sizes and the free place, and leaves what lies past them. */
 static void started(struct yard y) {
     struct yard zeroed = y;
-    zeroed.head = (struct wardrail_head){PIECES, 16384, 100, 0, 0};
+    zeroed.head = (struct wardrail_head){PIECES, 16384, 100, 0, 0, 0, WARDRAIL_NOBODY, SEATS - 1};
     memset(zeroed.seats, 0, sizeof(struct wardrail_seat) * SEATS);
     memset(zeroed.rows, 0, ROWS);
     memset(zeroed.holders, 0, sizeof(uint16_t) * PIECES);
@@ -179,7 +226,7 @@ static uint64_t sits(struct yard *y, uint64_t *seat) {
     if (i == SEATS) return 35;
     if (y->head.taken >= SEATS) return 39;
     y->head.taken++;
-    y->seats[i] = (struct wardrail_seat){1, 1, 1, 0, 1, 0, 0};
+    y->seats[i] = (struct wardrail_seat){1, 1, 1, 0, 1, 0, 0, 0};
     memset(y->rows + i * WIDTH, 0, WIDTH);
     *seat = i;
     return 0;
@@ -195,7 +242,8 @@ static uint64_t leaves(struct yard *y, size_t seat) {
     memset(y->rows + seat * WIDTH, 0, WIDTH);
     y->head.taken--;
     if (s->held == PIECES) y->head.complete--;
-    *s = (struct wardrail_seat){0, 0, 0, 0, 0, 0, 0};
+    if (y->head.free == seat) y->head.free = WARDRAIL_NOBODY;
+    *s = (struct wardrail_seat){0, 0, 0, 0, 0, 0, 0, 0};
     return 0;
 }
 
@@ -217,7 +265,44 @@ static uint64_t announces(struct yard *y, size_t seat, const uint8_t *said) {
     return 0;
 }
 
-/* A keepalive, a mark, a have, a bitfield of the right length, a request for a byte of piece 0, or a frame of an id that says nothing. */
+static bool wants(const struct yard *y, size_t seat) { return y->seats[seat].taken && y->seats[seat].peer_interested; }
+
+/* Going round the seats from the one after `last`, the free place comes to the first that is interested. */
+static uint32_t next_free(const struct yard *y) {
+    for (uint32_t k = 1; k <= SEATS; k++)
+        if (wants(y, (y->head.last + k) % SEATS)) return (y->head.last + k) % SEATS;
+    return WARDRAIL_NOBODY;
+}
+
+/* How many come before a seat: they are interested, and sent more bytes, or as many and sit lower. */
+static int before(const struct yard *y, size_t seat) {
+    int count = 0;
+    for (size_t i = 0; i < SEATS; i++) {
+        uint64_t theirs = y->seats[i].bytes, its = y->seats[seat].bytes;
+        count += wants(y, i) && (theirs > its || (theirs == its && i < seat));
+    }
+    return count;
+}
+
+static uint64_t turns(struct yard *y, uint64_t *unchoked) {
+    struct wardrail_head *h = &y->head;
+    const struct yard was = *y;
+    if (h->round > 2 || (h->free >= SEATS && h->free != WARDRAIL_NOBODY) || h->last >= SEATS) return 39;
+    if (h->round == 0) h->free = next_free(&was);
+    if (h->round == 0 && h->free != WARDRAIL_NOBODY) h->last = h->free;
+    h->round = (h->round + 1) % 3;
+    *unchoked = 0;
+    for (size_t i = 0; i < SEATS; i++) {
+        if (!was.seats[i].taken) continue;
+        bool served = i == h->free || (wants(&was, i) && before(&was, i) < 4);
+        y->seats[i].bytes = 0, y->seats[i].am_choking = !served;
+        *unchoked += served;
+    }
+    return 0;
+}
+
+/* A keepalive, a mark, a have, a bitfield of the right length, a request for a byte of piece 0, a piece's block of some bytes, or a frame of an id
+ * that says nothing. */
 static uint64_t hears(struct yard *y, size_t seat, const uint8_t *frame, uint64_t *request) {
     struct wardrail_seat *s = &y->seats[seat];
     uint8_t id = frame[4], one[WIDTH] = {0};
@@ -236,6 +321,13 @@ static uint64_t hears(struct yard *y, size_t seat, const uint8_t *frame, uint64_
         if (frame[6] & 0x3f) return 33;
         bad = announces(y, seat, frame + 5);
     } else if (id == 6) *request = !s->am_choking && s->peer_interested ? WARDRAIL_REQUEST_SERVE : WARDRAIL_REQUEST_DROP;
+    else if (id == 7) {
+        uint64_t count = frame[3] - 9u;
+        if (frame[8] >= PIECES) return 31;
+        if (frame[12] + count > (frame[8] == PIECES - 1 ? y->head.last_length : y->head.piece_length)) return 34;
+        if (s->bytes > MOST_SENT || s->bytes + count > MOST_SENT) return 39;
+        s->bytes += count;
+    }
     if (!bad) s->fresh = 0;
     return bad;
 }
@@ -265,7 +357,12 @@ static struct yard fitting(void) {
         for (size_t k = 0; k < 6; k++) flags[k] = (uint8_t)(any() % 4 ? any() % 3 : any());
         memcpy(&y.seats[i], flags, sizeof flags);
         if (any() % 4) y.seats[i].held = (uint16_t)(any() % (PIECES + 2));
+        const uint64_t bytes[] = {0, 1, 2, 16384, MOST_SENT - 1, MOST_SENT, MOST_SENT + 1, UINT64_MAX};
+        if (any() % 8) y.seats[i].bytes = bytes[any() % (any() % 2 ? 4 : 8)];
     }
+    if (any() % 16) y.head.round = any() % (any() % 8 ? 3 : 4);
+    if (any() % 16) y.head.free = any() % 2 ? WARDRAIL_NOBODY : any() % (SEATS + any() % 8 / 7);
+    if (any() % 16) y.head.last = any() % (SEATS + any() % 8 / 7);
     if (any() % 4) y.head.taken = any() % (SEATS + 2);
     if (any() % 4) y.head.complete = any() % (SEATS + 2);
     for (size_t p = 0; p < PIECES; p++)
@@ -279,8 +376,8 @@ static void same(const char *what, const struct yard *y, const struct yard *want
 
 static void any_seating(struct yard *y) {
     struct yard want = *y;
-    uint64_t seat = 7, wanted = sits(&want, &seat);
-    told.seat = 7;
+    uint64_t seat = SEATS, wanted = sits(&want, &seat);
+    told.seat = SEATS;
     same("any bytes: sit", y, &want, sit(y) == wanted && told.seat == seat);
     seat = any() % SEATS, wanted = leaves(&want, seat);
     same("any bytes: leave", y, &want, leave(y, seat) == wanted);
@@ -299,16 +396,24 @@ static void any_mark(struct yard *y) {
 
 static void any_frame(struct yard *y) {
     struct yard want = *y;
-    uint8_t frame[17] = {0, 0, 0, 1, (uint8_t)(any() % 9)};
+    uint8_t frame[17] = {0, 0, 0, 1, (uint8_t)(any() % 10)};
     size_t seat = any() % SEATS, count = 5;
     uint64_t request, wanted;
     if (frame[4] == 4) frame[3] = 5, count = 9, frame[8] = (uint8_t)(any() % (PIECES + 1));
     if (frame[4] == 5) frame[3] = 3, count = 7, frame[5] = (uint8_t)any(), frame[6] = (uint8_t)(any() & (any() % 4 ? 0xc0 : 0xff));
     if (frame[4] == 6) frame[3] = 13, count = 17, frame[16] = 1;
-    if (frame[4] == 7) frame[4] = 20;
+    if (frame[4] == 7) frame[3] = (uint8_t)(10 + any() % 4), count = 4 + frame[3], frame[8] = (uint8_t)(any() % (PIECES + 1)), frame[12] = (uint8_t)(any() % 2 * 98);
     if (frame[4] == 8) frame[4] = frame[3] = 0, count = 4;
+    if (frame[4] == 9) frame[4] = 20;
     wanted = hears(&want, seat, frame, &request);
     same("any bytes: feed", y, &want, feed(y, seat, frame, count) == wanted && (wanted || (told.used == count && told.request == request)));
+}
+
+static void any_round(struct yard *y) {
+    struct yard want = *y;
+    uint64_t unchoked = SEATS + 1, wanted = turns(&want, &unchoked);
+    told.unchoked = SEATS + 1;
+    same("any bytes: round", y, &want, next_round(y) == wanted && told.unchoked == unchoked);
 }
 
 static void any_look(struct yard *y) {
@@ -333,7 +438,7 @@ static void any_bytes(void) {
         unfit("any bytes, the head's too", y);
         started(y);
         y = fitting();
-        for (int call = 0; call < 5; call++) any_seating(&y), any_frame(&y), any_mark(&y), any_frame(&y), any_look(&y);
+        for (int call = 0; call < 5; call++) any_seating(&y), any_frame(&y), any_mark(&y), any_frame(&y), any_look(&y), any_round(&y);
     }
 }
 
@@ -903,6 +1008,7 @@ int main(void) {
     tops();
     zeros();
     spares();
+    rounds();
     sizes();
     printf("%d calls on damaged tables, at any place, by two texts, of links and of weeks, %d wrong\n", tried, wrong);
     return wrong != 0;

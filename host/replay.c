@@ -948,7 +948,30 @@ static void missing_call(struct line *l) {
     free(page);
 }
 
-static void head_call(struct line *l) { printf("%" PRIu32 " %" PRIu32, l->yard->head.taken, l->yard->head.complete); }
+static void free_place(const struct yard *y) {
+    if (y->head.free == WARDRAIL_NOBODY) printf("nobody");
+    else printf("%" PRIu32, y->head.free);
+}
+
+/* How many trucks it unchokes is how many have no mark of ours after it. */
+static void round_call(struct line *l) {
+    struct yard *y = l->yard;
+    struct wardrail_told told = {0};
+    uint64_t r = wardrail_yard_round(TABLES(y), &told), unchoked = 0;
+    value(r, "unchoked ", told);
+    if (r) return;
+    for (size_t i = 0; i < y->seats_count; i++) unchoked += y->seats[i].taken && !y->seats[i].am_choking;
+    agree(unchoked == told.unchoked, "unchoked");
+    printf(" free ");
+    free_place(y);
+}
+
+static void head_call(struct line *l) {
+    const struct wardrail_head *h = &l->yard->head;
+    printf("%" PRIu32 " %" PRIu32 " %" PRIu32 " ", h->taken, h->complete, h->round);
+    free_place(l->yard);
+    printf(" %" PRIu32, h->last);
+}
 
 static void seat_call(struct line *l) {
     struct yard *y = l->yard;
@@ -966,7 +989,7 @@ static void seat_call(struct line *l) {
     agree(r ? past == r : past == WARDRAIL_BEYOND && held == s.held, "has");
     if (r) refused(r);
     else if (!s.taken) printf("free");
-    else printf("%s %u %d %d %d %d", s.fresh ? "fresh" : "used", (unsigned)s.held, s.am_choking, s.am_interested, s.peer_choking, s.peer_interested);
+    else printf("%s %u %d %d %d %d " N, s.fresh ? "fresh" : "used", (unsigned)s.held, s.am_choking, s.am_interested, s.peer_choking, s.peer_interested, s.bytes);
 }
 
 /* ---- a script */
@@ -1014,6 +1037,7 @@ static const struct call {
     {"feed", 3, BYTES(2), true, feed_call},
     {"choke", 4, 0, true, choke_call},
     {"interest", 4, 0, true, interest_call},
+    {"round", 1, 0, true, round_call},
     {"missing", 3, 0, true, missing_call},
     {"scarcest", 1, 0, true, scarcest_call},
     {"head", 1, 0, true, head_call},

@@ -1,15 +1,17 @@
-"""A yard that listens to stock clients on loopback: seeders that are loaded, and a leecher that comes to be."""
+"""A yard that listens to stock clients on loopback: seeders that are loaded, a leecher that comes to be, and leechers that are served by rounds."""
 
 import json
 import os
 import random
+import select
+import shutil
 import socket
 import struct
 import subprocess
 import threading
 import time
 from collections import Counter
-from contextlib import contextmanager
+from contextlib import ExitStack, contextmanager
 from http.server import BaseHTTPRequestHandler, ThreadingHTTPServer
 
 import libtorrent
@@ -115,17 +117,18 @@ def free_port():
 
 
 class Truck:
-    """A connection to a client, and the seat it has in a yard of its own. Some keepalives are put before the client's frames."""
+    """A connection to a client, and the seat it has in a yard that the first one starts. Some keepalives are put before the client's frames."""
 
-    def __init__(self, replay, package, port, cuts, until, keepalives=0):
-        self.replay, self.cuts, self.until = replay, cuts, until
+    def __init__(self, replay, package, port, cuts, until, keepalives=0, seat=0, seats=SEATS):
+        self.replay, self.cuts, self.until, self.seat = replay, cuts, until, seat
         self.unused, self.fed, self.waits = b"", 0, 0
         self.heard, self.last, self.to_serve = [], {}, []
         self.socket = connected(port, until)
         self.send("write-handshake", package.info_hash, PEER_ID, 68)
         after = self.shake(package.info_hash)
-        same("start", replay.ask("start", package.pieces, PIECE_LENGTH, package.last, SEATS), "started")
-        same("sit", replay.ask("sit"), "seat 0")
+        if seat == 0:
+            same("start", replay.ask("start", package.pieces, PIECE_LENGTH, package.last, seats), "started")
+        same("sit", replay.ask("sit"), f"seat {seat}")
         self.take(bytes(4 * keepalives) + after)
 
     def send(self, *words):
@@ -175,7 +178,7 @@ class Truck:
         self.unused += came
         self.fed += len(came)
         while self.unused:
-            answer = self.replay.ask("feed", 0, self.unused)
+            answer = self.replay.ask("feed", self.seat, self.unused)
             if answer == "wait":
                 self.waits += 1
                 return
@@ -189,7 +192,7 @@ class Truck:
                 self.to_serve.append(frame)
 
     def is_loaded(self):
-        return self.replay.ask("head") == "1 1"
+        return self.replay.ask("head").split()[:2] == ["1", "1"]
 
     def says(self):
         """Who it is, and how many frames of each id came."""
@@ -202,11 +205,11 @@ class Truck:
         self.socket.close()
 
 
-def boarded(replay, package, port, cuts, until, keepalives=0):
+def boarded(replay, package, port, cuts, until, keepalives=0, **seat):
     """A truck, once the client knows the torrent: while it looks through its files it hangs up on those who ask for it."""
     while True:
         try:
-            return Truck(replay, package, port, cuts, until, keepalives)
+            return Truck(replay, package, port, cuts, until, keepalives, **seat)
         except HungUp:
             if time.monotonic() > until:
                 raise
@@ -232,7 +235,7 @@ def ends(came, cuts):
 
 
 def check_loaded(replay, package):
-    same("head", replay.ask("head"), "1 1")
+    same("head", replay.ask("head"), f"1 1 0 nobody {SEATS - 1}")
     same("missing", replay.ask("missing", 0, 4), f"- of 0 next {SEATS}")
     same("seat", replay.ask("seat", 0).split()[:2], ["used", str(package.pieces)])
     for piece in (0, package.pieces - 1):
@@ -349,11 +352,15 @@ def taker(replay, where, client, pieces, until):
             while len(given) < pieces - package.begun_pieces:
                 truck.listen()
                 given.update(serve(truck, package))
-            while (package.begun / "live.bin").read_bytes() != package.data:
-                if time.monotonic() > until:
-                    raise Differs(f"{client.__name__} has not stored what it got")
-                time.sleep(0.1)
+            wait_stored(package, package.begun, client, until)
     return truck
+
+
+def wait_stored(package, where, client, until):
+    while (where / "live.bin").read_bytes() != package.data:
+        if time.monotonic() > until:
+            raise Differs(f"{client.__name__} has not stored what it got")
+        time.sleep(0.1)
 
 
 def all_of(pieces):
@@ -362,16 +369,156 @@ def all_of(pieces):
     return ((1 << pieces) - 1 << spare).to_bytes((pieces + spare) // 8, "big")
 
 
-def serve(truck, package):
-    """Sends what the yard has said to serve, and tells which pieces that was; a request is for one whole piece, of one block."""
+def serve(truck, package, most=None):
+    """Sends what the yard has said to serve, or the first of it, and tells which pieces that was; a request is for one whole piece, of one block."""
     given = []
-    for request in truck.to_serve:
+    for request in truck.to_serve[:most]:
         piece, begin, length = struct.unpack(">III", unhexed(truck.replay.ask("frame", request).split()[3]))
         at = piece * PIECE_LENGTH + begin
         truck.send("write-frame", PIECE, struct.pack(">II", piece, begin) + package.data[at : at + length], MOST_ROOM)
         given.append(piece)
-    truck.to_serve.clear()
+    del truck.to_serve[:most]
     return given
+
+
+# ---- rounds
+
+LEECHERS = [rasterbar, aria2, rasterbar, rasterbar, transmission, rasterbar, rasterbar]
+# whom the first round finds interested: the free place goes on from there, past the four
+FIRST = 3
+# in so many rounds each truck that is not choked gets one block, and the free place comes to the seats after the four; then it gets all
+SHORT_ROUNDS = 12
+
+
+def rounds(replay, folder):
+    """Seven clients with most pieces at one yard, which get the others from us as rounds unchoke them."""
+    return played(taking_turns, replay, folder / "rounds", None, 801).says()
+
+
+def taking_turns(replay, where, _, pieces, until):
+    package = Package(replay, where, ANNOUNCE, pieces)
+    with ExitStack() as stack:
+        ports = []
+        for seat, client in enumerate(LEECHERS):
+            shutil.copytree(package.begun, where / str(seat))
+            ports.append(free_port())
+            stack.enter_context(client(package, where / str(seat), ports[seat]))
+        trucks = [stack.enter_context(boarded(replay, package, port, random.Random(seat), until, seat=seat, seats=len(LEECHERS)))
+                  for seat, port in enumerate(ports)]
+        board = Board(replay, package, where, trucks, until)
+        board.hear_until(lambda: all(BITFIELD in truck.heard for truck in trucks))
+        board.rouse([FIRST])
+        board.turn(1)
+        board.rouse(seat for seat in range(len(LEECHERS)) if seat != FIRST)
+        while board.served < len(LEECHERS):
+            board.hear_until(lambda: any(map(board.wants, board.trucks)))
+            board.turn(1 if len(board.unchoked) < SHORT_ROUNDS else None)
+        for seat, client in enumerate(LEECHERS):
+            wait_stored(package, where / str(seat), client, until)
+    return board
+
+
+class Board:
+    """The trucks of one yard, and what each has got from us."""
+
+    def __init__(self, replay, package, where, trucks, until):
+        self.replay, self.package, self.where, self.until = replay, package, where, until
+        self.trucks = dict(enumerate(trucks))
+        self.given = {seat: set() for seat in self.trucks}
+        self.lacking = package.pieces - package.begun_pieces
+        self.free, self.last, self.unchoked = None, len(trucks) - 1, []
+
+    @property
+    def served(self):
+        """How many have got all that they lacked."""
+        return sum(len(given) == self.lacking for given in self.given.values())
+
+    def rouse(self, seats):
+        """Tells these that we have every piece, and hears that they are interested."""
+        for seat in seats:
+            self.trucks[seat].send("write-frame", BITFIELD, all_of(self.package.pieces), MOST_ROOM)
+            self.hear_until(lambda: self.wants(seat))
+
+    def turn(self, most):
+        """A round, as the rules have it for trucks that send no blocks; those that it unchokes get as many as this of the blocks they ask for."""
+        wanting = [seat for seat in self.trucks if self.wants(seat)]
+        if len(self.unchoked) % 3 == 0:
+            self.free = min(wanting, key=lambda seat: (seat - self.last - 1) % len(self.given), default=None)
+            self.last = self.last if self.free is None else self.free
+        unchoked = sorted({*wanting[:4], self.free} & self.trucks.keys())
+        were = [seat for seat in self.trucks if not self.chokes(seat)]
+        same("round", self.replay.ask("round"), f"unchoked {len(unchoked)} free {'nobody' if self.free is None else self.free}")
+        same("who is unchoked", [seat for seat in self.trucks if not self.chokes(seat)], unchoked)
+        self.unchoked.append(unchoked)
+        for seat in sorted({*were} ^ {*unchoked}):
+            if seat in were:
+                # who chokes drops what was asked before
+                self.trucks[seat].to_serve.clear()
+            with self.leaving(seat):
+                self.trucks[seat].send("choke", seat, int(seat in were), 5)
+        for seat in unchoked:
+            if seat in self.trucks:
+                self.give(seat, most)
+        self.check_choked()
+
+    def give(self, seat, most):
+        truck, given = self.trucks[seat], self.given[seat]
+        blocks = self.lacking - len(given) if most is None else min(most, self.lacking - len(given))
+        for _ in range(blocks):
+            self.hear_until(lambda: truck.to_serve or not self.wants(seat))
+            given.update(serve(truck, self.package, 1))
+        if len(given) == self.lacking:
+            # it has got all, and says so or hangs up, since we have all too
+            self.hear_until(lambda: seat not in self.trucks or not self.wants(seat))
+
+    def check_choked(self):
+        """Those that are choked have nothing to be served, and no more than they got before; who was never unchoked has what it came with."""
+        for seat, truck in self.trucks.items():
+            same(f"bytes of seat {seat}, which sends no blocks", self.look(seat)[6], "0")
+            held = int(self.look(seat)[1]) - self.package.begun_pieces
+            same(f"seat {seat} holds no more than it got", held <= len(self.given[seat]), True)
+            if seat not in self.unchoked[-1]:
+                same(f"what is to be served to seat {seat}, choked", truck.to_serve, [])
+            if not any(seat in unchoked for unchoked in self.unchoked):
+                kept = (self.where / str(seat) / "live.bin").read_bytes()
+                same(f"seat {seat}, never unchoked", kept == (self.package.begun / "live.bin").read_bytes() and not self.given[seat], True)
+
+    def hear_until(self, done):
+        """Hears whoever says something, in parts, until it is done."""
+        while not done():
+            ready = select.select([truck.socket for truck in self.trucks.values()], [], [], max(0.01, self.until - time.monotonic()))[0]
+            if not ready:
+                raise Differs(f"not done in {SECONDS} seconds; {self.says()}")
+            for seat, truck in list(self.trucks.items()):
+                if truck.socket in ready:
+                    with self.leaving(seat):
+                        truck.listen()
+
+    @contextmanager
+    def leaving(self, seat):
+        """A truck that has got all may hang up."""
+        try:
+            yield
+        except HungUp:
+            if len(self.given[seat]) < self.lacking:
+                raise
+            same("leave", self.replay.ask("leave", seat), "left")
+            del self.trucks[seat]
+            self.free = None if self.free == seat else self.free
+
+    def look(self, seat):
+        return self.replay.ask("seat", seat).split()
+
+    def chokes(self, seat):
+        return self.look(seat)[2] == "1"
+
+    def wants(self, seat):
+        return self.look(seat)[5] == "1"
+
+    def says(self):
+        """Which seats each round unchoked."""
+        turns = " ".join("".join(map(str, unchoked)) or "-" for unchoked in self.unchoked)
+        return f"{len(self.given)} leechers served by {len(self.unchoked)} rounds, which unchoked the seats {turns}"
 
 
 @contextmanager
