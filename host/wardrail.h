@@ -79,7 +79,7 @@ enum wardrail_refusal {
     WARDRAIL_SEAT = 36,     /* a seat number too large, or the seat free */
     WARDRAIL_ROOM = 37,     /* lent output too short */
     WARDRAIL_SIZES = 38,    /* yard sizes don't fit */
-    WARDRAIL_DAMAGED = 39   /* a count would pass its top, or fall below 0 */
+    WARDRAIL_DAMAGED = 39   /* a count would pass its top or fall below 0, or a round finds no seat where one must be */
 };
 
 /* ---- Bencode */

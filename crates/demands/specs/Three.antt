@@ -321,5 +321,9 @@ module _ (lent : Yard) (h : History) (y : Yard) (made : Made lent h y) where
     free-next = after-round.free-next fixed h y agrees then left
 
     -- "On the other rounds its holder keeps it"
-    pub free-kept : (roundNumber h ≡ 0 → ⊥) → free ≡ freePlace fixed h
-    free-kept = after-round.free-kept fixed h y agrees then left
+    pub free-kept : (roundNumber h ≡ 0 → ⊥) → (free ≡ freePlace fixed h) × (after (t .head) .last ≡ lastPlace fixed h)
+    free-kept f = (after-round.free-kept fixed h y agrees then left f, after-round.last-stays fixed h y agrees then left f)
+
+    -- where it then last was: "`last` stays" if it goes to nobody, "else `last` becomes it"
+    pub last-follows : roundNumber h ≡ 0 → ((free ≡ nobody) × (after (t .head) .last ≡ lastPlace fixed h)) ⊎ ((free < seats) × (after (t .head) .last ≡ free))
+    last-follows = after-round.last-follows fixed h y agrees then left

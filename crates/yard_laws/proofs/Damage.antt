@@ -51,7 +51,7 @@ skip b x z e = rw e
 
 -- ---- tests over all numbers below one
 
-some-has : (f : ℕ → Bool) (n k : ℕ) → k < n → f k ≡ true → some n f ≡ true
+pub some-has : (f : ℕ → Bool) (n k : ℕ) → k < n → f k ≡ true → some n f ≡ true
 some-has f n k l e = by-bool (some n f) (λ t. t) (λ t. cannot (f k) (some-every f n t k l) e)
 
 count-one : (f : ℕ → Bool) (n : ℕ) → 0 < countOf-all n f → (k : ℕ) × (k < n) × (f k ≡ true)

@@ -199,6 +199,11 @@ pub free-after : (fixed : Fixed) (h : History) (k : ℕ) (w : List ℕ) → free
 unfolding event
 free-after fixed h k w = refl
 
+-- and it last was where a round makes it have been
+pub last-after : (fixed : Fixed) (h : History) (k : ℕ) (w : List ℕ) → lastPlace fixed (rounded h k w) ≡ lastThen (fixed .seats) (wanting h) (roundNumber h) (lastPlace fixed h)
+unfolding phase
+last-after fixed h k w = refl
+
 -- ---- whom a round unchokes
 
 -- at most one number is k
