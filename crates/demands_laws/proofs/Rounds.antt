@@ -1,5 +1,5 @@
 -- What a round leaves of the tables, from the history before it. Assumes nothing.
-use mathlib.Core.Path.{_≡_, sym, ap, ap₂, _∙_, subst}
+use mathlib.Core.Path.{_≡_, sym, ap, _∙_, subst}
 use mathlib.Core.Logic.{_⊎_, inl, inr}
 use mathlib.Core.Bool.{Bool, true, false, not, _&&_, _||_}
 use mathlib.Core.List.{[]}
@@ -7,10 +7,9 @@ use Prim.Native.Nat.{ℕ, _≤_, _<_}
 use borrow.Author.Tests.{eq-eqb, ne-eqb}
 use lib.Dec.{eqb}
 use lib.ListN.{getD}
-use Rattle.refusal.specs.Paper.{taken}
 use Rattle.yard_tables.specs.Counting.{bit, count}
 use Rattle.yard_tables.specs.Seats.{on, cleared}
-use Rattle.yard_tables.specs.Tables.{Yard, unchoked}
+use Rattle.yard_tables.specs.Tables.{Yard}
 use Rattle.yard_tables.specs.Rounds.{nobody, way, lastThen, chosen}
 use Rattle.yard_tables.specs.Step.{round, step}
 use Rattle.yard_tables.specs.declared.Head.{Head}

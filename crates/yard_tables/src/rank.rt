@@ -44,13 +44,13 @@ pub fn unranked() -> Ranking
 }
 
 // One seat more, number i.
-pub fn rank_step(r: Ranking, s: Seat, i: usize, h: Head) -> Ranking
-    ensures { λ t. ⌜ t ≡ rankStep (h .last) r s i ⌝ }
+pub fn rank_step(best: Ranking, s: Seat, i: usize, h: Head) -> Ranking
+    ensures { λ r. ⌜ r ≡ rankStep (h .last) best s i ⌝ }
 {
     if wants(s) {
-        return insert(note(r, i, h), standing(i, s));
+        return insert(note(best, i, h), standing(i, s));
     }
-    r
+    best
 }
 
 // A truck sits there, and is interested.

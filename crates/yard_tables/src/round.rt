@@ -46,21 +46,21 @@ pub fn misplaced(h: Head, n: usize) -> bool
 }
 
 // Whose the free place is after a round: on round number 0 the next seat's, else its holder's.
-pub fn free_place(h: Head, r: Ranking) -> usize
-    ensures { λ f. ⌜ f ≡ freeOf h r ⌝ }
+pub fn free_place(h: Head, best: Ranking) -> usize
+    ensures { λ r. ⌜ r ≡ freeOf h best ⌝ }
 {
     if 0 < h.round {
         return wide(h.free);
     }
-    if r.next == NOBODY {
-        return r.lowest;
+    if best.next == NOBODY {
+        return best.lowest;
     }
-    r.next
+    best.next
 }
 
 // A round, unless there is a fault: `free` has the free place then, and `holder` is that seat.
-pub fn turn(h: Head, fault: u8, r: Ranking, free: usize, holder: Seat) -> Turned
-    ensures { λ t. ⌜ t ≡ turned h fault r free holder ⌝ }
+pub fn turn(h: Head, fault: u8, best: Ranking, free: usize, holder: Seat) -> Turned
+    ensures { λ r. ⌜ r ≡ turned h fault best free holder ⌝ }
 {
     if fault != 0 {
         return Turned {
@@ -69,7 +69,7 @@ pub fn turn(h: Head, fault: u8, r: Ranking, free: usize, holder: Seat) -> Turned
             answer: Answer::Refused(refusal::refuse(fault, 0)),
         };
     }
-    let marks = marks_of(r, free);
+    let marks = marks_of(best, free);
     Turned {
         head: turned_head(h, free),
         marks,

@@ -9,7 +9,7 @@ use Rattle.yard_tables.specs.Counting.{bit}
 use Rattle.yard_tables.specs.Frames.{blockFits, requested}
 use Rattle.yard_tables.specs.Replies.{stepped, refusing, blockStep, pieceStep, headAtZero}
 use Rattle.yard_tables.specs.Rounds.{misplaced}
-use Rattle.yard_tables.specs.Ranks.{unranked, rankStep, freeOf, turned, markStep}
+use Rattle.yard_tables.specs.Ranks.{unranked, rankStep, freeOf, turned, chokeStep, unchokeStep}
 use Rattle.yard_tables.specs.Rows.{digit}
 use Rattle.yard_tables.specs.Seating.{givenUp}
 use Rattle.yard_tables.specs.Seats.{on, cleared, arrived, spoken, theyChoke, theyWant}
@@ -18,7 +18,6 @@ use Rattle.yard_tables.specs.declared.Answer.{Answer}
 use Rattle.yard_tables.specs.declared.Head.{Head}
 use Rattle.yard_tables.specs.declared.Seat.{Seat}
 use Rattle.yard_tables.specs.declared.rank.Ranking.{Ranking}
-use Rattle.yard_tables.specs.declared.round.Marks.{Marks}
 use Rattle.yard_tables.specs.declared.round.Turned.{Turned}
 use Rattle.yard_tables.specs.declared.Stepped.{Stepped}
 use Rattle.yard_tables.proofs.Telling.{paper-tells}
@@ -116,11 +115,11 @@ pub unranked-determined : Determined unranked-ensures
 unranked-determined r r′ e f = e ∙ sym f
 
 -- yard_tables::rank::rank_step
-abbrev pub rank-step-ensures : (r : Ranking) (s : Seat) (i : ℕ) (h : Head) → Ranking → Type 0
-rank-step-ensures r s i h t = t ≡ rankStep (h .last) r s i
+abbrev pub rank-step-ensures : (best : Ranking) (s : Seat) (i : ℕ) (h : Head) → Ranking → Type 0
+rank-step-ensures best s i h r = r ≡ rankStep (h .last) best s i
 
-pub rank-step-determined : (r : Ranking) (s : Seat) (i : ℕ) (h : Head) → Determined (rank-step-ensures r s i h)
-rank-step-determined r s i h t t′ e f = e ∙ sym f
+pub rank-step-determined : (best : Ranking) (s : Seat) (i : ℕ) (h : Head) → Determined (rank-step-ensures best s i h)
+rank-step-determined best s i h r r′ e f = e ∙ sym f
 
 -- yard_tables::round::misplaced
 abbrev pub misplaced-ensures : (h : Head) (n : ℕ) → Bool → Type 0
@@ -130,25 +129,32 @@ pub misplaced-determined : (h : Head) (n : ℕ) → Determined (misplaced-ensure
 misplaced-determined h n r r′ e f = e ∙ sym f
 
 -- yard_tables::round::free_place
-abbrev pub free-place-ensures : (h : Head) (r : Ranking) → ℕ → Type 0
-free-place-ensures h r f = f ≡ freeOf h r
+abbrev pub free-place-ensures : (h : Head) (best : Ranking) → ℕ → Type 0
+free-place-ensures h best r = r ≡ freeOf h best
 
-pub free-place-determined : (h : Head) (r : Ranking) → Determined (free-place-ensures h r)
-free-place-determined h r f f′ e g = e ∙ sym g
+pub free-place-determined : (h : Head) (best : Ranking) → Determined (free-place-ensures h best)
+free-place-determined h best r r′ e f = e ∙ sym f
 
 -- yard_tables::round::turn
-abbrev pub turn-ensures : (h : Head) (fault : ℕ) (r : Ranking) (free : ℕ) (holder : Seat) → Turned → Type 0
-turn-ensures h fault r free holder t = t ≡ turned h fault r free holder
+abbrev pub turn-ensures : (h : Head) (fault : ℕ) (best : Ranking) (free : ℕ) (holder : Seat) → Turned → Type 0
+turn-ensures h fault best free holder r = r ≡ turned h fault best free holder
 
-pub turn-determined : (h : Head) (fault : ℕ) (r : Ranking) (free : ℕ) (holder : Seat) → Determined (turn-ensures h fault r free holder)
-turn-determined h fault r free holder t t′ e f = e ∙ sym f
+pub turn-determined : (h : Head) (fault : ℕ) (best : Ranking) (free : ℕ) (holder : Seat) → Determined (turn-ensures h fault best free holder)
+turn-determined h fault best free holder r r′ e f = e ∙ sym f
 
--- yard_tables::round::mark
-abbrev pub mark-ensures : (m : Marks) (s : Seat) (i : ℕ) → Seat → Type 0
-mark-ensures m s i r = r ≡ markStep m s i
+-- yard_tables::round::choke
+abbrev pub choke-ensures : (wanted : Bool) (s : Seat) → Seat → Type 0
+choke-ensures wanted s r = r ≡ chokeStep wanted s
 
-pub mark-determined : (m : Marks) (s : Seat) (i : ℕ) → Determined (mark-ensures m s i)
-mark-determined m s i r r′ e f = e ∙ sym f
+pub choke-determined : (wanted : Bool) (s : Seat) → Determined (choke-ensures wanted s)
+choke-determined wanted s r r′ e f = e ∙ sym f
+
+-- yard_tables::round::unchoke
+abbrev pub unchoke-ensures : (wanted : Bool) (s : Seat) → Seat → Type 0
+unchoke-ensures wanted s r = r ≡ unchokeStep wanted s
+
+pub unchoke-determined : (wanted : Bool) (s : Seat) → Determined (unchoke-ensures wanted s)
+unchoke-determined wanted s r r′ e f = e ∙ sym f
 
 -- yard_tables::reply::refused
 abbrev pub refused-ensures : (h : Head) (s : Seat) (number : ℕ) → Stepped → Type 0

@@ -17,13 +17,13 @@ returns c =
 returns-2 : tie.Need-returns-2
 returns-2 c =
     let h = c .before .before .before .before .args .h in
-    let r = c .before .before .before .before .args .r in
+    let r = c .before .before .before .before .args .best in
     pick-yes _ (eqb (h .round) 0) (eq-eqb (h .round) 0 (omega (arith, c .before .before .if1 .left))) (pick-yes _ (eqb (r .next) nobody) (eq-eqb (r .next) nobody (c .if2 .taken)) refl)
 
 returns-3 : tie.Need-returns-3
 returns-3 c =
     let h = c .before .before .before .before .args .h in
-    let r = c .before .before .before .before .args .r in
+    let r = c .before .before .before .before .args .best in
     pick-yes _ (eqb (h .round) 0) (eq-eqb (h .round) 0 (omega (arith, c .before .before .if1 .left))) (pick-no _ (eqb (r .next) nobody) (ne-eqb (r .next) nobody (c .if2 .left)) refl)
 
 pub free-place-spec : {M : Type 1} → statement M
