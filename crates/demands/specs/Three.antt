@@ -317,7 +317,7 @@ module _ (lent : Yard) (h : History) (y : Yard) (made : Made lent h y) where
     pub free-next : roundNumber h ≡ 0
         → ((free ≡ nobody) × ((i : ℕ) → i < seats → wanting h i ≡ false))
         ⊎ ((free < seats) × (wanting h free ≡ true)
-        × ((j : ℕ) → j < seats → wanting h j ≡ true → way seats (wanting h) (lastPlace fixed h) free ≤ way seats (wanting h) (lastPlace fixed h) j))
+        × ((j : ℕ) → j < seats → wanting h j ≡ true → way seats (lastPlace fixed h) free ≤ way seats (lastPlace fixed h) j))
     free-next = after-round.free-next fixed h y agrees then left
 
     -- "On the other rounds its holder keeps it"

@@ -63,7 +63,7 @@ module _ (fixed : Fixed) (h : History) (y : Yard) (agrees : Agrees fixed h y) (z
   pub free-next : roundNumber h ≡ 0
       → ((z .head .free ≡ nobody) × ((i : ℕ) → i < n → wanting h i ≡ false))
       ⊎ ((z .head .free < n) × (wanting h (z .head .free) ≡ true)
-      × ((j : ℕ) → j < n → wanting h j ≡ true → way n (wanting h) (lastPlace fixed h) (z .head .free) ≤ way n (wanting h) (lastPlace fixed h) j))
+      × ((j : ℕ) → j < n → wanting h j ≡ true → way n (lastPlace fixed h) (z .head .free) ≤ way n (lastPlace fixed h) j))
   free-next e = rw free-is (free-turns fixed h y agrees e)
 
   pub free-kept : (roundNumber h ≡ 0 → ⊥) → z .head .free ≡ freePlace fixed h
@@ -81,7 +81,7 @@ module _ (fixed : Fixed) (h : History) (y : Yard) (agrees : Agrees fixed h y) (z
     where
       go : ((z .head .free ≡ nobody) × ((i : ℕ) → i < n → wanting h i ≡ false))
           ⊎ ((z .head .free < n) × (wanting h (z .head .free) ≡ true)
-          × ((j : ℕ) → j < n → wanting h j ≡ true → way n (wanting h) (lastPlace fixed h) (z .head .free) ≤ way n (wanting h) (lastPlace fixed h) j))
+          × ((j : ℕ) → j < n → wanting h j ≡ true → way n (lastPlace fixed h) (z .head .free) ≤ way n (lastPlace fixed h) j))
           → ((z .head .free ≡ nobody) × (z .head .last ≡ lastPlace fixed h)) ⊎ ((z .head .free < n) × (z .head .last ≡ z .head .free))
       go (inl (a, none)) = inl (a, last-is ∙ rw (some-none (wanting h) n none, eq-eqb (roundNumber h) 0 e))
       go (inr (l, w, m)) = inr (l, last-is ∙ rw (some-has (wanting h) n (z .head .free) l w, eq-eqb (roundNumber h) 0 e) (sym (free-is ∙ rw (eq-eqb (roundNumber h) 0 e))))

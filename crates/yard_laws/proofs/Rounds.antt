@@ -185,7 +185,7 @@ module _ (fixed : Fixed) (h : History) (y : Yard) (agrees : Agrees fixed h y) wh
       → ((turnOf fixed h (freePlace fixed h) ≡ nobody) × ((i : ℕ) → i < fixed .seats → wanting h i ≡ false))
       ⊎ ((turnOf fixed h (freePlace fixed h) < fixed .seats) × (wanting h (turnOf fixed h (freePlace fixed h)) ≡ true)
       × ((j : ℕ) → j < fixed .seats → wanting h j ≡ true
-      → way (fixed .seats) (wanting h) (lastPlace fixed h) (turnOf fixed h (freePlace fixed h)) ≤ way (fixed .seats) (wanting h) (lastPlace fixed h) j))
+      → way (fixed .seats) (lastPlace fixed h) (turnOf fixed h (freePlace fixed h)) ≤ way (fixed .seats) (lastPlace fixed h) j))
   free-turns e =
       let s = sizes-here fixed h y agrees in
       rw (eq-eqb (roundNumber h) 0 e) (next-right (fixed .seats) (wanting h) (lastPlace fixed h) (last-within fixed (s .seat) (omega (arith, s .seats)) h) (omega (arith, s .seats)))
@@ -215,12 +215,12 @@ one-at-most n k = less-or k n
 module _ (fixed : Fixed) (h : History) where
   -- the four: who sits and is interested, fewer than four of whom sent more bytes, or as many and sit lower
   pub chosen-exactly : (i : ℕ) → chosen (fixed .seats) (wanting h) (sent h) i ≡ true
-      ↔ ((seated h i ≡ true) × (theyAreInterested h i ≡ true) × (count (fixed .seats) (before (fixed .seats) (wanting h) (sent h) i) < 4))
+      ↔ ((seated h i ≡ true) × (theyAreInterested h i ≡ true) × (count (fixed .seats) (before (wanting h) (sent h) i) < 4))
   chosen-exactly i = (
     λ e. let a = both (wanting h i) _ e in
         let b = both (seated h i) (theyAreInterested h i) (a .0) in
-        (b .0, b .1, ltb-true (count (fixed .seats) (before (fixed .seats) (wanting h) (sent h) i)) 4 (a .1)),
-    λ (a, b, l). both-true (wanting h i) _ (both-true (seated h i) (theyAreInterested h i) a b) (lt-ltb (count (fixed .seats) (before (fixed .seats) (wanting h) (sent h) i)) 4 l),
+        (b .0, b .1, ltb-true (count (fixed .seats) (before (wanting h) (sent h) i)) 4 (a .1)),
+    λ (a, b, l). both-true (wanting h i) _ (both-true (seated h i) (theyAreInterested h i) a b) (lt-ltb (count (fixed .seats) (before (wanting h) (sent h) i)) 4 l),
   )
 
   -- so many trucks are unchoked right after a round

@@ -22,6 +22,7 @@ use peer_wire::write;
 use refusal::number;
 use yard_tables::Answer;
 use yard_tables::Head;
+use yard_tables::NOBODY;
 use yard_tables::Seat;
 use yard_tables::Stepped;
 use yard_tables::leaving;
@@ -213,7 +214,7 @@ fn empty_head(pieces: u32, piece_length: u32, last_length: u32) -> Head
         taken: 0,
         complete: 0,
         round: 0,
-        free: 4294967295,
+        free: NOBODY,
         last: 0,
     }
 }

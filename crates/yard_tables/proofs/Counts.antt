@@ -12,6 +12,10 @@ pub bit-le : (b : Bool) → bit b ≤ 1
 bit-le true = omega arith
 bit-le false = omega arith
 
+pub bit-sub : (a b : Bool) → (a ≡ true → b ≡ true) → bit a ≤ bit b
+bit-sub true b q = rw (q refl) (omega arith)
+bit-sub false b q = omega arith
+
 module _ (f g : ℕ → Bool) where
   pub count-ext : (n : ℕ) → ((k : ℕ) → k < n → f k ≡ g k) → count n f ≡ count n g
   count-ext zero h = refl
@@ -24,10 +28,6 @@ module _ (f g : ℕ → Bool) where
   pub count-sub : (n : ℕ) → ((k : ℕ) → f k ≡ true → g k ≡ true) → count n f ≤ count n g
   count-sub zero h = omega arith
   count-sub (suc n) h = omega (arith, count-sub n h, bit-sub (f n) (g n) (h n))
-    where
-      bit-sub : (a b : Bool) → (a ≡ true → b ≡ true) → bit a ≤ bit b
-      bit-sub true b q = rw (q refl) (omega arith)
-      bit-sub false b q = omega arith
 
   -- g is f but at i
   pub count-change : (n i : ℕ) → i < n → ((k : ℕ) → k < n → k ≢ i → g k ≡ f k) → count n g + bit (f i) ≡ count n f + bit (g i)

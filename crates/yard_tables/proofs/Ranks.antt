@@ -18,7 +18,7 @@ use Rattle.yard_tables.specs.declared.Head.{Head}
 use Rattle.yard_tables.specs.declared.Seat.{Seat}
 use Rattle.yard_tables.specs.declared.rank.Place.{Place}
 use Rattle.yard_tables.specs.declared.rank.Ranking.{Ranking}
-use Rattle.yard_tables.proofs.Counts.{bit-le, count-sub, count-none, count-has, some-none, some-every}
+use Rattle.yard_tables.proofs.Counts.{bit-le, bit-sub, count-sub, count-none, count-has, some-none, some-every}
 
 -- ---- tests and counts
 
@@ -31,10 +31,6 @@ any-four false false false d ha hb hc hd e = hd e
 
 or-later : (a : Bool) {b : Bool} → b ≡ true → (a || b) ≡ true
 or-later a e = rw e (or-true a)
-
-bit-sub : (a b : Bool) → (a ≡ true → b ≡ true) → bit a ≤ bit b
-bit-sub true b q = rw (q refl) (omega arith)
-bit-sub false b q = omega arith
 
 module _ (f g : ℕ → Bool) where
   -- where f has it g has it, and g has it at i, where f lacks it
@@ -65,7 +61,7 @@ count-once f (suc n) h = by-bool (f n)
 module _ (W : ℕ → Bool) (B : ℕ → ℕ) where
   -- seat j comes before seat i
   abbrev ahead : ℕ → ℕ → Bool
-  ahead i j = before 0 W B i j
+  ahead i j = before W B i j
 
   ahead-wants : (i j : ℕ) → ahead i j ≡ true → W j ≡ true
   ahead-wants i j e = both (W j) (ltb (B i) (B j) || (eqb (B j) (B i) && ltb j i)) e .0
@@ -198,13 +194,13 @@ module _ (f : ℕ → Bool) where
   the-one-none (suc n) other h = rw (h n (omega arith)) (the-one-none n other (λ j l. h j (omega arith)))
 
 module _ (n : ℕ) (W : ℕ → Bool) (last : ℕ) (below : last < n) where
-  way-up : (j : ℕ) → last < j → way n W last j ≡ j - (last + 1)
+  way-up : (j : ℕ) → last < j → way n last j ≡ j - (last + 1)
   way-up j l = rw (lt-ltb last j l)
 
-  way-down : (j : ℕ) → j ≤ last → way n W last j ≡ j + n - (last + 1)
+  way-down : (j : ℕ) → j ≤ last → way n last j ≡ j + n - (last + 1)
   way-down j l = rw (le-ltb last j l)
 
-  way-once : (i j : ℕ) → i < n → j < n → way n W last i ≡ way n W last j → i ≡ j
+  way-once : (i j : ℕ) → i < n → j < n → way n last i ≡ way n last j → i ≡ j
   way-once i j a b e = less-or last i
       (λ l. less-or last j
       (λ m. omega (arith, way-up i l, way-up j m))
@@ -214,27 +210,27 @@ module _ (n : ℕ) (W : ℕ → Bool) (last : ℕ) (below : last < n) where
       (λ m. omega (arith, way-down i l, way-down j m)))
 
   abbrev sooner : ℕ → ℕ → Bool
-  sooner i j = W j && ltb (way n W last j) (way n W last i)
+  sooner i j = W j && ltb (way n last j) (way n last i)
 
   -- a seat that wants the uplink, and is reached no later than any other that does, is the next one
-  pub next-is : (k : ℕ) → k < n → W k ≡ true → ((j : ℕ) → j < n → W j ≡ true → way n W last k ≤ way n W last j) → nextOf n W last ≡ k
+  pub next-is : (k : ℕ) → k < n → W k ≡ true → ((j : ℕ) → j < n → W j ≡ true → way n last k ≤ way n last j) → nextOf n W last ≡ k
   next-is k l w h = the-one-is (isNext n W last) n k nobody l mine theirs
     where
       mine : isNext n W last k ≡ true
-      mine = rw (w, some-none (sooner k) n (λ j m. and-not (W j) (ltb (way n W last j) (way n W last k)) (λ e. le-ltb (way n W last j) (way n W last k) (h j m e))))
+      mine = rw (w, some-none (sooner k) n (λ j m. and-not (W j) (ltb (way n last j) (way n last k)) (λ e. le-ltb (way n last j) (way n last k) (h j m e))))
 
       theirs : (j : ℕ) → j < n → isNext n W last j ≡ true → j ≡ k
       theirs j m e =
           let d = both (W j) (not (some n (sooner j))) e in
           let s = some-every (sooner j) n (not-true (some n (sooner j)) (d .1)) k l in
-          let u : ltb (way n W last k) (way n W last j) ≡ false = rw w at s in
-          way-once j k m l (omega (arith, h j m (d .0), ltb-false (way n W last k) (way n W last j) u))
+          let u : ltb (way n last k) (way n last j) ≡ false = rw w at s in
+          way-once j k m l (omega (arith, h j m (d .0), ltb-false (way n last k) (way n last j) u))
 
   -- x is nobody, where none wants the uplink; or it wants it, and none that does is reached sooner
   abbrev NextAt : ℕ → Type 0
   NextAt x =
       ((x ≡ nobody) × ((k : ℕ) → k < n → W k ≡ false))
-      ⊎ ((x < n) × (W x ≡ true) × ((j : ℕ) → j < n → W j ≡ true → way n W last x ≤ way n W last j))
+      ⊎ ((x < n) × (W x ≡ true) × ((j : ℕ) → j < n → W j ≡ true → way n last x ≤ way n last j))
 
   next-of : (x : ℕ) → NextAt x → nextOf n W last ≡ x
   next-of x (inl d) = the-one-none (isNext n W last) n nobody (λ j l. rw (d .1 j l)) ∙ sym (d .0)
@@ -275,7 +271,7 @@ module _ (n : ℕ) (W : ℕ → Bool) (last : ℕ) (below : last < n) where
   -- the next seat is nobody, where none wants the uplink; or it wants it, and none that does is reached sooner
   pub next-right : n ≤ nobody
       → ((nextOf n W last ≡ nobody) × ((k : ℕ) → k < n → W k ≡ false))
-      ⊎ ((nextOf n W last < n) × (W (nextOf n W last) ≡ true) × ((j : ℕ) → j < n → W j ≡ true → way n W last (nextOf n W last) ≤ way n W last j))
+      ⊎ ((nextOf n W last < n) × (W (nextOf n W last) ≡ true) × ((j : ℕ) → j < n → W j ≡ true → way n last (nextOf n W last) ≤ way n last j))
   next-right t =
       let a = first-of above n t in
       let b = first-of W n t in

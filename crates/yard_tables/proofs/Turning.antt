@@ -69,7 +69,7 @@ module _ (seats : List Seat) (few : length seats ≤ nobody) (last free : ℕ) w
 
   four-taken : (i : ℕ) → four i ≡ true → takenIn seats i ≡ true
   four-taken i e =
-      let w = both (wantsIn seats i) (ltb (count n (before n (wantsIn seats) (sentIn seats) i)) 4) e .0 in
+      let w = both (wantsIn seats i) (ltb (count n (before (wantsIn seats) (sentIn seats) i)) 4) e .0 in
       both (takenIn seats i) (on (getD seats i cleared .«peer_interested»)) w .0
 
   abbrev beside : ℕ → Bool

@@ -16,16 +16,20 @@ use Rattle.yard_tables.specs.declared.Seat.{Seat}
 abbrev pub nobody : ℕ
 nobody = 4294967295
 
+-- how many of n seats are passed on the way to seat j, going round from the one after `last`, which is itself reached last
+abbrev pub way : ℕ → ℕ → ℕ → ℕ
+way n last j = cond (ltb last j) (j - (last + 1)) (j + n - (last + 1))
+
+-- seat j comes before seat i: it wants the uplink, and sent more bytes, or as many and is lower
+abbrev pub before : (ℕ → Bool) → (ℕ → ℕ) → ℕ → ℕ → Bool
+before wants sent i j = wants j && (ltb (sent i) (sent j) || (eqb (sent j) (sent i) && ltb j i))
+
 -- ---- of n seats, some of which want the uplink
 
 module _ (n : ℕ) (wants : ℕ → Bool) where
-  -- how many seats are passed on the way to seat j, going round from the one after `last`, which is itself reached last
-  abbrev pub way : ℕ → ℕ → ℕ
-  way last j = cond (ltb last j) (j - (last + 1)) (j + n - (last + 1))
-
   -- seat k is next: it wants the uplink, and none that does is reached sooner
   abbrev pub isNext : ℕ → ℕ → Bool
-  isNext last k = wants k && not (some n (λ j. wants j && ltb (way last j) (way last k)))
+  isNext last k = wants k && not (some n (λ j. wants j && ltb (way n last j) (way n last k)))
 
   -- the next seat, or nobody
   abbrev pub nextOf : ℕ → ℕ
@@ -42,13 +46,9 @@ module _ (n : ℕ) (wants : ℕ → Bool) where
   -- ---- and each of which sent so many bytes
 
   module _ (sent : ℕ → ℕ) where
-    -- seat j comes before seat i: it wants the uplink, and sent more bytes, or as many and is lower
-    abbrev pub before : ℕ → ℕ → Bool
-    before i j = wants j && (ltb (sent i) (sent j) || (eqb (sent j) (sent i) && ltb j i))
-
     -- seat i is one of the four: it wants the uplink, and fewer than four come before it
     abbrev pub chosen : ℕ → Bool
-    chosen i = wants i && ltb (count n (before i)) 4
+    chosen i = wants i && ltb (count n (before wants sent i)) 4
 
     -- seat i is to be unchoked, where the free place is then `free`
     abbrev pub served : ℕ → ℕ → Bool

@@ -5,6 +5,7 @@ ghost use Rattle.yard_tables.specs.Counting.{bit};
 ghost use Rattle.yard_tables.specs.Replies.{headAtZero};
 ghost use Rattle.yard_tables.specs.Seating.{givenUp};
 use crate::Head;
+use crate::NOBODY;
 use crate::Seat;
 use crate::held;
 use crate::sizes::wide;
@@ -28,7 +29,7 @@ pub fn give_up(h: Head, i: usize) -> Head
 {
     let mut g = h;
     if wide(h.free) == i {
-        g.free = 4294967295;
+        g.free = NOBODY;
         return g;
     }
     g

@@ -11,8 +11,11 @@ pub mod reply;
 pub mod round;
 pub mod sizes;
 
+// The head's free place where no seat has it.
+pub const NOBODY: u32 = 4294967295;
+
 // The yard's head record: its sizes, how many of its seats are taken and how many hold every piece, the number of the next
-// round modulo 3, and the free place, a seat's or nobody's (`round::NOBODY`), with the seat that it last was.
+// round modulo 3, and the free place, a seat's or NOBODY's, with the seat that it last was.
 #[repr(C)]
 pub struct Head {
     pub pieces: u32,

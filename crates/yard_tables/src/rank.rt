@@ -9,10 +9,10 @@ use crate::Seat;
 use crate::on;
 use crate::sizes::wide;
 
-// What stands where there is no seat.
-pub const NOBODY: usize = 4294967295;
+// What stands where there is no seat: NOBODY as a size.
+pub const NONE: usize = 4294967295;
 
-// A seat and the bytes that it sent, or NOBODY.
+// A seat and the bytes that it sent, or NONE.
 pub struct Place {
     pub seat: usize,
     pub bytes: u64,
@@ -38,8 +38,8 @@ pub fn unranked() -> Ranking
         second: no_place(),
         third: no_place(),
         fourth: no_place(),
-        lowest: NOBODY,
-        next: NOBODY,
+        lowest: NONE,
+        next: NONE,
     }
 }
 
@@ -113,7 +113,7 @@ fn four(r: Ranking, first: Place, second: Place, third: Place, fourth: Place) ->
 fn beaten(p: Place, new: Place) -> bool
     ensures { λ r. ⌜ r ≡ beaten p new ⌝ }
 {
-    if p.seat == NOBODY {
+    if p.seat == NONE {
         return true;
     }
     p.bytes < new.bytes
@@ -123,7 +123,7 @@ fn beaten(p: Place, new: Place) -> bool
 fn kept(found: usize, counts: bool, i: usize) -> usize
     ensures { λ r. ⌜ r ≡ cond (eqb found nobody && counts) i found ⌝ }
 {
-    if found == NOBODY {
+    if found == NONE {
         if counts {
             return i;
         }
@@ -145,7 +145,7 @@ fn no_place() -> Place
     ensures { λ r. ⌜ r ≡ noPlace ⌝ }
 {
     Place {
-        seat: NOBODY,
+        seat: NONE,
         bytes: 0,
     }
 }

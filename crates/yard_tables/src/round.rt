@@ -5,14 +5,15 @@ ghost use Rattle.yard_tables.specs.Rounds.{nobody, misplaced};
 ghost use Rattle.yard_tables.specs.Ranks.{freeOf, marksOf, noMarks, nextNumber, lastOf, headOf, turned, fourIn, among, chokeStep, unchokeStep, countOf};
 use crate::Answer;
 use crate::Head;
+use crate::NOBODY;
 use crate::Seat;
 use crate::on;
-use crate::rank::NOBODY;
+use crate::rank::NONE;
 use crate::rank::Ranking;
 use crate::sizes::wide;
 use refusal::number;
 
-// The seats that a round unchokes, the free place's among them, or NOBODY; a refused round sets no marks.
+// The seats that a round unchokes, the free place's among them, or NONE; a refused round sets no marks.
 pub struct Marks {
     pub wanted: bool,
     pub first: usize,
@@ -39,7 +40,7 @@ pub fn misplaced(h: Head, n: usize) -> bool
     if n <= wide(h.last) {
         return true;
     }
-    if wide(h.free) == NOBODY {
+    if wide(h.free) == NONE {
         return false;
     }
     n <= wide(h.free)
@@ -52,7 +53,7 @@ pub fn free_place(h: Head, best: Ranking) -> usize
     if 0 < h.round {
         return wide(h.free);
     }
-    if best.next == NOBODY {
+    if best.next == NONE {
         return best.lowest;
     }
     best.next
@@ -131,7 +132,7 @@ fn next_number(round: u32) -> u32
 fn last_place(h: Head, free: usize) -> u32
     ensures { λ r. ⌜ r ≡ lastOf h free ⌝ }
 {
-    if free == NOBODY {
+    if free == NONE {
         return h.last;
     }
     if h.round == 0 {
@@ -158,11 +159,11 @@ fn no_marks() -> Marks
 {
     Marks {
         wanted: false,
-        first: NOBODY,
-        second: NOBODY,
-        third: NOBODY,
-        fourth: NOBODY,
-        free: NOBODY,
+        first: NONE,
+        second: NONE,
+        third: NONE,
+        fourth: NONE,
+        free: NONE,
     }
 }
 
@@ -184,16 +185,16 @@ fn unchoked(m: Marks, holder: Seat) -> usize
 fn four_in(m: Marks) -> usize
     ensures { λ r. ⌜ r ≡ fourIn m ⌝ }
 {
-    if m.first == NOBODY {
+    if m.first == NONE {
         return 0;
     }
-    if m.second == NOBODY {
+    if m.second == NONE {
         return 1;
     }
-    if m.third == NOBODY {
+    if m.third == NONE {
         return 2;
     }
-    if m.fourth == NOBODY {
+    if m.fourth == NONE {
         return 3;
     }
     4
@@ -219,8 +220,8 @@ fn among(m: Marks, i: usize) -> bool
 fn narrow(seat: usize) -> u32
     ensures { λ r. ⌜ r ≡ min seat nobody ⌝ }
 {
-    if NOBODY < seat {
-        return 4294967295;
+    if NONE < seat {
+        return NOBODY;
     }
     seat as u32
 }
