@@ -291,7 +291,7 @@ def seeder(replay, where, client, pieces, until):
 
 
 def fetch(truck, package, piece):
-    """Asks for the piece, once the yard shows that the client does not choke us, and has it checked."""
+    """Asks for the piece, once the yard shows that the client does not choke us, and has it checked; its bytes count until a round."""
     truck.send("interest", 0, 1, 5)
     while truck.replay.ask("seat", 0).split()[4] == "1":
         truck.listen()
@@ -304,6 +304,9 @@ def fetch(truck, package, piece):
     same("a piece frame", (taken, int(used), int(number)), ("taken", len(frame), PIECE))
     same("a piece frame", unhexed(payload)[:8], asked[:8])
     same("a piece sent", truck.replay.ask("piece", package.text, piece, unhexed(payload)[8:]), "yes")
+    same("bytes of its blocks", truck.replay.ask("seat", 0).split()[6], str(package.last))
+    same("a round, of a truck that wants nothing", truck.replay.ask("round"), "unchoked 0 free nobody")
+    same("bytes after a round", truck.replay.ask("seat", 0).split()[6], "0")
 
 
 # ---- leechers

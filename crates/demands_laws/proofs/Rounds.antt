@@ -1,16 +1,19 @@
--- What a round leaves of the tables, from the history before it. Assumes nothing.
-use mathlib.Core.Path.{_≡_, sym, ap, _∙_, subst}
+-- What a round leaves of the tables, from the history before it, and of any tables. Assumes nothing.
+use mathlib.Core.Path.{_≡_, refl, sym, ap, _∙_, subst}
 use mathlib.Core.Logic.{_⊎_, inl, inr}
 use mathlib.Core.Bool.{Bool, true, false, not, _&&_, _||_}
 use mathlib.Core.List.{[]}
 use Prim.Native.Nat.{ℕ, _≤_, _<_}
+use native.Mathlib.Omega.{arith}
 use borrow.Author.Tests.{eq-eqb, ne-eqb}
 use lib.Dec.{eqb}
-use lib.ListN.{getD}
+use lib.ListN.{length, getD}
+use Rattle.refusal.specs.Paper.{taken}
+use Rattle.refusal.proofs.Cases.{by-bool, by-test, pick-yes, pick-no}
 use Rattle.yard_tables.specs.Counting.{bit, count}
-use Rattle.yard_tables.specs.Seats.{on, cleared}
-use Rattle.yard_tables.specs.Tables.{Yard}
-use Rattle.yard_tables.specs.Rounds.{nobody, way, lastThen, chosen}
+use Rattle.yard_tables.specs.Seats.{on, cleared, weChoke, having}
+use Rattle.yard_tables.specs.Tables.{Yard, Out, unchoked, yardOf, sizesFit}
+use Rattle.yard_tables.specs.Rounds.{nobody, way, lastThen, chosen, takenIn, wantsIn, sentIn, roundSeat, misplaced, headAfter, servedIn, roundOf}
 use Rattle.yard_tables.specs.Step.{round, step}
 use Rattle.yard_tables.specs.declared.Head.{Head}
 use Rattle.yard_tables.specs.declared.Seat.{Seat}
@@ -18,9 +21,10 @@ use Rattle.yard_tables.proofs.Counts.{count-ext, some-none}
 use Rattle.yard_tables.proofs.Flags.{on-bit}
 use Rattle.yard_laws.specs.History.{History, Fixed, event, seated, wanting, sent, weAreChoking, roundNumber, freePlace, lastPlace, turnOf}
 use Rattle.yard_laws.specs.Says.{unchokes}
+use Rattle.yard_telling.specs.Telling.{codeOf}
 use Rattle.yard_laws.proofs.Agreeing.{Agrees}
 use Rattle.yard_laws.proofs.Damage.{some-has}
-use Rattle.yard_laws.proofs.Rounds.{rounded, round-after, round-marks, round-spares, free-turns, free-stays, free-after, last-after, unchoked-after, at-most-five}
+use Rattle.yard_laws.proofs.Rounds.{rounded, round-after, round-marks, round-spares, free-turns, free-stays, free-after, last-after, unchoked-after, at-most-five, seatsAfter, each-after, served-few}
 
 module _ (fixed : Fixed) (h : History) (y : Yard) (agrees : Agrees fixed h y) (z : Yard) (is : z ≡ step round y .yard) where
   abbrev n : ℕ
@@ -85,3 +89,62 @@ module _ (fixed : Fixed) (h : History) (y : Yard) (agrees : Agrees fixed h y) (z
           → ((z .head .free ≡ nobody) × (z .head .last ≡ lastPlace fixed h)) ⊎ ((z .head .free < n) × (z .head .last ≡ z .head .free))
       go (inl (a, none)) = inl (a, last-is ∙ rw (some-none (wanting h) n none, eq-eqb (roundNumber h) 0 e))
       go (inr (l, w, m)) = inr (l, last-is ∙ rw (some-has (wanting h) n (z .head .free) l w, eq-eqb (roundNumber h) 0 e) (sym (free-is ∙ rw (eq-eqb (roundNumber h) 0 e))))
+
+-- ---- on any tables
+
+module _ (y z : Yard) (fine : codeOf (step round y .answer) ≡ 0) (is : z ≡ step round y .yard) where
+  abbrev pub many : ℕ
+  many = count (length (y .seats)) (λ i. takenIn (y .seats) i && servedIn (y .head) (y .seats) i)
+
+  abbrev left : Out
+  left = record { answer = taken (unchoked many); yard = yardOf (headAfter (y .head) (y .seats)) (seatsAfter y) (y .rows) (y .holders) }
+
+  -- it is not refused, so the sizes fit and nothing is misplaced
+  pub round-left : step round y ≡ left
+  unfolding step roundOf
+  round-left =
+      by-test (λ (o : Out). codeOf (o .answer) ≡ 0 → o ≡ left) (sizesFit (y .head) (length (y .seats)) (length (y .rows)) (length (y .holders)))
+      (λ a. by-test (λ (o : Out). codeOf (o .answer) ≡ 0 → o ≡ left) (misplaced (y .head) (length (y .seats))) (λ b e. absurd (omega arith)) (λ b e. refl))
+      (λ a e. absurd (omega arith))
+      fine
+
+  yard-left : z ≡ left .yard
+  yard-left = is ∙ ap (λ (o : Out). o .yard) round-left
+
+  seat-left : (i : ℕ) → getD (z .seats) i cleared ≡ roundSeat (servedIn (y .head) (y .seats) i) (getD (y .seats) i cleared)
+  seat-left i = ap (λ (x : Yard). getD (x .seats) i cleared) yard-left ∙ each-after y i
+
+  served-left : (i : ℕ) → takenIn (y .seats) i ≡ true
+      → getD (z .seats) i cleared ≡ weChoke (not (servedIn (y .head) (y .seats) i)) (having 0 (getD (y .seats) i cleared))
+  served-left i t = seat-left i ∙ sym (pick-yes (getD (y .seats) i cleared) (takenIn (y .seats) i) t refl)
+
+  -- at each truck that sits
+  pub marks-left : (i : ℕ) → takenIn (y .seats) i ≡ true
+      → getD (z .seats) i cleared
+      ≡ weChoke (not (chosen (length (y .seats)) (wantsIn (y .seats)) (sentIn (y .seats)) i || eqb i (z .head .free))) (having 0 (getD (y .seats) i cleared))
+  marks-left i t =
+      served-left i t
+      ∙ ap (λ (k : ℕ). weChoke (not (chosen (length (y .seats)) (wantsIn (y .seats)) (sentIn (y .seats)) i || eqb i k)) (having 0 (getD (y .seats) i cleared)))
+      (sym (ap (λ (x : Yard). x .head .free) yard-left))
+
+  -- at each free seat
+  pub spares-left : (i : ℕ) → takenIn (y .seats) i ≡ false → getD (z .seats) i cleared ≡ getD (y .seats) i cleared
+  spares-left i f = seat-left i ∙ sym (pick-no (weChoke (not (servedIn (y .head) (y .seats) i)) (having 0 (getD (y .seats) i cleared))) (takenIn (y .seats) i) f refl)
+
+  -- the holder, seated or not
+  pub holder-left : (y .head .round ≡ 0 → ⊥) → z .head .free ≡ y .head .free
+  holder-left f = ap (λ (x : Yard). x .head .free) yard-left ∙ rw (ne-eqb (y .head .round) 0 f)
+
+  -- how many
+  pub five-left : (many ≡ count (length (y .seats)) (λ i. takenIn (y .seats) i && not (on (getD (z .seats) i cleared .«am_choking»)))) × (many ≤ 5)
+  five-left = (
+    count-ext _ _ (length (y .seats)) (λ i l. by-bool (takenIn (y .seats) i)
+        (λ t. ap (λ (b : Bool). takenIn (y .seats) i && b)
+        (twice (servedIn (y .head) (y .seats) i) ∙ ap not (sym (ap (λ (s : Seat). on (s .«am_choking»)) (served-left i t) ∙ on-bit (not (servedIn (y .head) (y .seats) i))))))
+        (λ f. let same : (c d : Bool) → (takenIn (y .seats) i && c) ≡ (takenIn (y .seats) i && d) = λ c d. rw f in same _ _)),
+    served-few (length (y .seats)) (wantsIn (y .seats)) (sentIn (y .seats)) (headAfter (y .head) (y .seats) .free) (takenIn (y .seats)),
+  )
+    where
+      twice : (b : Bool) → b ≡ not (not b)
+      twice true = refl
+      twice false = refl

@@ -86,6 +86,19 @@ module _ (fixed : Fixed) (some-seats : 1 ≤ fixed .seats) (few-seats : fixed .s
       go (inl q) = rw (eq-eqb (freePlace fixed h) nobody q)
       go (inr l) = and-not (not (eqb (freePlace fixed h) nobody)) _ (λ _. lt-leb (fixed .seats) (freePlace fixed h) l)
 
+-- ---- a round on any tables
+
+module _ (y : Yard) where
+  abbrev pub seatsAfter : List Seat
+  seatsAfter = each (λ i s. roundSeat (servedIn (y .head) (y .seats) i) s) (y .seats)
+
+  -- a seat that is not there is no exception: it is free
+  pub each-after : (j : ℕ) → getD seatsAfter j cleared ≡ roundSeat (servedIn (y .head) (y .seats) j) (getD (y .seats) j cleared)
+  each-after j = less-or j (length (y .seats))
+      (λ l. getD-each (λ i s. roundSeat (servedIn (y .head) (y .seats) i) s) (y .seats) j cleared l)
+      (λ l. List·getD-eq-default seatsAfter cleared (omega (arith, length-each (λ i s. roundSeat (servedIn (y .head) (y .seats) i) s) (y .seats)))
+      ∙ ap (roundSeat (servedIn (y .head) (y .seats) j)) (sym (List·getD-eq-default (y .seats) cleared l)))
+
 -- ---- a round on tables that agree
 
 -- what a round makes of a seat, in the history's words
@@ -117,22 +130,12 @@ module _ (fixed : Fixed) (h : History) (y : Yard) (agrees : Agrees fixed h y) wh
   served-is : (i : ℕ) → servedIn (y .head) (y .seats) i ≡ servedAt fixed h i
   served-is i = λ k. served (agrees .seats-len k) (λ j. wants-is j k) (λ j. sent-is j k) (head-after k .free) i
 
-  abbrev seatsAfter : List Seat
-  seatsAfter = each (λ i s. roundSeat (servedIn (y .head) (y .seats) i) s) (y .seats)
-
-  -- a seat that is not there is no exception: it is free
-  each-after : (j : ℕ) → getD seatsAfter j cleared ≡ roundSeat (servedIn (y .head) (y .seats) j) (getD (y .seats) j cleared)
-  each-after j = less-or j (length (y .seats))
-      (λ l. getD-each (λ i s. roundSeat (servedIn (y .head) (y .seats) i) s) (y .seats) j cleared l)
-      (λ l. List·getD-eq-default seatsAfter cleared (omega (arith, length-each (λ i s. roundSeat (servedIn (y .head) (y .seats) i) s) (y .seats)))
-      ∙ ap (roundSeat (servedIn (y .head) (y .seats) j)) (sym (List·getD-eq-default (y .seats) cleared l)))
-
-  round-agrees : (k : ℕ) (w : List ℕ) → Agrees fixed (entry round (taken (unchoked k)) w ∷ h) (yardOf (headAfter (y .head) (y .seats)) seatsAfter (y .rows) (y .holders))
+  round-agrees : (k : ℕ) (w : List ℕ) → Agrees fixed (entry round (taken (unchoked k)) w ∷ h) (yardOf (headAfter (y .head) (y .seats)) (seatsAfter y) (y .rows) (y .holders))
   unfolding event phase
-  round-agrees k w = subst (λ (x : Head). Agrees fixed (entry round (taken (unchoked k)) w ∷ h) (yardOf x seatsAfter (y .rows) (y .holders))) (sym head-after)
-      (steady-agrees fixed h y agrees (entry round (taken (unchoked k)) w) refl (λ j. refl) (λ j p. refl) seatsAfter _ _ _
+  round-agrees k w = subst (λ (x : Head). Agrees fixed (entry round (taken (unchoked k)) w ∷ h) (yardOf x (seatsAfter y) (y .rows) (y .holders))) (sym head-after)
+      (steady-agrees fixed h y agrees (entry round (taken (unchoked k)) w) refl (λ j. refl) (λ j p. refl) (seatsAfter y) _ _ _
       (length-each (λ i s. roundSeat (servedIn (y .head) (y .seats) i) s) (y .seats) ∙ agrees .seats-len)
-      (λ j. each-after j ∙ ap₂ roundSeat (served-is j) (agrees .seat-is j)
+      (λ j. each-after y j ∙ ap₂ roundSeat (served-is j) (agrees .seat-is j)
       ∙ seat-after (seated h j) (servedAt fixed h j) (weAreChoking fixed h j) (fresh h j) (weAreInterested h j) (theyAreChoking h j) (theyAreInterested h j) (held h j) (sent h j))
       refl refl refl)
 
@@ -212,6 +215,19 @@ one-at-most n k = less-or k n
     (λ l. omega (arith, count-only (λ i. eqb i k) k (λ i d. ne-eqb i k d) n l, bit-le (eqb k k)))
     (λ l. omega (arith, count-none (λ i. eqb i k) n (λ i q. ne-eqb i k (λ e. omega arith))))
 
+-- of those that sit at most five are served: the four, and the holder of the free place
+pub served-few : (n : ℕ) (wants : ℕ → Bool) (bytes : ℕ → ℕ) (free : ℕ) (sits : ℕ → Bool) → count n (λ i. sits i && served n wants bytes free i) ≤ 5
+served-few n wants bytes free sits =
+    let four : ℕ → Bool = chosen n wants bytes in
+    omega (
+      arith,
+      count-sub (λ i. sits i && served n wants bytes free i) (served n wants bytes free) n (λ i e. both (sits i) (served n wants bytes free i) e .1),
+      count-or four (λ i. eqb i free) n,
+      count-sub (λ i. eqb i free && not (four i)) (λ i. eqb i free) n (λ i e. both (eqb i free) (not (four i)) e .0),
+      chosen-few n wants bytes,
+      one-at-most n free,
+    )
+
 module _ (fixed : Fixed) (h : History) where
   -- the four: who sits and is interested, fewer than four of whom sent more bytes, or as many and sit lower
   pub chosen-exactly : (i : ℕ) → chosen (fixed .seats) (wanting h) (sent h) i ≡ true
@@ -233,20 +249,8 @@ module _ (fixed : Fixed) (h : History) where
       go true false c = refl
       go false t c = refl
 
-  -- the four, and the holder of the free place
   pub at-most-five : unchokes fixed h ≤ 5
-  at-most-five =
-      let n : ℕ = fixed .seats in
-      let four : ℕ → Bool = chosen n (wanting h) (sent h) in
-      let free : ℕ = turnOf fixed h (freePlace fixed h) in
-      omega (
-        arith,
-        count-sub (λ i. seated h i && servedAt fixed h i) (servedAt fixed h) n (λ i e. both (seated h i) (servedAt fixed h i) e .1),
-        count-or four (λ i. eqb i free) n,
-        count-sub (λ i. eqb i free && not (four i)) (λ i. eqb i free) n (λ i e. both (eqb i free) (not (four i)) e .0),
-        chosen-few n (wanting h) (sent h),
-        one-at-most n free,
-      )
+  at-most-five = served-few (fixed .seats) (wanting h) (sent h) (turnOf fixed h (freePlace fixed h)) (seated h)
 
 -- ---- 39 is not given on a run, while fewer than 2^53 bytes of blocks came in since the last round
 

@@ -1,18 +1,31 @@
 -- On any tables, whatever made them: 20, 21, 30 to 37 and wait are given exactly when their cause holds by what the tables say. 38 and 39 are in One/Numbers.antt. r is the
 -- number that C gets, as the contract of the call permits it (`Permits`: Program.antt), 255 for a wait; `byTables` is who sits, who is fresh, the sizes and the marks
--- (yard_laws/specs/View.antt). Assumes nothing.
-use mathlib.Core.Path.{_≡_}
+-- (yard_laws/specs/View.antt). And what a round leaves of them. Assumes nothing.
+use mathlib.Core.Path.{_≡_, sym, ap, _∙_}
 use mathlib.Core.Logic.{_↔_, Iff·trans}
+use mathlib.Core.Bool.{true, false, not, _&&_, _||_}
+use mathlib.Core.List.{List}
 use Prim.Native.Nat.{ℕ, _≤_, _<_}
 use native.Mathlib.Omega.{arith}
-use Rattle.yard_tables.specs.Tables.{Yard}
-use Rattle.yard_tables.specs.Step.{Call}
+use lib.Dec.{eqb}
+use lib.ListN.{length, getD}
+use Rattle.yard_tables.specs.Counting.{count}
+use Rattle.yard_tables.specs.Seats.{on, cleared, weChoke, having}
+use Rattle.yard_tables.specs.Tables.{Yard, Out, yardOf}
+use Rattle.yard_tables.specs.Rounds.{takenIn, wantsIn, sentIn, chosen}
+use Rattle.yard_tables.specs.Step.{Call, step}
+use Rattle.yard_tables.specs.declared.Seat.{Seat}
+use Rattle.yard_telling.specs.Telling.{codeOf, toldOf}
+use Rattle.yard_telling.specs.declared.Told.{Told}
 use Rattle.yard_laws.specs.View.{byTables}
 use Rattle.yard_laws.specs.Causes.{CauseBy, WaitBy}
 use Rattle.yard_laws.specs.Damage.{Fit}
 use Rattle.yard_laws.proofs.OnTables as tables
 use Rattle.demands_laws.proofs.Numbered.{number-given, number-waits}
 use Rattle.demands_laws.proofs.Tables.{on-tables, no-wait}
+use Rattle.demands_laws.proofs.Rounds as after-round
+use Rattle.demands.specs.One.{Lent, before, after}
+use Rattle.demands.specs.One.Doors.Yard as yard
 use Rattle.demands.specs.Program.{Tables, found, Permits, permits-step}
 
 module _ (t : Tables) (c : Call) (r : ℕ) (z : Yard) (e : Permits t c r z) where
@@ -21,3 +34,39 @@ module _ (t : Tables) (c : Call) (r : ℕ) (z : Yard) (e : Permits t c r z) wher
 
   pub tables-wait : r ≡ 255 ↔ (Fit (found t) × WaitBy (byTables (found t)) c)
   tables-wait = Iff·trans (number-waits (permits-step t c r z e .0) (no-wait (found t) c)) (tables.wait-exactly (found t) c)
+
+-- ---- document 02, ticket 6: a round that is not refused. `free` has the free place then
+
+module _ (t : Tables) (r : ℕ) (told : Lent Told) (e : yard.round-ensures (t .rows) (t .holders) r (t .head) (t .seats) told) (unrefused : r ≡ 0) where
+  abbrev seats : List Seat
+  seats = before (t .seats)
+
+  abbrev then : Yard
+  then = yardOf (after (t .head)) (after (t .seats)) (before (t .rows)) (before (t .holders))
+
+  abbrev free : ℕ
+  free = after (t .head) .free
+
+  fine : codeOf (step Call.round (found t) .answer) ≡ 0
+  fine = sym (e .0) ∙ unrefused
+
+  -- at each taken seat our choke mark goes off at the four and at the holder of the free place, and on at every other; the bytes are cleared, and all else stays
+  pub tables-marks : (i : ℕ) → takenIn seats i ≡ true
+      → getD (after (t .seats)) i cleared ≡ weChoke (not (chosen (length seats) (wantsIn seats) (sentIn seats) i || eqb i free)) (having 0 (getD seats i cleared))
+  tables-marks = after-round.marks-left (found t) then fine (e .2)
+
+  -- "Records of free seats stay"
+  pub tables-spares : (i : ℕ) → takenIn seats i ≡ false → getD (after (t .seats)) i cleared ≡ getD seats i cleared
+  tables-spares = after-round.spares-left (found t) then fine (e .2)
+
+  -- "a free place that names a free seat is kept", as any other is until it goes on
+  pub tables-holder : (before (t .head) .round ≡ 0 → ⊥) → free ≡ before (t .head) .free
+  tables-holder = after-round.holder-left (found t) then fine (e .2)
+
+  -- "how many trucks are now unchoked": of the taken seats, and at most five
+  pub tables-five : (after told .value ≡ count (length seats) (λ i. takenIn seats i && not (on (getD (after (t .seats)) i cleared .«am_choking»)))) × (after told .value ≤ 5)
+  tables-five =
+      let v : after told .value ≡ after-round.many (found t) then fine (e .2) =
+      ap (λ (x : Told). x .value) (e .1 ∙ ap (λ (o : Out). toldOf (o .answer) (before told)) (after-round.round-left (found t) then fine (e .2))) in
+      let k = after-round.five-left (found t) then fine (e .2) in
+      (v ∙ k .0, rw v (k .1))
