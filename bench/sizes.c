@@ -1,6 +1,6 @@
 /* Times calls of the library at growing sizes: bencode texts by their bytes, torrents by their files and pieces, weeks' files by their
- * packages, bitfields by pieces and missing pages by seats. Prints a line for each measurement: what, size, what the size counts, microseconds. bench/run builds
- * and runs it; tools/plot.py draws it. */
+ * packages, bitfields by pieces, missing pages and rounds by seats. Prints a line for each measurement: what, size, what the size counts,
+ * microseconds. bench/run builds and runs it; tools/plot.py draws it. */
 #define _POSIX_C_SOURCE 200809L
 #include "../host/wardrail_yard.h"
 
@@ -192,11 +192,30 @@ static void pages(size_t count) {
     }
 }
 
+/* A round, when every truck is interested. */
+static void rounds(size_t count) {
+    static const uint8_t interested[5] = {0, 0, 0, 1, 2};
+    double best = 1e18;
+    must(wardrail_yard_start(TABLES(count, 8), 8, 16384, 16384), "start");
+    for (size_t k = 0; k < count; k++) {
+        must(wardrail_yard_sit(TABLES(count, 8), &told), "sit");
+        must(wardrail_yard_feed(TABLES(count, 8), k, interested, sizeof interested, &told), "interested");
+    }
+    for (int k = 0; k < RUNS * 5; k++) {
+        const double start = now();
+        for (int turn = 0; turn < 10; turn++) must(wardrail_yard_round(TABLES(count, 8), &told), "round");
+        const double spent = (now() - start) / 10;
+        if (spent < best) best = spent;
+    }
+    line("round", count, "seats", best);
+}
+
 int main(void) {
     texts();
     torrents();
     weeks();
     for (size_t k = 1; k <= STEPS; k++) bitfields(MOST_PIECES / STEPS * k);
     for (size_t k = 1; k <= STEPS; k++) pages(MOST_SEATS / STEPS * k);
+    for (size_t k = 1; k <= STEPS; k++) rounds(MOST_SEATS / STEPS * k);
     return 0;
 }

@@ -19,7 +19,7 @@ PANELS = {
     "files": ("Torrents", "files, with 16 pieces each", 1),
     "packages": ("Weeks' files", "packages, of some 4 KB each", 1),
     "pieces": ("The yard: a truck that has all", "pieces", 1),
-    "seats": ("The yard: missing list, a page of all seats", "seats", 1),
+    "seats": ("The yard: a missing page of all seats, and a round", "seats", 1),
 }
 
 
