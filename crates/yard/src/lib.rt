@@ -1,6 +1,6 @@
 // The yard's calls over the tables that C lends. Each takes one seat out, runs a covered step on it and the head, and puts both back;
-// what it leaves is `step` of the definitions, for any tables, and what it tells is `step`'s answer in numbers: 0, the refusal's, or 255
-// where more bytes are needed. A refusal and a wait leave all that is lent as it was.
+// a start, a page and a round go over all seats. What it leaves is `step` of the definitions, for any tables, and what it tells is
+// `step`'s answer in numbers: 0, the refusal's, or 255 where more bytes are needed. A refusal and a wait leave all that is lent as it was.
 ghost use mathlib.Core.Path.{_≡_};
 ghost use lib.ListN.{length};
 ghost use lib.Seq.{sets};

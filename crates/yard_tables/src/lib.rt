@@ -29,7 +29,8 @@ pub struct Head {
 }
 
 // One seat. Fresh: no frame of its truck with an id was taken yet. The marks are BEP 3's, `am` ours and `peer` the
-// truck's. The flags and `held` are one word of 64 bits, and `bytes`, those of its blocks since the last round, another, so that no byte is padding.
+// truck's. The flags and `held` are one word of 64 bits, and `bytes`, those of its blocks since the last round, another, so
+// that no byte is padding.
 #[repr(C)]
 pub struct Seat {
     pub taken: u8,
