@@ -1,20 +1,21 @@
--- What a round leaves of the tables, from the history before it, and of any tables. Assumes nothing.
+-- What a round leaves of the tables, from the history before it, and of any tables; and that leaving gives the free place up. Assumes nothing.
 use mathlib.Core.Path.{_≡_, refl, sym, ap, _∙_, subst}
 use mathlib.Core.Logic.{_⊎_, inl, inr}
-use mathlib.Core.Bool.{Bool, true, false, not, _&&_, _||_}
+use mathlib.Core.Bool.{Bool, true, false, not, cond, _&&_, _||_}
 use mathlib.Core.List.{[]}
 use Prim.Native.Nat.{ℕ, _≤_, _<_}
 use native.Mathlib.Omega.{arith}
 use borrow.Author.Tests.{eq-eqb, ne-eqb}
-use lib.Dec.{eqb}
+use lib.Dec.{eqb, ltb}
 use lib.ListN.{length, getD}
 use Rattle.refusal.specs.Paper.{taken}
 use Rattle.refusal.proofs.Cases.{by-bool, by-test, pick-yes, pick-no}
 use Rattle.yard_tables.specs.Counting.{bit, count}
 use Rattle.yard_tables.specs.Seats.{on, cleared, weChoke, having}
-use Rattle.yard_tables.specs.Tables.{Yard, Out, unchoked, yardOf, sizesFit}
+use Rattle.yard_tables.specs.Tables.{Yard, Around, Turn, around, Out, unchoked, yardOf, sizesFit}
+use Rattle.yard_tables.specs.Seating.{atZero, leaveOf, left as leftBy}
 use Rattle.yard_tables.specs.Rounds.{nobody, way, lastThen, chosen, takenIn, wantsIn, sentIn, roundSeat, misplaced, headAfter, servedIn, roundOf}
-use Rattle.yard_tables.specs.Step.{round, step}
+use Rattle.yard_tables.specs.Step.{leave, round, step}
 use Rattle.yard_tables.specs.declared.Head.{Head}
 use Rattle.yard_tables.specs.declared.Seat.{Seat}
 use Rattle.yard_tables.proofs.Counts.{count-ext, some-none}
@@ -148,3 +149,37 @@ module _ (y z : Yard) (fine : codeOf (step round y .answer) ≡ 0) (is : z ≡ s
       twice : (b : Bool) → b ≡ not (not b)
       twice true = refl
       twice false = refl
+
+-- ---- leaving, on any tables
+
+module _ (y : Yard) (i : ℕ) where
+  abbrev here : Around
+  here = around (y .head) (getD (y .seats) i cleared) (y .rows) (y .holders)
+
+  -- the free place is given up, and where it last was stays, unless the turn is a refusal
+  abbrev GivesUp : Turn → Type 0
+  GivesUp t = codeOf (t .answer) ≡ 0 → (t .after .head .last ≡ y .head .last) × (t .after .head .free ≡ cond (eqb (y .head .free) i) nobody (y .head .free))
+
+  gives-up : GivesUp (leaveOf i (length (y .seats)) here)
+  unfolding leaveOf leftBy
+  gives-up =
+      by-test GivesUp (sizesFit (y .head) (length (y .seats)) (length (y .rows)) (length (y .holders)))
+      (λ a. by-test GivesUp (ltb i (length (y .seats)) && on (getD (y .seats) i cleared .taken))
+      (λ b. by-test GivesUp (atZero i here) (λ c e. absurd (omega arith)) (λ c e. (refl, refl)))
+      (λ b e. absurd (omega arith)))
+      (λ a e. absurd (omega arith))
+
+  module _ (z : Head) (fine : codeOf (step (leave i) y .answer) ≡ 0) (is : z ≡ step (leave i) y .yard .head) where
+    pub leave-last : z .last ≡ y .head .last
+    unfolding step
+    leave-last = ap (λ (h : Head). h .last) is ∙ gives-up fine .0
+
+    free-then : z .free ≡ cond (eqb (y .head .free) i) nobody (y .head .free)
+    unfolding step
+    free-then = ap (λ (h : Head). h .free) is ∙ gives-up fine .1
+
+    pub leave-holder : y .head .free ≡ i → z .free ≡ nobody
+    leave-holder e = free-then ∙ sym (pick-yes (y .head .free) (eqb (y .head .free) i) (eq-eqb (y .head .free) i e) refl)
+
+    pub leave-other : (y .head .free ≡ i → ⊥) → z .free ≡ y .head .free
+    leave-other e = free-then ∙ sym (pick-no nobody (eqb (y .head .free) i) (ne-eqb (y .head .free) i e) refl)

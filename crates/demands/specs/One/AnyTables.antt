@@ -1,6 +1,6 @@
 -- On any tables, whatever made them: 20, 21, 30 to 37 and wait are given exactly when their cause holds by what the tables say. 38 and 39 are in One/Numbers.antt. r is the
 -- number that C gets, as the contract of the call permits it (`Permits`: Program.antt), 255 for a wait; `byTables` is who sits, who is fresh, the sizes and the marks
--- (yard_laws/specs/View.antt). And what a round leaves of them. Assumes nothing.
+-- (yard_laws/specs/View.antt). And what a round leaves of them, and leaving of the free place. Assumes nothing.
 use mathlib.Core.Path.{_≡_, sym, ap, _∙_}
 use mathlib.Core.Logic.{_↔_, Iff·trans}
 use mathlib.Core.Bool.{true, false, not, _&&_, _||_}
@@ -12,7 +12,7 @@ use lib.ListN.{length, getD}
 use Rattle.yard_tables.specs.Counting.{count}
 use Rattle.yard_tables.specs.Seats.{on, cleared, weChoke, having}
 use Rattle.yard_tables.specs.Tables.{Yard, Out, yardOf}
-use Rattle.yard_tables.specs.Rounds.{takenIn, wantsIn, sentIn, chosen}
+use Rattle.yard_tables.specs.Rounds.{nobody, takenIn, wantsIn, sentIn, chosen}
 use Rattle.yard_tables.specs.Step.{Call, step}
 use Rattle.yard_tables.specs.declared.Seat.{Seat}
 use Rattle.yard_telling.specs.Telling.{codeOf, toldOf}
@@ -70,3 +70,13 @@ module _ (t : Tables) (r : ℕ) (told : Lent Told) (e : yard.round-ensures (t .r
       ap (λ (x : Told). x .value) (e .1 ∙ ap (λ (o : Out). toldOf (o .answer) (before told)) (after-round.round-left (found t) then fine (e .2))) in
       let k = after-round.five-left (found t) then fine (e .2) in
       (v ∙ k .0, rw v (k .1))
+
+-- "Leaving gives it up: the free place becomes nobody, `last` stays"
+pub tables-given-up : (t : Tables) (i r : ℕ) → yard.leave-ensures i r (t .head) (t .seats) (t .rows) (t .holders) → r ≡ 0
+    → (after (t .head) .last ≡ before (t .head) .last)
+    × (before (t .head) .free ≡ i → after (t .head) .free ≡ nobody)
+    × ((before (t .head) .free ≡ i → ⊥) → after (t .head) .free ≡ before (t .head) .free)
+tables-given-up t i r e unrefused =
+    let fine : codeOf (step (Call.leave i) (found t) .answer) ≡ 0 = sym (e .0) ∙ unrefused in
+    let is : after (t .head) ≡ step (Call.leave i) (found t) .yard .head = ap (λ (x : Yard). x .head) (e .1) in
+    (after-round.leave-last (found t) i (after (t .head)) fine is, after-round.leave-holder (found t) i (after (t .head)) fine is, after-round.leave-other (found t) i (after (t .head)) fine is)
