@@ -1,25 +1,27 @@
 -- What a round leaves of the tables, from the history before it, and of any tables; and that leaving gives the free place up. Assumes nothing.
 use mathlib.Core.Path.{_≡_, refl, sym, ap, _∙_, subst}
-use mathlib.Core.Logic.{_⊎_, inl, inr}
-use mathlib.Core.Bool.{Bool, true, false, not, cond, _&&_, _||_}
+use mathlib.Core.Logic.{_⊎_, inl, inr, ⊎-elim}
+use mathlib.Core.Bool.{Bool, true, false, not, cond, _&&_, _||_, Bool·not-not}
 use mathlib.Core.List.{[]}
 use Prim.Native.Nat.{ℕ, _≤_, _<_}
 use native.Mathlib.Omega.{arith}
-use borrow.Author.Tests.{eq-eqb, ne-eqb}
-use lib.Dec.{eqb, ltb}
+use borrow.Author.Tests.{eq-eqb, ne-eqb, leb-false}
+use lib.Dec.{eqb, ltb, leb}
 use lib.ListN.{length, getD}
 use Rattle.refusal.specs.Paper.{taken}
-use Rattle.refusal.proofs.Cases.{by-bool, by-test, pick-yes, pick-no}
-use Rattle.yard_tables.specs.Counting.{bit, count}
+use Rattle.refusal.proofs.Cases.{by-bool, by-test, pick-yes, pick-no, or-right}
+use Rattle.yard_tables.specs.Counting.{bit, count, some}
 use Rattle.yard_tables.specs.Seats.{on, cleared, weChoke, having}
 use Rattle.yard_tables.specs.Tables.{Yard, Around, Turn, around, Out, unchoked, yardOf, sizesFit}
 use Rattle.yard_tables.specs.Seating.{atZero, leaveOf, left as leftBy}
-use Rattle.yard_tables.specs.Rounds.{nobody, way, lastThen, chosen, takenIn, wantsIn, sentIn, roundSeat, misplaced, headAfter, servedIn, roundOf}
+use Rattle.yard_tables.specs.Rounds.{nobody, way, nextOf, lastThen, chosen, takenIn, wantsIn, sentIn, roundSeat, misplaced, headAfter, servedIn, roundOf}
 use Rattle.yard_tables.specs.Step.{leave, round, step}
 use Rattle.yard_tables.specs.declared.Head.{Head}
 use Rattle.yard_tables.specs.declared.Seat.{Seat}
 use Rattle.yard_tables.proofs.Counts.{count-ext, some-none}
 use Rattle.yard_tables.proofs.Flags.{on-bit}
+use Rattle.yard_tables.proofs.Ranks.{next-right}
+use Rattle.yard_tables.proofs.Sizing.{fitting}
 use Rattle.yard_laws.specs.History.{History, Fixed, event, seated, wanting, sent, weAreChoking, roundNumber, freePlace, lastPlace, turnOf}
 use Rattle.yard_laws.specs.Says.{unchokes}
 use Rattle.yard_telling.specs.Telling.{codeOf}
@@ -132,23 +134,64 @@ module _ (y z : Yard) (fine : codeOf (step round y .answer) ≡ 0) (is : z ≡ s
   pub spares-left : (i : ℕ) → takenIn (y .seats) i ≡ false → getD (z .seats) i cleared ≡ getD (y .seats) i cleared
   spares-left i f = seat-left i ∙ sym (pick-no (weChoke (not (servedIn (y .head) (y .seats) i)) (having 0 (getD (y .seats) i cleared))) (takenIn (y .seats) i) f refl)
 
-  -- the holder, seated or not
-  pub holder-left : (y .head .round ≡ 0 → ⊥) → z .head .free ≡ y .head .free
-  holder-left f = ap (λ (x : Yard). x .head .free) yard-left ∙ rw (ne-eqb (y .head .round) 0 f)
+  -- the holder, seated or not, and where the free place last was
+  pub holder-left : (y .head .round ≡ 0 → ⊥) → (z .head .free ≡ y .head .free) × (z .head .last ≡ y .head .last)
+  holder-left f =
+      let e = ne-eqb (y .head .round) 0 f in (ap (λ (x : Yard). x .head .free) yard-left ∙ rw e, ap (λ (x : Yard). x .head .last) yard-left ∙ rw e)
+
+  abbrev size : ℕ
+  size = length (y .seats)
+
+  abbrev Within : Out → Type 0
+  Within o = codeOf (o .answer) ≡ 0 → (y .head .last < size) × (size ≤ nobody)
+
+  placed-last : misplaced (y .head) size ≡ false → y .head .last < size
+  unfolding misplaced
+  placed-last b =
+      let here = not (eqb (y .head .free) nobody) && leb size (y .head .free) in
+      leb-false size (y .head .last) (or-right here (leb size (y .head .last)) (or-right (ltb 2 (y .head .round)) (here || leb size (y .head .last)) b))
+
+  last-seat : (y .head .last < size) × (size ≤ nobody)
+  unfolding step roundOf
+  last-seat =
+      by-test Within (sizesFit (y .head) size (length (y .rows)) (length (y .holders)))
+      (λ a. by-test Within (misplaced (y .head) size)
+      (λ b e. absurd (omega arith))
+      (λ b e. (placed-last b, omega (arith, fitting (y .head) size (length (y .rows)) (length (y .holders)) a .seats))))
+      (λ a e. absurd (omega arith))
+      fine
+
+  abbrev next : ℕ
+  next = nextOf size (wantsIn (y .seats)) (y .head .last)
+
+  free-left : y .head .round ≡ 0 → z .head .free ≡ next
+  free-left e = ap (λ (x : Yard). x .head .free) yard-left ∙ rw (eq-eqb (y .head .round) 0 e)
+
+  last-left : y .head .round ≡ 0 → z .head .last ≡ cond (some size (wantsIn (y .seats))) next (y .head .last)
+  last-left e = ap (λ (x : Yard). x .head .last) yard-left ∙ rw (eq-eqb (y .head .round) 0 e)
+
+  -- it is nobody's turn, and where the free place last was stays; or the next seat's, where it then last was
+  abbrev pub TurnOf : ℕ → Type 0
+  TurnOf free =
+      ((free ≡ nobody) × ((i : ℕ) → i < size → wantsIn (y .seats) i ≡ false) × (z .head .last ≡ y .head .last))
+      ⊎ ((free < size) × (wantsIn (y .seats) free ≡ true)
+      × ((j : ℕ) → j < size → wantsIn (y .seats) j ≡ true → way size (y .head .last) free ≤ way size (y .head .last) j) × (z .head .last ≡ free))
+
+  pub next-left : y .head .round ≡ 0 → TurnOf (z .head .free)
+  next-left e = subst TurnOf (sym (free-left e)) (⊎-elim
+      (λ d. inl (d .0, d .1, last-left e ∙ sym (pick-no next (some size (wantsIn (y .seats))) (some-none (wantsIn (y .seats)) size (d .1)) refl)))
+      (λ d. inr (d .0, d .1, d .2, last-left e ∙ sym (pick-yes (y .head .last) (some size (wantsIn (y .seats))) (some-has (wantsIn (y .seats)) size next (d .0) (d .1)) refl)))
+      (next-right size (wantsIn (y .seats)) (y .head .last) (last-seat .0) (last-seat .1)))
 
   -- how many
   pub five-left : (many ≡ count (length (y .seats)) (λ i. takenIn (y .seats) i && not (on (getD (z .seats) i cleared .«am_choking»)))) × (many ≤ 5)
   five-left = (
     count-ext _ _ (length (y .seats)) (λ i l. by-bool (takenIn (y .seats) i)
         (λ t. ap (λ (b : Bool). takenIn (y .seats) i && b)
-        (twice (servedIn (y .head) (y .seats) i) ∙ ap not (sym (ap (λ (s : Seat). on (s .«am_choking»)) (served-left i t) ∙ on-bit (not (servedIn (y .head) (y .seats) i))))))
+        (sym (Bool·not-not (servedIn (y .head) (y .seats) i)) ∙ ap not (sym (ap (λ (s : Seat). on (s .«am_choking»)) (served-left i t) ∙ on-bit (not (servedIn (y .head) (y .seats) i))))))
         (λ f. let same : (c d : Bool) → (takenIn (y .seats) i && c) ≡ (takenIn (y .seats) i && d) = λ c d. rw f in same _ _)),
     served-few (length (y .seats)) (wantsIn (y .seats)) (sentIn (y .seats)) (headAfter (y .head) (y .seats) .free) (takenIn (y .seats)),
   )
-    where
-      twice : (b : Bool) → b ≡ not (not b)
-      twice true = refl
-      twice false = refl
 
 -- ---- leaving, on any tables
 

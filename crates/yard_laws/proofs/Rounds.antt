@@ -6,7 +6,7 @@ use mathlib.Core.Bool.{Bool, true, false, not, cond, _&&_}
 use mathlib.Core.List.{List, [], _∷_}
 use Prim.Native.Nat.{ℕ, _+_, _-_, _≤_, _<_}
 use native.Mathlib.Omega.{arith}
-use borrow.Author.Tests.{eq-eqb, ne-eqb, ltb-true, lt-ltb, le-ltb, lt-leb}
+use borrow.Author.Tests.{eq-eqb, ne-eqb, eqb-true, ltb-true, lt-ltb, le-ltb, lt-leb}
 use lib.Dec.{eqb, leb}
 use lib.ListN.{length, getD, List·getD-eq-default}
 use Rattle.refusal.specs.Paper.{Outcome, taken, refused}
@@ -22,8 +22,7 @@ use Rattle.yard_tables.specs.Rounds.{nobody, way, nextOf, freeThen, lastThen, b
 use Rattle.yard_tables.specs.Step.{Call, start, sit, leave, feed, choke, interest, missing, scarcest, look, has, count as countAt, round, step}
 use Rattle.yard_tables.specs.declared.Head.{Head}
 use Rattle.yard_tables.specs.declared.Seat.{Seat}
-use Rattle.yard_tables.proofs.Counts.{bit-le, count-ext, count-sub, count-none, count-or, some-none}
-use Rattle.yard_tables.proofs.Single.{count-only}
+use Rattle.yard_tables.proofs.Counts.{count-ext, count-sub, count-once, count-or, some-none}
 use Rattle.yard_tables.proofs.Ranks.{chosen-few, next-right}
 use Rattle.yard_tables.proofs.Flags.{on-bit}
 use Rattle.yard_tables.proofs.Sweeps.{length-each, getD-each}
@@ -209,12 +208,6 @@ last-after fixed h k w = refl
 
 -- ---- whom a round unchokes
 
--- at most one number is k
-one-at-most : (n k : ℕ) → count n (λ i. eqb i k) ≤ 1
-one-at-most n k = less-or k n
-    (λ l. omega (arith, count-only (λ i. eqb i k) k (λ i d. ne-eqb i k d) n l, bit-le (eqb k k)))
-    (λ l. omega (arith, count-none (λ i. eqb i k) n (λ i q. ne-eqb i k (λ e. omega arith))))
-
 -- of those that sit at most five are served: the four, and the holder of the free place
 pub served-few : (n : ℕ) (wants : ℕ → Bool) (bytes : ℕ → ℕ) (free : ℕ) (sits : ℕ → Bool) → count n (λ i. sits i && served n wants bytes free i) ≤ 5
 served-few n wants bytes free sits =
@@ -225,7 +218,7 @@ served-few n wants bytes free sits =
       count-or four (λ i. eqb i free) n,
       count-sub (λ i. eqb i free && not (four i)) (λ i. eqb i free) n (λ i e. both (eqb i free) (not (four i)) e .0),
       chosen-few n wants bytes,
-      one-at-most n free,
+      count-once (λ i. eqb i free) n (λ i j a b p q. eqb-true i free p ∙ sym (eqb-true j free q)),
     )
 
 module _ (fixed : Fixed) (h : History) where

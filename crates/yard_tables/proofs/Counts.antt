@@ -5,7 +5,7 @@ use mathlib.Core.Bool.{Bool, true, false, not, _&&_, _||_}
 use Prim.Native.Nat.{ℕ, zero, suc, _+_, _≤_, _<_}
 use native.Mathlib.Nat.{eq-or-lt-of-le, le-of-suc-le-suc, not-suc-le-zero}
 use native.Mathlib.Omega.{arith}
-use Rattle.refusal.proofs.Cases.{same-or, cannot, or-none, or-left, or-right}
+use Rattle.refusal.proofs.Cases.{same-or, cannot, by-bool, or-none, or-left, or-right, false-if}
 use Rattle.yard_tables.specs.Counting.{bit, count, some}
 
 pub bit-le : (b : Bool) → bit b ≤ 1
@@ -73,6 +73,30 @@ module _ (f g : ℕ → Bool) where
   pub count-or : (n : ℕ) → count n (λ k. f k || g k) ≡ count n f + count n (λ k. g k && not (f k))
   count-or zero = refl
   count-or (suc n) = omega (arith, count-or n, or-split (f n) (g n))
+
+module _ (f g : ℕ → Bool) where
+  -- where f has it g has it, and g has it at i, where f lacks it
+  pub count-less : (n i : ℕ) → i < n → ((k : ℕ) → f k ≡ true → g k ≡ true) → f i ≡ false → g i ≡ true → count n f < count n g
+  count-less zero i l h a b = absurd (not-suc-le-zero l)
+  count-less (suc n) i l h a b = same-or i n
+      (λ e. let x : bit (f n) ≡ 0 = ap bit (rw e at a) in
+      let y : bit (g n) ≡ 1 = ap bit (rw e at b) in
+      omega (arith, count-sub f g n h))
+      (λ e. omega (arith, count-less n i (omega arith) h a b, bit-sub (f n) (g n) (h n)))
+
+-- f is g or else h
+pub count-sum : (f g h : ℕ → Bool) (n : ℕ) → ((k : ℕ) → bit (f k) ≡ bit (g k) + bit (h k)) → count n f ≡ count n g + count n h
+count-sum f g h zero e = refl
+count-sum f g h (suc n) e = omega (arith, count-sum f g h n e, e n)
+
+-- no two have it
+pub count-once : (f : ℕ → Bool) (n : ℕ) → ((i j : ℕ) → i < n → j < n → f i ≡ true → f j ≡ true → i ≡ j) → count n f ≤ 1
+count-once f zero h = omega arith
+count-once f (suc n) h = by-bool (f n)
+    (λ e. let z : count n f ≡ 0 = count-none f n (λ k l. false-if (f k) (λ t. omega (arith, h k n (omega arith) (omega arith) t e))) in
+    omega (arith, bit-le (f n)))
+    (λ e. let z : bit (f n) ≡ 0 = ap bit e in
+    omega (arith, count-once f n (λ i j a b. h i j (omega arith) (omega arith))))
 
 module _ (f : ℕ → Bool) where
   pub some-none : (n : ℕ) → ((k : ℕ) → k < n → f k ≡ false) → some n f ≡ false

@@ -18,9 +18,9 @@ use Rattle.yard_tables.specs.declared.Head.{Head}
 use Rattle.yard_tables.specs.declared.Seat.{Seat}
 use Rattle.yard_tables.specs.declared.rank.Place.{Place}
 use Rattle.yard_tables.specs.declared.rank.Ranking.{Ranking}
-use Rattle.yard_tables.proofs.Counts.{bit-le, bit-sub, count-sub, count-none, count-has, some-none, some-every}
+use Rattle.yard_tables.proofs.Counts.{bit-le, count-sub, count-less, count-sum, count-once, count-none, count-has, some-none, some-every}
 
--- ---- tests and counts
+-- ---- tests
 
 any-four : (a b c d : Bool) {q : Bool} → (a ≡ true → q ≡ true) → (b ≡ true → q ≡ true) → (c ≡ true → q ≡ true) → (d ≡ true → q ≡ true)
     → (a || (b || (c || d))) ≡ true → q ≡ true
@@ -31,30 +31,6 @@ any-four false false false d ha hb hc hd e = hd e
 
 or-later : (a : Bool) {b : Bool} → b ≡ true → (a || b) ≡ true
 or-later a e = rw e (or-true a)
-
-module _ (f g : ℕ → Bool) where
-  -- where f has it g has it, and g has it at i, where f lacks it
-  count-less : (n i : ℕ) → i < n → ((k : ℕ) → f k ≡ true → g k ≡ true) → f i ≡ false → g i ≡ true → count n f < count n g
-  count-less zero i l h a b = absurd (not-suc-le-zero l)
-  count-less (suc n) i l h a b = same-or i n
-      (λ e. let x : bit (f n) ≡ 0 = ap bit (rw e at a) in
-      let y : bit (g n) ≡ 1 = ap bit (rw e at b) in
-      omega (arith, count-sub f g n h))
-      (λ e. omega (arith, count-less n i (omega arith) h a b, bit-sub (f n) (g n) (h n)))
-
--- f is g or else h
-count-sum : (f g h : ℕ → Bool) (n : ℕ) → ((k : ℕ) → bit (f k) ≡ bit (g k) + bit (h k)) → count n f ≡ count n g + count n h
-count-sum f g h zero e = refl
-count-sum f g h (suc n) e = omega (arith, count-sum f g h n e, e n)
-
--- no two have it
-count-once : (f : ℕ → Bool) (n : ℕ) → ((i j : ℕ) → i < n → j < n → f i ≡ true → f j ≡ true → i ≡ j) → count n f ≤ 1
-count-once f zero h = omega arith
-count-once f (suc n) h = by-bool (f n)
-    (λ e. let z : count n f ≡ 0 = count-none f n (λ k l. false-if (f k) (λ t. omega (arith, h k n (omega arith) (omega arith) t e))) in
-    omega (arith, bit-le (f n)))
-    (λ e. let z : bit (f n) ≡ 0 = ap bit e in
-    omega (arith, count-once f n (λ i j a b. h i j (omega arith) (omega arith))))
 
 -- ---- who comes before whom
 

@@ -2,7 +2,7 @@
 -- number that C gets, as the contract of the call permits it (`Permits`: Program.antt), 255 for a wait; `byTables` is who sits, who is fresh, the sizes and the marks
 -- (yard_laws/specs/View.antt). And what a round leaves of them, and leaving of the free place. Assumes nothing.
 use mathlib.Core.Path.{_≡_, sym, ap, _∙_}
-use mathlib.Core.Logic.{_↔_, Iff·trans}
+use mathlib.Core.Logic.{_⊎_, _↔_, Iff·trans}
 use mathlib.Core.Bool.{true, false, not, _&&_, _||_}
 use mathlib.Core.List.{List}
 use Prim.Native.Nat.{ℕ, _≤_, _<_}
@@ -12,7 +12,7 @@ use lib.ListN.{length, getD}
 use Rattle.yard_tables.specs.Counting.{count}
 use Rattle.yard_tables.specs.Seats.{on, cleared, weChoke, having}
 use Rattle.yard_tables.specs.Tables.{Yard, Out, yardOf}
-use Rattle.yard_tables.specs.Rounds.{nobody, takenIn, wantsIn, sentIn, chosen}
+use Rattle.yard_tables.specs.Rounds.{nobody, way, takenIn, wantsIn, sentIn, chosen}
 use Rattle.yard_tables.specs.Step.{Call, step}
 use Rattle.yard_tables.specs.declared.Seat.{Seat}
 use Rattle.yard_telling.specs.Telling.{codeOf, toldOf}
@@ -59,8 +59,16 @@ module _ (t : Tables) (r : ℕ) (told : Lent Told) (e : yard.round-ensures (t .r
   pub tables-spares : (i : ℕ) → takenIn seats i ≡ false → getD (after (t .seats)) i cleared ≡ getD seats i cleared
   tables-spares = after-round.spares-left (found t) then fine (e .2)
 
-  -- "a free place that names a free seat is kept", as any other is until it goes on
-  pub tables-holder : (before (t .head) .round ≡ 0 → ⊥) → free ≡ before (t .head) .free
+  -- "On round number 0 the free place goes to the next seat", whose turn it is by the seats' own records; or "to nobody if no seat is interested, and `last` then stays"
+  pub tables-next : before (t .head) .round ≡ 0
+      → ((free ≡ nobody) × ((i : ℕ) → i < length seats → wantsIn seats i ≡ false) × (after (t .head) .last ≡ before (t .head) .last))
+      ⊎ ((free < length seats) × (wantsIn seats free ≡ true)
+      × ((j : ℕ) → j < length seats → wantsIn seats j ≡ true → way (length seats) (before (t .head) .last) free ≤ way (length seats) (before (t .head) .last) j)
+      × (after (t .head) .last ≡ free))
+  tables-next = after-round.next-left (found t) then fine (e .2)
+
+  -- on other rounds "a free place that names a free seat is kept", as any other is
+  pub tables-holder : (before (t .head) .round ≡ 0 → ⊥) → (free ≡ before (t .head) .free) × (after (t .head) .last ≡ before (t .head) .last)
   tables-holder = after-round.holder-left (found t) then fine (e .2)
 
   -- "how many trucks are now unchoked": of the taken seats, and at most five
