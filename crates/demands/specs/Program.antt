@@ -1,20 +1,28 @@
 -- What a program does that starts a yard and then makes any calls: each as its own contract permits it. Assumes nothing.
-use mathlib.Core.Path.{_≡_, sym, ap, _∙_}
+use mathlib.Core.Path.{_≡_, sym, ap, subst, _∙_}
 use mathlib.Core.Bool.{Bool}
 use mathlib.Core.List.{List, [], _∷_}
-use Prim.Native.Nat.{ℕ}
-use lib.ListN.{length}
+use Prim.Native.Nat.{ℕ, _≤_}
+use lib.Dec.{ltb}
+use lib.ListN.{length, getD, take}
+use lib.Seq.{sets}
+use Rattle.paging_laws.specs.Pages.{Printed, PageOf, Follows}
 use Rattle.refusal.specs.Paper.{taken}
+use Rattle.yard_tables.specs.Seats.{cleared}
+use Rattle.yard_tables.specs.Looks.{isMissing}
 use Rattle.yard_tables.specs.Tables.{Yard, yardOf, done}
 use Rattle.yard_tables.specs.Step.{Call, step, written}
 use Rattle.yard_tables.specs.declared.Head.{Head}
 use Rattle.yard_tables.specs.declared.Seat.{Seat}
-use Rattle.yard_telling.specs.Telling.{codeOf, toldOf}
+use Rattle.yard_telling.specs.Telling.{codeOf, toldOf, Looks}
 use Rattle.yard_telling.specs.declared.Told.{Told}
 use Rattle.yard_laws.specs.History.{History, sizesOf, entry}
 use Rattle.yard.proofs.Looking.{missing-changes-nothing, scarcest-changes-nothing, look-changes-nothing, has-changes-nothing, count-changes-nothing}
 use Rattle.yard_laws.specs.Run.{Run, begins, goes-on}
+use Rattle.yard_laws.specs.Damage.{Fit}
+use Rattle.demands_laws.specs.Paging.{Paged}
 use Rattle.demands_laws.proofs.Runs.{start-taken}
+use Rattle.demands_laws.proofs.Paging.{all, page-of, paged}
 use Rattle.demands.specs.One.{Lent, before, after}
 use Rattle.demands.specs.One.Doors.Yard as yard
 
@@ -76,6 +84,14 @@ pub data Made (lent : Yard) : History → Yard → Type 0 where
   called : (h : History) (t : Tables) (c : Call) (r : ℕ) (z : Yard) → Made lent h (found t) → Permits t c r z
       → Made lent (entry c (step c (found t) .answer) (written c (found t)) ∷ h) z
 
+-- a page of the missing list is asked for from a first seat on, with room for a line at least and anything on it: what the caller has of it, and the tables that are left
+pub data Asks (y : Yard) (first : ℕ) : Printed ℕ → Yard → Type 0 where
+  asks : (t : Tables) → found t ≡ y → (r : ℕ) (page : Lent (List ℕ)) (told : Lent Told) → 1 ≤ length (before page)
+      → yard.missing-ensures (t .seats) (t .rows) (t .holders) first r (t .head) page told
+      → Asks y first
+      (record { number = r; room = length (before page); lines = take (after told .value) (after page); total = after told .total; next = after told .next })
+      (yardOf (after (t .head)) (before (t .seats)) (before (t .rows)) (before (t .holders)))
+
 -- ---- so every call makes the step of its definition, and what a program made is a run of them
 
 -- a look leaves the head
@@ -113,3 +129,17 @@ made-run lent h y (started t p l k z f e) =
     begins (sizesOf p l k) z (start-taken (sizesOf p l k) lent (sym (m .0 ∙ ap (λ (x : Yard). codeOf (step (Call.start p l k) x .answer)) f)))
     (m .1 ∙ ap (λ (x : Yard). step (Call.start p l k) x .yard) f)
 made-run lent h y (called g t c r z m e) = goes-on g (found t) c z (made-run lent g (found t) m) (permits-step t c r z e .1)
+
+-- a page that is asked for leaves the tables, and pages from seat 0 on give the list of the missing, where f says of each seat whether it is
+pub asks-paged : (y : Yard) → Fit y → (f : ℕ → Bool) → ((j : ℕ) → isMissing (y .head .pieces) (getD (y .seats) j cleared) ≡ f j)
+    → (pages : List (Printed ℕ)) (next : ℕ) → Follows Asks (length (y .seats)) y 0 pages next → Paged f (length (y .seats)) pages next
+asks-paged y fit f is = paged y fit f is Asks right
+  where
+    right : (a : ℕ) (p : Printed ℕ) (z : Yard) → a ≤ length (y .seats) → Asks y a p z → (z ≡ y) × PageOf ltb (all y fit f is) (length (y .seats)) a p
+    right a p z h (asks t e r page told roomy c) =
+        let call = Call.missing a (length (before page)) in (
+          stays t (c .2) ∙ e,
+          page-of y fit f is a h (before page) (after page) roomy r (before told) (after told)
+          (subst (λ (x : Yard). Looks (step call x .answer) (before told) r (after told)) e (c .0))
+          (c .1 ∙ ap (λ (x : Yard). sets (before page) 0 (written call x)) e),
+        )

@@ -11,6 +11,7 @@ use lib.Dec.{eqb, ltb}
 use lib.ListN.{length, getD, take, drop}
 use lib.Seq.{sets}
 use Rattle.refusal.specs.Paper.{Outcome, taken, refused}
+use Rattle.paging_laws.specs.Pages.{Printed, Follows, printed}
 use Rattle.peer_wire.specs.Causes.{Zero}
 use Rattle.yard_tables.specs.Counting.{bit, count, some}
 use Rattle.yard_tables.specs.Rows.{width, hasIn}
@@ -23,7 +24,7 @@ use Rattle.yard_tables.specs.declared.Head.{Head}
 use Rattle.yard_tables.specs.declared.Seat.{Seat}
 use Rattle.yard_tables.specs.declared.Page.{Page}
 use Rattle.yard_laws.specs.History.{History, Fixed, entry, sizesOf, seated, announced, fresh, Spoke, weAreChoking, weAreInterested, theyAreChoking, theyAreInterested, pieces, sizesSet, sent, wanting, roundNumber, freePlace, lastPlace, cameIn, blockIn}
-use Rattle.yard_laws.specs.Says.{allOf, recordOf, Ascending, holders, unchokes}
+use Rattle.yard_laws.specs.Says.{allOf, lacking, recordOf, Ascending, holders, unchokes}
 use Rattle.yard_laws.specs.Expected.{answer, output}
 use Rattle.yard_laws.specs.Causes.{Sits, Cause, WaitCause, Serves, Drops}
 use Rattle.yard_laws.specs.Given.{Gives, Writes}
@@ -34,10 +35,12 @@ use Rattle.yard_laws.proofs.Calls.{sizes-here}
 use Rattle.yard_laws.proofs.Theorem as theorem
 use Rattle.yard_laws.proofs.Demand as demand
 use Rattle.yard_laws.proofs.Pages as pages
+use Rattle.yard_laws.proofs.Looks as looks
 use Rattle.yard_laws.proofs.Keepalive as keepalive
 use Rattle.yard_laws.proofs.Rounds as rounds
 use Rattle.yard_telling.specs.Telling.{codeOf, toldOf, shownOf}
 use Rattle.yard_telling.specs.declared.Told.{Told}
+use Rattle.demands_laws.specs.Paging.{Paged}
 use Rattle.demands_laws.proofs.Refusals.{same-answer}
 use Rattle.demands_laws.proofs.Keeping.{same-tables}
 use Rattle.demands_laws.proofs.Tables.{no-wait}
@@ -45,11 +48,11 @@ use Rattle.demands_laws.proofs.Runs as runs
 use Rattle.demands_laws.proofs.Rounds as after-round
 use Rattle.demands_laws.proofs.Runs.{start-taken}
 use Rattle.demands_laws.proofs.Numbered.{number-refuses, number-waits, at-any-place, page-told}
-use Rattle.demands_laws.proofs.Paging.{page-total, page-listed}
+use Rattle.demands_laws.proofs.Paging.{page-total, page-listed, in-all}
 use Rattle.demands_laws.proofs.Loaded.{nobody-lacks}
 use Rattle.demands.specs.One.{Lent, before, after}
 use Rattle.demands.specs.One.Doors.Yard as yard
-use Rattle.demands.specs.Program.{Tables, found, Permits, Telling, Made, permits-step, telling-step, made-run}
+use Rattle.demands.specs.Program.{Tables, found, Permits, Telling, Made, Asks, permits-step, telling-step, made-run, asks-paged}
 
 -- a start is accepted exactly when the sizes are legal and the lent tables have them, whatever stands in the tables
 pub start-exact : (p l k : ℕ) (t : Tables) (r : ℕ) → yard.start-ensures p l k r (t .head) (t .seats) (t .rows) (t .holders) → r ≡ 0 ↔ SizesFit (sizesOf p l k) (found t)
@@ -257,6 +260,23 @@ module _ (lent : Yard) (h : History) (y : Yard) (made : Made lent h y) where
       let space = length (before page) in
       let (x, q, g) = page-told fixed h first space (ap (λ (z : Yard). step (missing first space) z .answer) f ∙ answer-right (missing first space)) (before told) (after told) (e .0) in
       Iff·trans (same-answer g) (all-loaded first space x (sym (ap (λ (z : Yard). step (missing first space) z .answer) f) ∙ q))
+
+  -- ---- Document 02, ticket 7: "I print the missing list on any paper"
+
+  -- pages of any sizes of at least one line, "following "next" from seat 0" and "no other call between" (`Asks`: Program.antt; `Follows`, and all that they `Give`:
+  -- paging_laws/specs/Pages.antt; `Paged`: demands_laws/specs/Paging.antt)
+  pub paging-right : (pages : List (Printed ℕ)) (next : ℕ) → Follows Asks seats y 0 pages next
+      → Paged (λ i. seated h i && some (pieces h) (λ p. not (announced h i p))) seats pages next
+  paging-right pages next =
+      subst (λ (n : ℕ). Follows Asks n y 0 pages next → Paged (lacking h) n pages next) (agrees .seats-len)
+      (asks-paged y (demand.sizes-fit fixed h y agrees) (lacking h) (looks.lacking-is fixed h y agrees) pages next)
+
+  -- "until it says S": they give "every missing seat once, ascending, in all as many as the total on each page"
+  pub pages-in-all : (pages : List (Printed ℕ)) → Follows Asks seats y 0 pages seats
+      → Ascending 0 (printed pages)
+      × ((j : ℕ) → In j (printed pages) ↔ ((j < seats) × ((seated h j && some (pieces h) (λ p. not (announced h j p))) ≡ true)))
+      × ((p : Printed ℕ) → In p pages → p .total ≡ length (printed pages))
+  pages-in-all pages f = in-all _ seats pages (paging-right pages seats f)
 
   -- ---- 14. "The scarcest piece is the smallest number among those with fewest holders."
 

@@ -2,3 +2,4 @@
 pub mod Texts
 pub mod Causes
 pub mod Places
+pub mod Paging

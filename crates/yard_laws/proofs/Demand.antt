@@ -46,10 +46,14 @@ module _ (fixed : Fixed) (h : History) (y : Yard) (agrees : Agrees fixed h y) wh
   pub complete-right : y .head .complete ≡ count n (loaded h)
   complete-right = ap (λ (k : Head). k .complete) (agrees .head-is)
 
-  -- a truck that sits by the history does so by the tables, whose sizes fit
+  -- the sizes of the tables fit
+  pub sizes-fit : Fit y
+  sizes-fit = fit-is y (ap (λ (k : ℕ). sizesFit (y .head) k (length (y .rows)) (length (y .holders))) (agrees .seats-len) ∙ agrees .fits)
+
+  -- a truck that sits by the history does so by the tables
   pub sits-taken : (i : ℕ) → Sits fixed h i → Fit y × Taken y i
   sits-taken i sits = (
-    fit-is y (ap (λ (k : ℕ). sizesFit (y .head) k (length (y .rows)) (length (y .holders))) (agrees .seats-len) ∙ agrees .fits),
+    sizes-fit,
     (omega (arith, agrees .seats-len, sits .0), ap (λ (x : Seat). on (x .taken)) (agrees .seat-is i) ∙ on-bit (seated h i) ∙ sits .1),
   )
 

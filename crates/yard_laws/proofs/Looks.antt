@@ -1,5 +1,5 @@
 -- Sitting down, the missing list, the scarcest piece and single looks: the answer is the one that the history says. Assumes nothing.
-use mathlib.Core.Path.{_≡_, refl, sym, ap, _∙_, subst}
+use mathlib.Core.Path.{_≡_, refl, sym, ap, ap₂, _∙_, subst}
 use mathlib.Core.Bool.{Bool, not, cond, _&&_}
 use mathlib.Core.List.{List}
 use Prim.Native.Nat.{ℕ}
@@ -50,19 +50,19 @@ module _ (fixed : Fixed) (h : History) (y : Yard) (agrees : Agrees fixed h y) wh
 
   -- ---- the missing list
 
-  lacking-is : (i : ℕ) → isMissing (pieces h) (getD (y .seats) i cleared) ≡ lacking h i
+  pub lacking-is : (i : ℕ) → isMissing (y .head .pieces) (getD (y .seats) i cleared) ≡ lacking h i
   lacking-is i =
-      ap (isMissing (pieces h)) (agrees .seat-is i)
+      ap₂ (λ (k : Head) (s : Seat). isMissing (k .pieces) s) (agrees .head-is) (agrees .seat-is i)
       ∙ ap (λ (b : Bool). b && not (eqb (held h i) (pieces h))) (on-bit (seated h i))
       ∙ sym (lacks-held (seated h i) (announced h i) (pieces h))
 
   pub lines-same : (first space : ℕ) → linesOf (y .head .pieces) first space (y .seats) ≡ take space (missingFrom fixed h first)
-  lines-same first space =
-      ap (λ (k : Head). linesOf (k .pieces) first space (y .seats)) (agrees .head-is)
-      ∙ lines-are (pieces h) (lacking h) n (y .seats) (agrees .seats-len) lacking-is first space
+  lines-same = lines-are (y .head .pieces) (lacking h) n (y .seats) (agrees .seats-len) lacking-is
 
   page-same : (first space : ℕ) → pageIn (pieces h) first space (y .seats) ≡ pageFrom fixed h first space
-  page-same first space = page-is (pieces h) (lacking h) n (y .seats) (agrees .seats-len) lacking-is first space
+  page-same first space =
+      ap (λ (k : Head). pageIn (k .pieces) first space (y .seats)) (sym (agrees .head-is))
+      ∙ page-is (y .head .pieces) (lacking h) n (y .seats) (agrees .seats-len) lacking-is first space
 
   pub missing-kept : (first space : ℕ) (w : List ℕ) → Kept fixed h y agrees (missing first space) w (atSeat 0 (missingOf first space (y .seats)) y)
       (cond (leb first n) (taken (listed (pageFrom fixed h first space))) (no seat))

@@ -34,7 +34,7 @@ those-count f k (suc m) =
     let c : bit (f (k + 0)) ≡ bit (f k) = ap (λ (x : ℕ). bit (f x)) z in
     omega (arith, a, b, c, length-cond (f k) k (those f (suc k) m), count-front m (λ j. f (k + j)))
 
-those-all : (f : ℕ → Bool) (n : ℕ) → length (those f 0 n) ≡ count n f
+pub those-all : (f : ℕ → Bool) (n : ℕ) → length (those f 0 n) ≡ count n f
 those-all f n = those-count f 0 n ∙ count-ext (λ j. f (0 + j)) f n (λ j l. let e : 0 + j ≡ j = omega arith in ap f e)
 
 -- ---- the seats of a list

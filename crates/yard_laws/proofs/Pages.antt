@@ -1,21 +1,19 @@
--- The missing list by the history: who stands on it, in which order, and how a page goes on. Assumes nothing.
+-- The missing list by the history: who stands on it, and in which order. Assumes nothing.
 use mathlib.Core.Path.{_≡_, refl, sym, ap, ap₂, _∙_}
 use mathlib.Core.Logic.{_⊎_, inl, inr, _↔_, Iff·trans, Iff·symm}
-use mathlib.Core.Bool.{Bool, true, false, cond}
-use mathlib.Core.List.{List, [], _∷_, _++_, List·Memᴰ, List·Memᴰ·head, List·Memᴰ·tail, List·Memᴰ·not-nil, List·Memᴰ·cases-cons}
+use mathlib.Core.Bool.{Bool, true}
+use mathlib.Core.List.{List, [], _∷_, List·Memᴰ, List·Memᴰ·head, List·Memᴰ·tail, List·Memᴰ·not-nil, List·Memᴰ·cases-cons}
 use Prim.Native.Nat.{ℕ, zero, suc, _+_, _-_, _≤_, _<_}
 use native.Mathlib.Omega.{arith}
-use lib.ListN.{take, drop, take-append-drop}
 use Rattle.refusal.proofs.Cases.{by-test, same-or, cannot}
-use Rattle.yard_tables.specs.Looks.{firstOr}
 use Rattle.yard_laws.specs.History.{History, Fixed}
 use Rattle.yard_laws.specs.Says.{lacking, Ascending, none, one, Missing}
-use Rattle.yard_laws.specs.Expected.{those, missingFrom, pageFrom}
+use Rattle.yard_laws.specs.Expected.{those, missingFrom}
 
 -- ---- an ascending list is known by its members
 
 -- who stands on one that begins at k or later is not before k
-not-before : {k : ℕ} {l : List ℕ} → Ascending k l → (j : ℕ) → List·Memᴰ j l → k ≤ j
+pub not-before : {k : ℕ} {l : List ℕ} → Ascending k l → (j : ℕ) → List·Memᴰ j l → k ≤ j
 not-before (none k) j i = absurd (List·Memᴰ·not-nil i)
 not-before (one k a l h s) j i = go (List·Memᴰ·cases-cons i) (λ d. let y = not-before s j d in omega arith)
   where
@@ -60,7 +58,7 @@ weaken k l (none j) = none k
 weaken k l (one j a r h s) = one k a r (omega arith) s
 
 module _ (f : ℕ → Bool) where
-  those-ascend : (k m : ℕ) → Ascending k (those f k m)
+  pub those-ascend : (k m : ℕ) → Ascending k (those f k m)
   unfolding those
   those-ascend k zero = none k
   those-ascend k (suc m) = by-test (Ascending k) (f k)
@@ -93,38 +91,8 @@ module _ (f : ℕ → Bool) where
       (λ t. List·Memᴰ·tail (having-there j (suc k) m (omega arith) (omega arith) e))
       (λ t. having-there j (suc k) m (omega arith) (omega arith) e))
 
-  -- what is left after so many of them are those from the next one on
-  module _ (n : ℕ) where
-    abbrev nextOf : List ℕ → ℕ
-    nextOf l = firstOr n l
-
-    Rest : List ℕ → Type 0
-    Rest l = l ≡ those f (nextOf l) (n - nextOf l)
-
-    rest-none : Rest []
-    unfolding Rest those
-    rest-none = let e : n - n ≡ 0 = omega arith in rw e
-
-    rest-those : (k m : ℕ) → k + m ≡ n → Rest (those f k m)
-    unfolding Rest those
-    rest-those k zero e = let q : n - n ≡ 0 = omega arith in rw q
-    rest-those k (suc m) e = go (f k) refl (rest-those (suc k) m (omega arith))
-      where
-        go : (b : Bool) → f k ≡ b → Rest (those f (suc k) m) → Rest (cond b (k ∷ those f (suc k) m) (those f (suc k) m))
-        go true q r = let d : n - k ≡ suc m = omega arith in rw (d, q)
-        go false q r = r
-
-    rest-drop : (j k m : ℕ) → k + m ≡ n → Rest (drop j (those f k m))
-    unfolding those
-    rest-drop zero k m e = rest-those k m e
-    rest-drop (suc j) k zero e = rest-none
-    rest-drop (suc j) k (suc m) e = by-test (λ (l : List ℕ). Rest (drop (suc j) l)) (f k)
-        (λ q. rest-drop j (suc k) m (omega arith))
-        (λ q. rest-drop (suc j) (suc k) m (omega arith))
-
-    rest-is : (j k m : ℕ) → k + m ≡ n → drop j (those f k m) ≡ those f (nextOf (drop j (those f k m))) (n - nextOf (drop j (those f k m)))
-    unfolding Rest
-    rest-is j k m e = rest-drop j k m e
+  pub those-members : (j k m : ℕ) → List·Memᴰ j (those f k m) ↔ ((k ≤ j) × (j < k + m) × (f j ≡ true))
+  those-members j k m = (those-have j k m, λ (a, b, e). having-there j k m a b e)
 
 -- ---- the missing list
 
@@ -133,18 +101,11 @@ module _ (fixed : Fixed) (h : History) (first : ℕ) where
   pub missing-is : first ≤ fixed .seats → Missing fixed h first (missingFrom fixed h first)
   missing-is l = record {
     ascends = those-ascend (lacking h) first (fixed .seats - first);
-    members = λ j. (
-      λ i. let t = those-have (lacking h) j first (fixed .seats - first) i in (t .0, omega (arith, t .1), t .2),
-      λ (a, b, e). having-there (lacking h) j first (fixed .seats - first) a (omega arith) e,
-    );
+    members = λ j.
+        let t = those-members (lacking h) j first (fixed .seats - first) in
+        (λ i. let (a, b, e) = t .0 i in (a, omega arith, e), λ (a, b, e). t .1 (a, omega arith, e));
   }
 
   -- and no other
   pub missing-unique : (l m : List ℕ) → Missing fixed h first l → Missing fixed h first m → l ≡ m
   missing-unique l m a b = ascending-unique l m (a .ascends) (b .ascends) (λ j. Iff·trans (a .members j) (Iff·symm (b .members j)))
-
-  -- it goes on from a page's next seat
-  pub page-goes-on : first ≤ fixed .seats → (space : ℕ) → missingFrom fixed h first ≡ take space (missingFrom fixed h first) ++ missingFrom fixed h (pageFrom fixed h first space .next)
-  page-goes-on l space =
-      sym (take-append-drop space (missingFrom fixed h first))
-      ∙ ap (λ (r : List ℕ). take space (missingFrom fixed h first) ++ r) (rest-is (lacking h) (fixed .seats) space first (fixed .seats - first) (omega arith))

@@ -1,7 +1,7 @@
 -- On any tables, whatever made them: 20, 21, 30 to 37 and wait are given exactly when their cause holds by what the tables say. 38 and 39 are in One/Numbers.antt. r is the
 -- number that C gets, as the contract of the call permits it (`Permits`: Program.antt), 255 for a wait; `byTables` is who sits, who is fresh, the sizes and the marks
--- (yard_laws/specs/View.antt). And what a round leaves of them, and leaving of the free place. Assumes nothing.
-use mathlib.Core.Path.{_≡_, sym, ap, _∙_}
+-- (yard_laws/specs/View.antt). And what a round leaves of them, leaving of the free place, and what pages of the missing list give. Assumes nothing.
+use mathlib.Core.Path.{_≡_, refl, sym, ap, _∙_}
 use mathlib.Core.Logic.{_⊎_, _↔_, Iff·trans}
 use mathlib.Core.Bool.{true, false, not, _&&_, _||_}
 use mathlib.Core.List.{List}
@@ -9,6 +9,7 @@ use Prim.Native.Nat.{ℕ, _≤_, _<_}
 use native.Mathlib.Omega.{arith}
 use lib.Dec.{eqb}
 use lib.ListN.{length, getD}
+use Rattle.paging_laws.specs.Pages.{Printed, Follows}
 use Rattle.yard_tables.specs.Counting.{count}
 use Rattle.yard_tables.specs.Seats.{on, cleared, weChoke, having}
 use Rattle.yard_tables.specs.Tables.{Yard, Out, yardOf}
@@ -21,12 +22,13 @@ use Rattle.yard_laws.specs.View.{byTables}
 use Rattle.yard_laws.specs.Causes.{CauseBy, WaitBy}
 use Rattle.yard_laws.specs.Damage.{Fit}
 use Rattle.yard_laws.proofs.OnTables as tables
+use Rattle.demands_laws.specs.Paging.{Paged}
 use Rattle.demands_laws.proofs.Numbered.{number-given, number-waits}
 use Rattle.demands_laws.proofs.Tables.{on-tables, no-wait}
 use Rattle.demands_laws.proofs.Rounds as after-round
 use Rattle.demands.specs.One.{Lent, before, after}
 use Rattle.demands.specs.One.Doors.Yard as yard
-use Rattle.demands.specs.Program.{Tables, found, Permits, permits-step}
+use Rattle.demands.specs.Program.{Tables, found, Permits, permits-step, Asks, asks-paged}
 
 module _ (t : Tables) (c : Call) (r : ℕ) (z : Yard) (e : Permits t c r z) where
   pub tables-refuse : (number : ℕ) → 1 ≤ number → number < 38 → r ≡ number ↔ (Fit (found t) × CauseBy (byTables (found t)) c number)
@@ -88,3 +90,9 @@ tables-given-up t i r e unrefused =
     let fine : codeOf (step (Call.leave i) (found t) .answer) ≡ 0 = sym (e .0) ∙ unrefused in
     let is : after (t .head) ≡ step (Call.leave i) (found t) .yard .head = ap (λ (x : Yard). x .head) (e .1) in
     (after-round.leave-last (found t) i (after (t .head)) fine is, after-round.leave-holder (found t) i (after (t .head)) fine is, after-round.leave-other (found t) i (after (t .head)) fine is)
+
+-- ---- document 02, ticket 7: paging, with "taken and held not P" of the seats' own records in place of the history
+
+pub tables-paging : (y : Yard) → Fit y → (pages : List (Printed ℕ)) (next : ℕ) → Follows Asks (length (y .seats)) y 0 pages next
+    → Paged (λ i. takenIn (y .seats) i && not (eqb (getD (y .seats) i cleared .held) (y .head .pieces))) (length (y .seats)) pages next
+tables-paging y fit = asks-paged y fit _ (λ j. refl)

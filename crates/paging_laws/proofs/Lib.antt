@@ -1,0 +1,2 @@
+-- What following `next` gives.
+pub mod Following
