@@ -432,13 +432,30 @@ static void any_look(struct yard *y) {
     for (size_t k = 0; k < told.listed; k++) says("any bytes: a missing seat", want.seats[page[k]].taken && want.seats[page[k]].held != PIECES);
 }
 
+/* The missing list on pages of any sizes, from seat 0 on and then from each `next` until that is the number of seats. */
+static void any_pages(struct yard *y) {
+    struct yard want = *y;
+    uint32_t missing[SEATS], page[SEATS + 1];
+    size_t total = 0, listed = 0, pages = 0;
+    for (uint32_t i = 0; i < SEATS; i++)
+        if (want.seats[i].taken && want.seats[i].held != PIECES) missing[total++] = i;
+    for (told.next = 0; told.next != SEATS && pages <= SEATS; pages++) {
+        size_t room = 1 + any() % (SEATS + 1);
+        bool taken = wardrail_yard_missing(TABLES(y), told.next, page, room, &told) == 0 && told.total == total;
+        bool full = told.next == SEATS || told.listed == room;
+        same("any bytes: a page", y, &want, taken && full && listed + told.listed <= total && !memcmp(page, missing + listed, told.listed * sizeof *page));
+        listed += told.listed;
+    }
+    says("any bytes: all pages", listed == total && pages >= 1 && pages <= (total ? total : 1));
+}
+
 static void any_bytes(void) {
     for (int turn = 0; turn < 3000; turn++) {
         struct yard y = scribbled();
         unfit("any bytes, the head's too", y);
         started(y);
         y = fitting();
-        for (int call = 0; call < 5; call++) any_seating(&y), any_frame(&y), any_mark(&y), any_frame(&y), any_look(&y), any_round(&y);
+        for (int call = 0; call < 5; call++) any_seating(&y), any_frame(&y), any_mark(&y), any_frame(&y), any_look(&y), any_pages(&y), any_round(&y);
     }
 }
 

@@ -95,7 +95,17 @@ uint64_t wardrail_yard_interest(struct wardrail_head *head, struct wardrail_seat
 uint64_t wardrail_yard_round(struct wardrail_head *head, struct wardrail_seat *seats, size_t seats_count, const uint8_t *rows,
                              size_t rows_count, const uint16_t *holders, size_t holders_count, struct wardrail_told *told);
 
-/* The missing list from seat `first` on: as many seats as fit go to the start of `page`, `listed` becomes how many. 38, 36. */
+/* The missing list from seat `first` on: as many seats as fit go to the start of `page`, `listed` becomes how many. 38, 36.
+ * Pages of any sizes, of one line at least, from seat 0 on and then from each `next` until that is S, with no other call between,
+ * list every missing seat once, ascending, in all as many as the `total` on each of them. Where the sizes fit none is refused; at
+ * most `total` pages are read, or one; and each but the last is full. Here of the yard of README:
+ *
+ *     told.next = 0;
+ *     do {
+ *         if (wardrail_yard_missing(YARD, told.next, page, sizeof page / sizeof *page, &told)) return 1;
+ *         for (size_t i = 0; i < told.listed; i++) printf("seat %d\n", (int)page[i]);
+ *     } while (told.next != sizeof y.seats / sizeof *y.seats);
+ */
 uint64_t wardrail_yard_missing(WARDRAIL_TABLES_READ, size_t first, uint32_t *page, size_t page_count, struct wardrail_told *told);
 
 /* The smallest number among the pieces with fewest holders becomes `piece`. 38. */

@@ -656,6 +656,8 @@ class YardCalls:
                 yield self.refused_start()
             elif rng.random() < 0.06:
                 yield from self.round()
+            elif rng.random() < 0.01:
+                yield from self.pages()
             else:
                 yield rng.choices(ways, [12, 5, 60, 8, 15])[0]()
 
@@ -683,6 +685,11 @@ class YardCalls:
             yield from (f"seat {seat}" for seat in range(min(self.seats, 9)))
         if rng.random() < 0.4:
             yield from (f"feed {seat} {to_hex(self.block())}" for seat in sorted(self.taken) if rng.random() < 0.7)
+
+    def pages(self):
+        """Pages of a few lines from each of some seats on, and so from what one of them calls next."""
+        first = self.rng.randint(0, max(0, self.seats - 9))
+        yield from (f"missing {seat} {self.rng.randint(1, 3)}" for seat in range(first, min(first + 9, self.seats) + 1))
 
     def start(self):
         return f"start {self.pieces} {self.piece_length} {self.last_length} {self.seats}"

@@ -19,6 +19,7 @@ WINGS = {
     "sheets": "#6f8f1a",
     "links": "#b4881f",
     "week": "#9a5a3c",
+    "paging": "#7a4a9a",
     "peer": "#a03a8a",
     "yard": "#c0541c",
     "wardrail": "#5b4bb4",

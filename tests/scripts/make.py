@@ -13,6 +13,7 @@ import bencode_texts
 import block_calls
 import case_table
 import link_texts
+import page_calls
 import reply_texts
 import round_calls
 import sample_texts
@@ -24,7 +25,7 @@ import written_texts
 import yard_calls
 
 MODULES = [
-    bencode_texts, torrent_texts, reply_texts, sheet_texts, link_texts, week_texts, block_calls, wire_calls, written_texts, yard_calls, round_calls, sample_texts,
+    bencode_texts, torrent_texts, reply_texts, sheet_texts, link_texts, week_texts, block_calls, wire_calls, written_texts, yard_calls, round_calls, page_calls, sample_texts,
 ]
 
 

@@ -22,7 +22,7 @@ use Rattle.yard_laws.specs.Run.{Run, begins, goes-on}
 use Rattle.yard_laws.specs.Damage.{Fit}
 use Rattle.demands_laws.specs.Paging.{Paged}
 use Rattle.demands_laws.proofs.Runs.{start-taken}
-use Rattle.demands_laws.proofs.Paging.{all, page-of, paged}
+use Rattle.demands_laws.proofs.Paging.{missingSeats, page-of, paged}
 use Rattle.demands.specs.One.{Lent, before, after}
 use Rattle.demands.specs.One.Doors.Yard as yard
 
@@ -135,11 +135,11 @@ pub asks-paged : (y : Yard) → Fit y → (f : ℕ → Bool) → ((j : ℕ) → 
     → (pages : List (Printed ℕ)) (next : ℕ) → Follows Asks (length (y .seats)) y 0 pages next → Paged f (length (y .seats)) pages next
 asks-paged y fit f is = paged y fit f is Asks right
   where
-    right : (a : ℕ) (p : Printed ℕ) (z : Yard) → a ≤ length (y .seats) → Asks y a p z → (z ≡ y) × PageOf ltb (all y fit f is) (length (y .seats)) a p
+    right : (a : ℕ) (p : Printed ℕ) (z : Yard) → a ≤ length (y .seats) → Asks y a p z → (z ≡ y) × PageOf ltb (missingSeats y fit f is) (length (y .seats)) a p
     right a p z h (asks t e r page told roomy c) =
         let call = Call.missing a (length (before page)) in (
           stays t (c .2) ∙ e,
           page-of y fit f is a h (before page) (after page) roomy r (before told) (after told)
-          (subst (λ (x : Yard). Looks (step call x .answer) (before told) r (after told)) e (c .0))
-          (c .1 ∙ ap (λ (x : Yard). sets (before page) 0 (written call x)) e),
+              (subst (λ (x : Yard). Looks (step call x .answer) (before told) r (after told)) e (c .0))
+              (c .1 ∙ ap (λ (x : Yard). sets (before page) 0 (written call x)) e),
         )

@@ -85,20 +85,24 @@ ascends : {k : ℕ} {l : List ℕ} → Ascending k l → Ascends ltb l
 ascends (none k) = Pages.none
 ascends (one k a l h s) = Pages.one a l (λ b i. lt-ltb a b (not-before s b i)) (ascends s)
 
--- the numbers from a on
+-- those from a on
 from-those : (f : ℕ → Bool) (a k m : ℕ) → k ≤ a → a ≤ k + m → from ltb a (those f k m) ≡ those f a (k + m - a)
 unfolding those
 from-those f a k zero h l = let e : k + 0 - a ≡ 0 = omega arith in rw e
-from-those f a k (suc m) h l = same-or k a
-    (λ e.
-        let d : k + suc m - a ≡ suc m = omega arith in
+from-those f a k (suc m) h l = same-or k a here (λ d. later d (from-those f a (suc k) m (omega arith) (omega arith)))
+  where
+    here : k ≡ a → from ltb a (those f k (suc m)) ≡ those f a (k + suc m - a)
+    here e =
+        let d : suc m ≡ k + suc m - a = omega arith in
         from-all ltb a (those f k (suc m)) (λ b i. le-ltb b a (let t = those-members f b k (suc m) .0 i in omega (arith, t .0)))
-        ∙ ap₂ (those f) e (sym d))
-    (λ d.
+        ∙ ap₂ (those f) e d
+
+    later : (k ≡ a → ⊥) → from ltb a (those f (suc k) m) ≡ those f a (suc k + m - a) → from ltb a (those f k (suc m)) ≡ those f a (k + suc m - a)
+    later d r =
         let e : suc k + m - a ≡ k + suc m - a = omega arith in
         by-test (λ (l : List ℕ). from ltb a l ≡ from ltb a (those f (suc k) m)) (f k) (λ _. rw (lt-ltb k a (omega arith))) (λ _. refl)
-        ∙ from-those f a (suc k) m (omega arith) (omega arith)
-        ∙ ap (those f a) e)
+        ∙ r
+        ∙ ap (those f a) e
 
 first-at : (n : ℕ) (l : List ℕ) → firstOr n l ≡ getD l 0 n
 first-at n [] = refl
@@ -108,8 +112,8 @@ module _ (y : Yard) (fit : Fit y) (f : ℕ → Bool) (is : (j : ℕ) → isMissi
   abbrev n : ℕ
   n = length (y .seats)
 
-  abbrev pub all : List ℕ
-  all = those f 0 n
+  abbrev pub missingSeats : List ℕ
+  missingSeats = those f 0 n
 
   -- a call that asks for a page from a first seat up to the last gives a page of the list
   module _ (first : ℕ) (h : first ≤ n) (page out : List ℕ) (roomy : 1 ≤ length page) (r : ℕ) (was told : Told)
@@ -133,10 +137,10 @@ module _ (y : Yard) (fit : Fit y) (f : ℕ → Bool) (is : (j : ℕ) → isMissi
         ∙ ap (λ (a : Outcome Said). sets page 0 (ifTaken a (linesOf (y .head .pieces) first (length page) (y .seats)))) answered
         ∙ ap (sets page 0) (lines-are (y .head .pieces) f n (y .seats) refl is first (length page))
 
-    rest-is : rest ≡ from ltb first all
+    rest-is : rest ≡ from ltb first missingSeats
     rest-is = let e : 0 + n - first ≡ n - first = omega arith in sym (from-those f first 0 n (omega arith) (omega arith) ∙ ap (those f first) e)
 
-    pub page-of : PageOf ltb all n first (record { number = r; room = length page; lines = take (told .value) out; total = told .total; next = told .next })
+    pub page-of : PageOf ltb missingSeats n first (record { number = r; room = length page; lines = take (told .value) out; total = told .total; next = told .next })
     page-of = record {
       taken = looks .0 ∙ ap codeOf answered;
       roomy = roomy;
@@ -153,14 +157,14 @@ module _ (y : Yard) (fit : Fit y) (f : ℕ → Bool) (is : (j : ℕ) → isMissi
     }
 
   -- so following `next` gives it
-  module _ (Asks : Yard → ℕ → Printed ℕ → Yard → Type 0) (right : (a : ℕ) (p : Printed ℕ) (z : Yard) → a ≤ n → Asks y a p z → (z ≡ y) × PageOf ltb all n a p) where
+  module _ (Asks : Yard → ℕ → Printed ℕ → Yard → Type 0) (right : (a : ℕ) (p : Printed ℕ) (z : Yard) → a ≤ n → Asks y a p z → (z ≡ y) × PageOf ltb missingSeats n a p) where
     pub paged : (pages : List (Printed ℕ)) (next : ℕ) → Follows Asks n y 0 pages next → Paged f n pages next
     paged pages next follows =
-        let members : (j : ℕ) → In j all ↔ ((j < n) × (f j ≡ true)) =
+        let members : (j : ℕ) → In j missingSeats ↔ ((j < n) × (f j ≡ true)) =
         λ j. let t = those-members f j 0 n in (λ i. let (_, b, e) = t .0 i in (omega arith, e), λ (b, e). t .1 (omega arith, omega arith, e)) in
-        let g = follows-gives ltb lt-one-way all (ascends (those-ascend f 0 n)) n (λ a i. lt-ltb a n (members a .0 i .0)) Asks y
+        let g = follows-gives ltb lt-one-way missingSeats (ascends (those-ascend f 0 n)) n (λ a i. lt-ltb a n (members a .0 i .0)) Asks y
         (λ a p z h. right a p z (ltb-false n a h)) 0 (le-ltb n 0 (omega arith)) (λ a i. le-ltb a 0 (omega arith)) pages next follows in
-        (all, those-ascend f 0 n, members, those-all f n, subst (λ (k : ℕ). Gives k all n pages next) (those-all f n) g)
+        (missingSeats, those-ascend f 0 n, members, those-all f n, subst (λ (k : ℕ). Gives k missingSeats n pages next) (those-all f n) g)
 
 -- when `next` is S, what is written on the pages is the list
 pub in-all : (f : ℕ → Bool) (n : ℕ) (pages : List (Printed ℕ)) → Paged f n pages n

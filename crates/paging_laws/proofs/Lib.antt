@@ -1,2 +1,3 @@
 -- What following `next` gives.
 pub mod Following
+pub mod Example
