@@ -86,7 +86,7 @@ pub data Made (lent : Yard) : History → Yard → Type 0 where
 
 -- a page of the missing list is asked for from a first seat on, with room for a line at least and anything on it: what the caller has of it, and the tables that are left
 pub data Asks (y : Yard) (first : ℕ) : Printed ℕ → Yard → Type 0 where
-  asks : (t : Tables) → found t ≡ y → (r : ℕ) (page : Lent (List ℕ)) (told : Lent Told) → 1 ≤ length (before page)
+  asked : (t : Tables) → found t ≡ y → (r : ℕ) (page : Lent (List ℕ)) (told : Lent Told) → 1 ≤ length (before page)
       → yard.missing-ensures (t .seats) (t .rows) (t .holders) first r (t .head) page told
       → Asks y first
       (record { number = r; room = length (before page); lines = take (after told .value) (after page); total = after told .total; next = after told .next })
@@ -130,13 +130,13 @@ made-run lent h y (started t p l k z f e) =
     (m .1 ∙ ap (λ (x : Yard). step (Call.start p l k) x .yard) f)
 made-run lent h y (called g t c r z m e) = goes-on g (found t) c z (made-run lent g (found t) m) (permits-step t c r z e .1)
 
--- a page that is asked for leaves the tables, and pages from seat 0 on give the list of the missing, where f says of each seat whether it is
+-- a page that is asked for leaves the tables, and pages from seat 0 on yield the list of the missing, where f says of each seat whether it is
 pub asks-paged : (y : Yard) → Fit y → (f : ℕ → Bool) → ((j : ℕ) → isMissing (y .head .pieces) (getD (y .seats) j cleared) ≡ f j)
     → (pages : List (Printed ℕ)) (next : ℕ) → Follows Asks (length (y .seats)) y 0 pages next → Paged f (length (y .seats)) pages next
 asks-paged y fit f is = paged y fit f is Asks right
   where
     right : (a : ℕ) (p : Printed ℕ) (z : Yard) → a ≤ length (y .seats) → Asks y a p z → (z ≡ y) × PageOf ltb (missingSeats y fit f is) (length (y .seats)) a p
-    right a p z h (asks t e r page told roomy c) =
+    right a p z h (asked t e r page told roomy c) =
         let call = Call.missing a (length (before page)) in (
           stays t (c .2) ∙ e,
           page-of y fit f is a h (before page) (after page) roomy r (before told) (after told)

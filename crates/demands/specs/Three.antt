@@ -263,15 +263,15 @@ module _ (lent : Yard) (h : History) (y : Yard) (made : Made lent h y) where
 
   -- ---- Document 02, ticket 7: "I print the missing list on any paper"
 
-  -- pages of any sizes of at least one line, "following "next" from seat 0" and "no other call between" (`Asks`: Program.antt; `Follows`, and all that they `Give`:
-  -- paging_laws/specs/Pages.antt; `Paged`: demands_laws/specs/Paging.antt)
+  -- "following "next" from seat 0 .., with any page sizes of at least one line and no other call between", read to the end or not (`Asks`: Program.antt; `Follows`, and what
+  -- they yield: paging_laws/specs/Pages.antt; `Paged`: demands_laws/specs/Paging.antt)
   pub paging-right : (pages : List (Printed ℕ)) (next : ℕ) → Follows Asks seats y 0 pages next
       → Paged (λ i. seated h i && some (pieces h) (λ p. not (announced h i p))) seats pages next
   paging-right pages next =
       subst (λ (n : ℕ). Follows Asks n y 0 pages next → Paged (lacking h) n pages next) (agrees .seats-len)
       (asks-paged y (demand.sizes-fit fixed h y agrees) (lacking h) (looks.lacking-is fixed h y agrees) pages next)
 
-  -- "until it says S": they give "every missing seat once, ascending, in all as many as the total on each page"
+  -- "until it says S .. gives every missing seat once, ascending, in all as many as the total on each page"
   pub pages-in-all : (pages : List (Printed ℕ)) → Follows Asks seats y 0 pages seats
       → Ascending 0 (printed pages)
       × ((j : ℕ) → In j (printed pages) ↔ ((j < seats) × ((seated h j && some (pieces h) (λ p. not (announced h j p))) ≡ true)))

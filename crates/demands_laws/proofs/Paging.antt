@@ -12,8 +12,8 @@ use lib.Seq.{sets, sets-eq, getD-drop, take-append-seam}
 use Rattle.refusal.specs.Paper.{Outcome, taken, refused}
 use Rattle.refusal.proofs.Cases.{no-way, by-test, same-or}
 use Rattle.paging_laws.specs.Pages as Pages
-use Rattle.paging_laws.specs.Pages.{Ascends, from, Printed, PageOf, Follows, Gives, printed}
-use Rattle.paging_laws.proofs.Following.{from-all, follows-gives}
+use Rattle.paging_laws.specs.Pages.{Ascends, from, Printed, PageOf, Follows, Yields, printed}
+use Rattle.paging_laws.proofs.Following.{from-all, follows-yields}
 use Rattle.yard_tables.specs.Counting.{count}
 use Rattle.yard_tables.specs.Seats.{cleared}
 use Rattle.yard_tables.specs.Looks.{firstOr, isMissing, linesOf}
@@ -156,15 +156,15 @@ module _ (y : Yard) (fit : Fit y) (f : ℕ → Bool) (is : (j : ℕ) → isMissi
           ∙ (let e : length page + 0 ≡ length page = omega arith in ap₂ (λ (l : List ℕ) (k : ℕ). getD l k n) rest-is e);
     }
 
-  -- so following `next` gives it
+  -- so following `next` yields it
   module _ (Asks : Yard → ℕ → Printed ℕ → Yard → Type 0) (right : (a : ℕ) (p : Printed ℕ) (z : Yard) → a ≤ n → Asks y a p z → (z ≡ y) × PageOf ltb missingSeats n a p) where
     pub paged : (pages : List (Printed ℕ)) (next : ℕ) → Follows Asks n y 0 pages next → Paged f n pages next
     paged pages next follows =
         let members : (j : ℕ) → In j missingSeats ↔ ((j < n) × (f j ≡ true)) =
         λ j. let t = those-members f j 0 n in (λ i. let (_, b, e) = t .0 i in (omega arith, e), λ (b, e). t .1 (omega arith, omega arith, e)) in
-        let g = follows-gives ltb lt-one-way missingSeats (ascends (those-ascend f 0 n)) n (λ a i. lt-ltb a n (members a .0 i .0)) Asks y
+        let g = follows-yields ltb lt-one-way missingSeats (ascends (those-ascend f 0 n)) n (λ a i. lt-ltb a n (members a .0 i .0)) Asks y
         (λ a p z h. right a p z (ltb-false n a h)) 0 (le-ltb n 0 (omega arith)) (λ a i. le-ltb a 0 (omega arith)) pages next follows in
-        (missingSeats, those-ascend f 0 n, members, those-all f n, subst (λ (k : ℕ). Gives k missingSeats n pages next) (those-all f n) g)
+        (missingSeats, those-ascend f 0 n, members, those-all f n, subst (λ (k : ℕ). Yields k missingSeats n pages next) (those-all f n) g)
 
 -- when `next` is S, what is written on the pages is the list
 pub in-all : (f : ℕ → Bool) (n : ℕ) (pages : List (Printed ℕ)) → Paged f n pages n

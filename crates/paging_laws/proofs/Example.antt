@@ -1,9 +1,10 @@
--- A small list read page by page, by computation. Assumes nothing.
+-- Small lists read page by page, by computation. Assumes nothing.
 use mathlib.Core.Path.{_≡_, refl}
+use mathlib.Core.Bool.{Bool, _&&_, _||_}
 use mathlib.Core.List.{List, [], _∷_, flatMap}
 use Prim.Native.Nat.{ℕ}
 use native.Mathlib.Omega.{arith}
-use lib.Dec.{ltb}
+use lib.Dec.{eqb, ltb}
 use Rattle.paging_laws.specs.Pages.{from, Printed, PageOf, printed, Follows, asks, asks-on}
 
 -- of six seats three are missing
@@ -37,3 +38,14 @@ read = asks-on 0 0 0 6 two (five ∷ []) two-is (λ e. omega arith) (asks 0 0 4 
 whole : printed (two ∷ five ∷ []) ≡ list
 unfolding flatMap
 whole = refl
+
+-- seats in three depots, by depot and then seat
+abbrev before : ℕ × ℕ → ℕ × ℕ → Bool
+before (d, i) (e, j) = ltb d e || (eqb d e && ltb i j)
+
+abbrev seats : List (ℕ × ℕ)
+seats = (0, 3) ∷ (2, 0) ∷ (2, 7) ∷ []
+
+-- a page of one line from depot 1 on
+line-is : PageOf before seats (3, 0) (1, 0) (record { number = 0; room = 1; lines = (2, 0) ∷ []; total = 3; next = (2, 7) })
+line-is = record { taken = refl; roomy = omega arith; written = refl; counted = refl; onward = refl }

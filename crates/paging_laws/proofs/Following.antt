@@ -1,4 +1,4 @@
--- Following `next` through pages of a list in ascending order gives that list. Assumes nothing.
+-- Following `next` through pages of a list in ascending order yields that list. Assumes nothing.
 use mathlib.Core.Path.{_≡_, refl, sym, ap, subst, _∙_}
 use mathlib.Core.Logic.{inl, inr}
 use mathlib.Core.Bool.{Bool, true, false}
@@ -8,7 +8,7 @@ use native.Mathlib.Omega.{arith}
 use lib.ListN.{length, getD, take, drop, length-take, length-drop, take-append-drop, List·getD-eq-default}
 use lib.Seq.{take-all, getD-drop, drop-drop}
 use Rattle.refusal.proofs.Cases.{cannot, less-or, by-bool}
-use Rattle.paging_laws.specs.Pages.{Ascends, one, from, Printed, PageOf, Follows, asks, asks-on, Gives}
+use Rattle.paging_laws.specs.Pages.{Ascends, one, from, Printed, PageOf, Follows, asks, asks-on, Yields}
 
 -- a place of a list has one of its own
 at-place : {A : Type 0} (l : List A) (k : ℕ) (d : A) → k < length l → In (getD l k d) l
@@ -70,9 +70,9 @@ module _ {A : Type 0} (before : A → A → Bool) (one-way : (a b : A) → befor
           elim (List·Memᴰ·cases-cons i) [ inl e ↦ subst (λ (t : Printed A). (t .number ≡ 0) × (t .total ≡ length l)) (sym e) (p .taken, p .counted) | inr j ↦ g q j ]
 
       -- it is the last
-      gives-one : Gives (length l) (drop k l) end (s ∷ []) (s .next)
+      yields-one : Yields (length l) (drop k l) end (s ∷ []) (s .next)
       unfolding flatMap
-      gives-one = record {
+      yields-one = record {
         told = told-more [] (λ q i. absurd (List·Memᴰ·not-nil i));
         some = omega arith;
         few = omega arith;
@@ -82,9 +82,9 @@ module _ {A : Type 0} (before : A → A → Bool) (one-way : (a b : A) → befor
       }
 
       -- more come after it
-      gives-more : (more : List (Printed A)) (next : A) → (s .next ≡ end → ⊥) → Gives (length l) (drop (k + s .room) l) end more next → Gives (length l) (drop k l) end (s ∷ more) next
+      yields-more : (more : List (Printed A)) (next : A) → (s .next ≡ end → ⊥) → Yields (length l) (drop (k + s .room) l) end more next → Yields (length l) (drop k l) end (s ∷ more) next
       unfolding flatMap
-      gives-more more next on g = record {
+      yields-more more next on g = record {
         told = told-more more (g .told);
         some = omega arith;
         few = omega (arith, g .few, more-left on, p .roomy, length-drop k l, length-drop (k + s .room) l);
@@ -106,14 +106,14 @@ module _ {A : Type 0} (before : A → A → Bool) (one-way : (a b : A) → befor
     module _ {State : Type 0} (Asks : State → A → Printed A → State → Type 0) (x : State)
         (right : (a : A) (s : Printed A) (z : State) → before end a ≡ false → Asks x a s z → (z ≡ x) × PageOf before l end a s) where
       reads : (y : State) (a : A) (pages : List (Printed A)) (next : A) (k : ℕ) → y ≡ x → before end a ≡ false → from before a l ≡ drop k l
-          → Follows Asks end y a pages next → Gives (length l) (drop k l) end pages next
-      reads y a pages next k e h left (asks _ z _ s call) = gives-one k a left s (right a s z h (subst (λ (w : State). Asks w a s z) e call) .1)
+          → Follows Asks end y a pages next → Yields (length l) (drop k l) end pages next
+      reads y a pages next k e h left (asks _ z _ s call) = yields-one k a left s (right a s z h (subst (λ (w : State). Asks w a s z) e call) .1)
       reads y a pages next k e h left (asks-on _ z _ _ s more call on rest) =
           let (f, p) = right a s z h (subst (λ (w : State). Asks w a s z) e call) in
           let past : before end (s .next) ≡ false = ap (before end) (next-is k a left s p) ∙ not-past (k + s .room) in
-          gives-more k a left s p more next on (reads z (s .next) more next (k + s .room) f past (next-left k a left s p on) rest)
+          yields-more k a left s p more next on (reads z (s .next) more next (k + s .room) f past (next-left k a left s p on) rest)
 
       -- from a first place on that none of the list is before
-      pub follows-gives : (first : A) → before end first ≡ false → ((a : A) → In a l → before a first ≡ false) → (pages : List (Printed A)) (next : A)
-          → Follows Asks end x first pages next → Gives (length l) l end pages next
-      follows-gives first h later pages next f = reads x first pages next 0 refl h (from-all before first l later) f
+      pub follows-yields : (first : A) → before end first ≡ false → ((a : A) → In a l → before a first ≡ false) → (pages : List (Printed A)) (next : A)
+          → Follows Asks end x first pages next → Yields (length l) l end pages next
+      follows-yields first h later pages next f = reads x first pages next 0 refl h (from-all before first l later) f

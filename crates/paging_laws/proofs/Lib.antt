@@ -1,3 +1,3 @@
--- What following `next` gives.
+-- What following `next` yields.
 pub mod Following
 pub mod Example

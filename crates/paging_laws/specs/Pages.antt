@@ -1,4 +1,4 @@
--- A list in ascending order, read page by page: what a page is, what a caller does, and what that gives. Of any list: seats, or seats in depots. Assumes nothing: these are
+-- A list in ascending order, read page by page: what a page is, what a caller does, and what that yields. Of any list: seats, or seats in depots. Assumes nothing: these are
 -- definitions.
 use mathlib.Core.Path.{_≡_}
 use mathlib.Core.Bool.{Bool, true, cond}
@@ -49,9 +49,9 @@ pub data Follows {State A : Type 0} (Asks : State → A → Printed A → State 
   asks-on : (x z : State) (a next : A) (p : Printed A) (more : List (Printed A)) → Asks x a p z → (p .next ≡ end → ⊥) → Follows Asks end z (p .next) more next
       → Follows Asks end x a (p ∷ more) next
 
--- ---- what that gives: the list l, of `total` lines
+-- ---- what that yields: the list l, of `total` lines
 
-pub record Gives {A : Type 0} (total : ℕ) (l : List A) (end : A) (pages : List (Printed A)) (next : A) : Type 0 where
+pub record Yields {A : Type 0} (total : ℕ) (l : List A) (end : A) (pages : List (Printed A)) (next : A) : Type 0 where
   -- none is refused, and each page has the same total
   pub told : (p : Printed A) → In p pages → (p .number ≡ 0) × (p .total ≡ total)
   -- it ends: at least one page is read, and at most as many as l has lines, or one; as long as `next` is not the end, fewer

@@ -1,6 +1,6 @@
 -- On any tables, whatever made them: 20, 21, 30 to 37 and wait are given exactly when their cause holds by what the tables say. 38 and 39 are in One/Numbers.antt. r is the
 -- number that C gets, as the contract of the call permits it (`Permits`: Program.antt), 255 for a wait; `byTables` is who sits, who is fresh, the sizes and the marks
--- (yard_laws/specs/View.antt). And what a round leaves of them, leaving of the free place, and what pages of the missing list give. Assumes nothing.
+-- (yard_laws/specs/View.antt). And what a round leaves of them, leaving of the free place, and what pages of the missing list yield. Assumes nothing.
 use mathlib.Core.Path.{_≡_, refl, sym, ap, _∙_}
 use mathlib.Core.Logic.{_⊎_, _↔_, Iff·trans}
 use mathlib.Core.Bool.{true, false, not, _&&_, _||_}
