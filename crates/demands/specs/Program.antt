@@ -1,4 +1,4 @@
--- What a program does that starts a yard and then makes any calls: each as its own contract permits it. Assumes nothing.
+-- What a program does that starts a yard and then makes any calls, or asks for a page of the missing list: each as its own contract permits it. Assumes nothing.
 use mathlib.Core.Path.{_≡_, sym, ap, subst, _∙_}
 use mathlib.Core.Bool.{Bool}
 use mathlib.Core.List.{List, [], _∷_}

@@ -1,4 +1,4 @@
--- What a page of the missing list says, put together from the laws of pages. Assumes nothing.
+-- What a page of the missing list says, put together from the laws of pages; and what pages one after the other yield. Assumes nothing.
 use mathlib.Core.Path.{_≡_, refl, sym, ap, ap₂, subst, _∙_}
 use mathlib.Core.Logic.{_↔_}
 use mathlib.Core.Bool.{Bool, true, false, cond}

@@ -89,17 +89,17 @@ module _ {A : Type 0} (before : A → A → Bool) (one-way : (a b : A) → befor
         some = omega arith;
         few = omega (arith, g .few, more-left on, p .roomy, length-drop k l, length-drop (k + s .room) l);
         ends = λ e. omega (arith, g .ends e, more-left on, p .roomy, length-drop k l, length-drop (k + s .room) l);
-        full = fuller more (g .some) (g .full);
+        full = fuller more (g .full);
         all = λ e.
             ap (λ (r : List A). s .lines ++ r) (g .all e ∙ sym (drop-drop (s .room) k l))
             ∙ ap (λ (r : List A). r ++ drop (s .room) (drop k l)) lines-are
             ∙ take-append-drop (s .room) (drop k l);
       }
         where
-          fuller : (rest : List (Printed A)) → 1 ≤ length rest → ((q : Printed A) → In q (dropLast rest) → length (q .lines) ≡ q .room)
+          fuller : (rest : List (Printed A)) → ((q : Printed A) → In q (dropLast rest) → length (q .lines) ≡ q .room)
               → (q : Printed A) → In q (dropLast (s ∷ rest)) → length (q .lines) ≡ q .room
-          fuller [] h full q i = absurd (List·Memᴰ·not-nil i)
-          fuller (r ∷ rest) h full q i = elim (List·Memᴰ·cases-cons i) [ inl e ↦ subst (λ (t : Printed A). length (t .lines) ≡ t .room) (sym e) (full-one on) | inr j ↦ full q j ]
+          fuller [] full q i = absurd (List·Memᴰ·not-nil i)
+          fuller (r ∷ rest) full q i = elim (List·Memᴰ·cases-cons i) [ inl e ↦ subst (λ (t : Printed A). length (t .lines) ≡ t .room) (sym e) (full-one on) | inr j ↦ full q j ]
 
     -- ---- all pages, where each call from a place up to the end leaves what it finds and gives a page of the list
 
