@@ -1,7 +1,7 @@
 """Bencode: a text is read from left to right into values that know where they stand.
 
-The content of a value is bytes for a string, an int for an integer, a list of values for a list, and a dict from key
-to value for a dictionary.
+The content of a value is bytes for a string, an int for an integer, its sign and digits for one outside 64 bits, a list
+of values for a list, and a dict from key to value for a dictionary.
 """
 
 import re
@@ -12,6 +12,7 @@ from refusal import Refused, refuse_unless
 LONGEST_TEXT = 1_048_576
 MOST_VALUES = 16_384
 DEEPEST_LEVEL = 32
+# What 64 bits hold.
 SMALLEST, LARGEST = -(2**63), 2**63 - 1
 
 STRING, INTEGER, LIST, DICTIONARY = "string", "integer", "list", "dictionary"
@@ -87,18 +88,15 @@ class Reader:
     def integer(self):
         place = self.at
         self.at += 1
-        negative = self.peek() == b"-"
-        if negative:
+        if self.peek() == b"-":
             self.at += 1
             refuse_unless(self.peek() in b"123456789", 2, self.at)
-        magnitude = self.digits()
+        self.digits()
+        written = self.text[place + 1 : self.at]
         self.expect(b"e")
-        # Twenty digits without a leading zero are out of range, so the rest of them need no look.
-        number = int(magnitude[:20])
-        if negative:
-            number = -number
-        refuse_unless(SMALLEST <= number <= LARGEST, 4, place)
-        return Value(INTEGER, place, self.at, number)
+        # Twenty digits without a leading zero are outside 64 bits, so those past a sign and twenty need no look.
+        number = int(written[:21])
+        return Value(INTEGER, place, self.at, number if SMALLEST <= number <= LARGEST else written)
 
     def open(self, level):
         """Steps into a list or dictionary and tells its place."""
@@ -140,6 +138,16 @@ def get(dictionary, key, kind):
     """The value under a key that has to be there, of the kind that it has to have."""
     refuse_unless(key in dictionary.content, 10, dictionary.place)
     return expect_kind(dictionary.content[key], kind)
+
+
+def is_number(integer):
+    """Whether an integer is within 64 bits."""
+    return isinstance(integer.content, int)
+
+
+def read_number(integer, is_allowed):
+    refuse_unless(is_number(integer) and is_allowed(integer.content), 11, integer.place)
+    return integer.content
 
 
 def write_string(content):

@@ -30,13 +30,8 @@ def look(reader):
         return first.decode()
     if first != b"i":
         return f"s{reader.string().content.hex() or '-'}"
-    place = reader.at
-    try:
-        return f"i{reader.integer().content}"
-    except Refused as refusal:
-        if refusal.number != 4:
-            raise
-        return f"n{reader.text[place + 1 : reader.at - 1].decode()}"
+    integer = reader.integer()
+    return f"i{integer.content}" if bencode.is_number(integer) else f"n{integer.content.decode()}"
 
 
 def inside(string):

@@ -5,7 +5,7 @@ from hashlib import sha1
 
 import bencode
 import blocks
-from bencode import DICTIONARY, INTEGER, LIST, STRING, expect_kind, get
+from bencode import DICTIONARY, INTEGER, LIST, STRING, expect_kind, get, read_number
 from refusal import refuse_unless
 
 LONGEST_PIECE = 16_777_216
@@ -61,11 +61,6 @@ def read_path(path):
 def read_name(string):
     refuse_unless(is_name(string.content), 13, string.place)
     return string.content
-
-
-def read_number(integer, is_allowed):
-    refuse_unless(is_allowed(integer.content), 11, integer.place)
-    return integer.content
 
 
 def check_total(content, files, piece_length):

@@ -3,7 +3,7 @@
 from collections import namedtuple
 
 import bencode
-from bencode import DICTIONARY, INTEGER, LIST, STRING, expect_kind, get
+from bencode import DICTIONARY, INTEGER, LIST, STRING, expect_kind, get, read_number
 from refusal import Refused, refuse_unless
 
 LONGEST_INTERVAL = 2**31 - 1
@@ -23,9 +23,8 @@ def read(text):
     expect_kind(top, DICTIONARY)
     if b"failure reason" in top.content:
         return Reply(get(top, b"failure reason", STRING).content, None, [])
-    interval = get(top, b"interval", INTEGER)
-    refuse_unless(is_interval(interval.content), 11, interval.place)
-    return Reply(None, interval.content, read_peers(top))
+    interval = read_number(get(top, b"interval", INTEGER), is_interval)
+    return Reply(None, interval, read_peers(top))
 
 
 def read_peers(top):
@@ -52,13 +51,16 @@ def read_peer(item):
     peer_id = get(item, b"peer id", STRING)
     refuse_unless(len(peer_id.content) == PEER_ID, 15, peer_id.place)
     ip = get(item, b"ip", STRING)
-    port = get(item, b"port", INTEGER)
-    refuse_unless(0 <= port.content <= LARGEST_PORT, 11, port.place)
-    return Peer(peer_id.content, ip.content, port.content)
+    port = read_number(get(item, b"port", INTEGER), is_port)
+    return Peer(peer_id.content, ip.content, port)
 
 
 def is_interval(number):
     return 0 <= number <= LONGEST_INTERVAL
+
+
+def is_port(number):
+    return 0 <= number <= LARGEST_PORT
 
 
 def are_entries(string):

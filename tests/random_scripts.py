@@ -44,9 +44,26 @@ def random_bytes(rng, most):
     return bytes(rng.choice(alphabet) for _ in range(rng.randint(0, most)))
 
 
-def random_integer(rng):
-    edge = rng.choice([0, 0, 1, 10, 16384, 65536, 2**31, 2**32, 2**63, 10**19, 10**40])
+def long_integer(rng):
+    """An integer about an end of 64 bits or past it, of forty digits or so, now and then of some hundreds."""
+    digits = rng.choice([18, 19, 20, 21, 39, 40, rng.randint(15, 99)])
+    if rng.random() < 0.03:
+        digits = rng.randint(100, 600)
+    edge = rng.choice([2**63, 2**63, 2**64, 2**128, 10 ** (digits - 1), 10**digits, rng.randrange(10 ** (digits - 1), 10**digits)])
     return rng.choice([-1, 1]) * (edge + rng.randint(-2, 2))
+
+
+def random_integer(rng):
+    if rng.random() < 0.5:
+        return long_integer(rng)
+    edge = rng.choice([0, 0, 1, 10, 16384, 65536, 2**31, 2**32])
+    return rng.choice([-1, 1]) * (edge + rng.randint(-2, 2))
+
+
+def wrapped(rng, value):
+    """An integer that has the value in its lowest bits, its last digits or its first ones."""
+    step = rng.choice([2**32, 2**63, 2**64, 2**64, 2**128, 10**20, 10**39])
+    return rng.choice([value + step, value - step, value * 10 ** rng.randint(10, 40)])
 
 
 def random_value(rng, levels):
@@ -54,10 +71,15 @@ def random_value(rng, levels):
     if kind == "string":
         return random_bytes(rng, 12)
     if kind == "integer":
-        return random_integer(rng) if rng.random() < 0.3 else rng.randint(-20, 20)
+        return random_integer(rng) if rng.random() < 0.4 else rng.randint(-20, 20)
     if kind == "list":
         return [random_value(rng, levels - 1) for _ in range(rng.randint(0, 4))]
     return {random_bytes(rng, 4): random_value(rng, levels - 1) for _ in range(rng.randint(0, 4))}
+
+
+def other_value(rng):
+    """A value for any place, often an integer that 64 bits do not hold."""
+    return long_integer(rng) if rng.random() < 0.4 else random_value(rng, 2)
 
 
 def alter(rng, value):
@@ -72,10 +94,10 @@ def alter(rng, value):
         others = {other: value[other] for other in value if other != key}
         return rng.choice([others | {key: alter(rng, value[key])}] * 6 + [others, value | {random_bytes(rng, 6): 1}])
     if isinstance(value, int) and rng.random() < 0.7:
-        return rng.choice([value + 1, value - 1, -value, value * 2, random_integer(rng)])
+        return rng.choice([value + 1, value - 1, -value, value * 2, random_integer(rng), wrapped(rng, value)])
     if isinstance(value, bytes) and rng.random() < 0.7:
-        return rng.choice([value[1:], value + b"x", b"", b".", b"..", b"a/b", b"a\0", value[::-1]])
-    return random_value(rng, 2)
+        return rng.choice([value[1:], value + b"x", b"", b".", b"..", b"a/b", b"a\0", value[::-1], long_integer(rng)])
+    return other_value(rng)
 
 
 def damage(rng, data):
@@ -118,7 +140,7 @@ def text_of(rng, value):
 
 def nested(rng):
     """Lists and dictionaries nested to about the deepest level."""
-    text = rng.choice([b"", b"0:", b"i1e", b"x"])
+    text = rng.choice([b"", b"0:", b"i1e", encode(long_integer(rng)), b"x"])
     for _ in range(rng.randint(29, 35)):
         text = rng.choice([b"l%se", b"d1:a%se"]) % (text or b"le")
     return text
@@ -128,7 +150,7 @@ def crowded(rng):
     """About as many values as are allowed."""
     count = 16_384 + rng.randint(-4, 4)
     tail = rng.choice([b"e", b"lee", b"d1:a0:ee", b"xe", b""])
-    return b"l" + rng.choice([b"0:", b"le", b"i7e"]) * (count - 4) + tail
+    return b"l" + rng.choice([b"0:", b"le", b"i7e", encode(2**64)]) * (count - 4) + tail
 
 
 def dictionary_text(rng):
@@ -151,6 +173,8 @@ def random_text(rng):
         return dictionary_text(rng)
     if chance < 0.3:
         return random_bytes(rng, 12)
+    if chance < 0.36:
+        return text_of(rng, long_integer(rng))
     return text_of(rng, random_value(rng, rng.randint(0, 5)))
 
 
@@ -191,16 +215,20 @@ def random_torrent(rng, content=None):
         paths = [[random_name(rng) for _ in range(rng.randint(1, 3))] for _ in lengths]
         info[b"files"] = [{b"length": length, b"path": path} for length, path in zip(lengths, paths)]
         if rng.random() < 0.04:
-            rng.choice(info[b"files"])[b"length"] = LARGEST_FILE + rng.choice([0, 1])
+            rng.choice(info[b"files"])[b"length"] = rng.choice([LARGEST_FILE, LARGEST_FILE + 1, long_integer(rng)])
         if rng.random() < 0.04:
-            rng.choice(info[b"files"])[b"path"] = []
+            rng.choice(info[b"files"])[b"path"] = rng.choice([[], [], long_integer(rng), [long_integer(rng)]])
+        if rng.random() < 0.2:
+            rng.choice(info[b"files"])[rng.choice([b"a", b"lengths", b"md5sum", b"sign"])] = other_value(rng)
         if rng.random() < 0.04:
             info[b"length"] = lengths[0]
-    if rng.random() < 0.2:
-        info[rng.choice([b"private", b"md5sum", b"a", b"nam", b"name.utf-8"])] = random_value(rng, 2)
+    if rng.random() < 0.05:
+        info[rng.choice([b"length", b"name", b"piece length", b"pieces"])] = long_integer(rng)
+    if rng.random() < 0.3:
+        info[rng.choice([b"private", b"md5sum", b"a", b"nam", b"name.utf-8", b"piece", b"signature"])] = other_value(rng)
     top = {b"announce": rng.choice([b"", b"http://yard/ann"]), b"info": info}
-    if rng.random() < 0.2:
-        top[rng.choice([b"comment", b"creation date", b"a", b"zz"])] = random_value(rng, 2)
+    if rng.random() < 0.3:
+        top[rng.choice([b"comment", b"creation date", b"a", b"zz"])] = other_value(rng)
     return top
 
 
@@ -251,18 +279,25 @@ def torrents(rng):
 def random_peers(rng):
     if rng.random() < 0.5:
         return rng.randbytes(6 * rng.randint(0, 5))
-    return [
+    peers = [
         {b"peer id": rng.randbytes(20), b"ip": random_bytes(rng, 9), b"port": rng.choice([0, 6881, 65535, 65536])}
         for _ in range(rng.randint(0, 3))
     ]
+    if peers and rng.random() < 0.3:
+        rng.choice(peers)[rng.choice([b"a", b"key", b"pip", b"ports"])] = other_value(rng)
+    if peers and rng.random() < 0.05:
+        rng.choice(peers)[rng.choice([b"ip", b"peer id", b"port", b"port"])] = long_integer(rng)
+    return peers
 
 
 def random_reply(rng):
     top = {b"interval": rng.choice([0, 1800, 2**31 - 1, rng.randrange(9999)]), b"peers": random_peers(rng)}
     if rng.random() < 0.15:
         top[b"failure reason"] = random_bytes(rng, 9)
-    if rng.random() < 0.2:
-        top[rng.choice([b"complete", b"min interval", b"peers6", b"tracker id"])] = random_value(rng, 2)
+    if rng.random() < 0.3:
+        top[rng.choice([b"complete", b"min interval", b"peers6", b"tracker id"])] = other_value(rng)
+    if rng.random() < 0.05:
+        top[rng.choice([b"failure reason", b"interval", b"interval", b"peers"])] = long_integer(rng)
     return top
 
 
@@ -303,7 +338,7 @@ def with_fault(rng, rows):
         changed = rows[:at] + [(key, address)] + rows[at + 1 :]
         return sorted(changed, key=lambda row: row[0]) if rng.random() < 0.8 else changed
     if way < 8:
-        other = rng.choice([[], {}, 7, [address], random_integer(rng), random_value(rng, 2), Raw(nested(rng))])
+        other = rng.choice([[], {}, 7, [address], random_integer(rng), long_integer(rng), random_value(rng, 2), Raw(nested(rng))])
         return rows[:at] + [(key, other)] + rows[at + 1 :]
     if way < 9:
         return rows[:at] + [rows[at]] + rows[at:]

@@ -15,7 +15,7 @@ sys.path.insert(0, str(ROOT / "second"))
 
 import replay  # noqa: E402
 import week_texts  # noqa: E402
-from notation import LONGEST_SHOWN, show, to_hex  # noqa: E402
+from notation import FORTY, HUGE, LONGEST_SHOWN, show, to_hex  # noqa: E402
 
 ANSWERS = replay.Replay()
 
@@ -64,7 +64,7 @@ INTEGERS = [
     "i-9223372036854775808e i-9223372036854775809e i9999999999999999999e i10000000000000000000e",
     "i-10000000000000000001e i18446744073709551615e i18446744073709551616e i-18446744073709551617e i1(4999*0)e",
     "i-1(4999*0)e i(5000*9)e i9223372036854775808 i9223372036854775808x i-9223372036854775809x i1(4999*0)",
-    "i1(4999*0)x",
+    "i1(4999*0)x i(40*1)e i-(40*1)e i(40*1) i(40*1)x i-(40*1)-e i0(40*1)e i-0(40*1)e i+(40*1)e i(20*9)e i-(20*9)e i(21*9)e i1(18*0)e i1(20*0)e",
 ]
 
 STRINGS = [
@@ -93,6 +93,7 @@ TOO_LONG = ["1048569:(1048569*s) (1048577*e) (1048577*x)"]
 
 LIMITS = [
     "1048568:(1048568*s) 1048569:(1048569*s) 1048569:(1048568*s) i(1048574*1)e (1048576*x) (1048577*x)",
+    "i-(1048573*1)e d1:ai(1048569*1)ee i(1048575*1) i(1048575*1)e",
     "i1e(1048573*x) i1e(1048574*x) (31*d0:)de(31*e) (32*d0:)de(32*e) (16*ld0:)0:(32*e) (31*l)lele(31*e)",
     "(32*d0:)0:(32*e) (32*d0:)le(32*e) (32*l)i1e(32*e) (32*l)de(32*e) (32*l)x (32*l) (33*l) (32*l)(31*e)",
     "(32*l)(33*e) l(16382*0:)i1ee l(16382*0:)lee l(16382*0:)dee l(16380*0:)d0:0:ee l(16383*0:)i1ee l(16383*0:)lee",
@@ -105,7 +106,7 @@ ORDER = [
     "(32*l)(16352*0:)d (32*l)(16352*0:)x d1:b0:1 d1:b0:1: d1:b0:2:a d1:b0:1x d1:b0:01:a d1:b0:1:a d1:b0:1:ax",
     "d1:b0:1:ai-0ee i-0ex i-0ei03e li-0ei03ee lei03e l4:spa l1:ax d1:bi03e1:a0:e i9223372036854775808ex",
     "li9223372036854775808e li9223372036854775808ei-0ee d1:bi9223372036854775808e1:a0:e d1:ad1:b0:1:a0:e1:a",
-    "d1:b0:1:a0:ex",
+    "d1:b0:1:a0:ex l(16382*0:)i(40*1)ee l(16383*0:)i(40*1)ee (32*l)i(40*1)e(32*e) i(40*1)ei(40*1)e di(40*1)e0:e",
 ]
 
 # strings and integers where others stand before them: inside a list, as a key and under one
@@ -117,6 +118,7 @@ INSIDE = [
     "li999999999999999999ee li-999999999999999999ee li1(18*0)ee li-1(18*0)ee li1(18*0) li1(18*0)x li1(19*0)ee li1(19*0)x",
     "li9223372036854775807ee li-9223372036854775808ee li-9223372036854775809ee li-9223372036854775809x",
     "li9999999999999999999ee li18446744073709551616ee li(5000*9)ee li-(5000*9)ee l/e l;e l:e l-e",
+    "li(40*1)ee li-(40*1)ei(40*1)ee li(40*1)e li(40*1)xe d1:ai(40*1)e1:bi-(40*1)ee d1:ai(40*1)ei1ee d1:bi(40*1)e1:a0:e",
     "d9:(9*a)0:e d9:(8*a) d10:(10*a)0:e d10:(9*a) d99:(99*a)0:e d99:(98*a) d100:(100*a)0:e d100:(99*a) d00:0:e",
     "d09:(9*a)0:e d010:(10*a)0:e d0 d9 d9: d10 d10: d99 d99: d1e0:e d10e0:e d1:a9:(9*a)e d1:a9:(8*a) d1:a99:(99*a)e",
     "d1:a99:(98*a) d1:a100:(100*a)e d1:ai0ee d1:ai00ee d1:ai999999999999999999ee d1:ai1(18*0)ee d1:a/e d1:a",
@@ -134,6 +136,8 @@ def bencode():
 # ---- tracker replies
 
 INTERVAL = "d8:intervali1e5:peersl"
+LONG, BELOW = "i(40*1)e", "i-(40*1)e"
+LONGER = "i(100000*1)e"
 PEER = "d2:ip9:127.0.0.17:peer%20id20:-AA0000-abcdefghijkl4:porti6881ee"
 REPLIES = [
     "(0*x) x i1e le 2:de de d d1:b0:1:a0:e d8:interval d8:intervali1ee",
@@ -169,6 +173,14 @@ REPLIES = [
     "d14:failure%20reason4:gone8:intervali-1e5:peers5:abcdee d14:failure%20reason4:gone5:peersli1eee",
     "d14:failure%20reasoni1e8:interval1:a5:peers5:abcdee d14:Failure%20reason4:gone8:intervali1e5:peers0:e",
     "d14:failure%20reason4:gonx d14:failure%20reason4:gone1:a0:e",
+    # integers of any length: 2^64 and a bit, forty digits where a number or another kind is wanted, and skipped
+    "d8:intervali18446744073709553416e5:peers0:e d8:intervali-18446744073709549816e5:peers0:e d8:interval" + LONG + "5:peers0:e d8:interval" + BELOW + "5:peers0:e",
+    LONG + " d8:intervali1e5:peers" + LONG + "e d14:failure%20reason" + BELOW + "e d14:failure%20reason4:gone8:interval" + LONG + "5:peers" + LONG + "e",
+    INTERVAL + LONG + "ee " + INTERVAL + "d2:ip" + LONG + "7:peer%20id20:(20*p)4:porti1eeee " + INTERVAL + "d2:ip1:a7:peer%20id" + LONG + "4:porti1eeee",
+    INTERVAL + "d2:ip1:a7:peer%20id20:(20*p)4:port" + LONG + "eee " + INTERVAL + "d2:ip1:a7:peer%20id20:(20*p)4:port" + BELOW + "1:z0:eee",
+    INTERVAL + "d2:ip1:a7:peer%20id20:(20*p)4:porti18446744073709558497eeee",
+    "d8:complete" + LONG + "8:intervali1e5:peersld1:a" + LONG + "2:ip1:a3:key" + BELOW + "7:peer%20id20:(20*p)3:pip" + LONGER + "4:porti1e1:z" + LONG + "ee6:peers6" + BELOW + "e",
+    "d8:complete" + LONGER + "8:intervali1e4:keysl" + LONG + "e5:peers6:abcdef6:peers6" + LONGER + "e",
     "d8:intervali1800e5:peersl(2000*" + PEER + ")ee",
     "d8:intervali1800e5:peersl(1999*" + PEER + ")d2:ip0:eee",
     "d8:intervali1800e5:peers12000:(2000*%0A%00%00%01%1A%E1)e d8:intervali1800e5:peers12001:(12001*x)e",
@@ -226,6 +238,16 @@ TORRENTS = [
     # piece lengths
     (U + "6:lengthi1e4:name1:n12:piece%20length", "i0e i1e i8192e i16383e i16384e i16385e i24576e i32768e i65536e i131072e i262144e i524288e i1048576e i2097152e i4194304e i8388608e i16777216e i33554432e", ONE),
     (U + "6:lengthi1e4:name1:n12:piece%20length", "i-16384e i16777215e i9223372036854775807e i9223372036854775808e i4294983680e", ONE),
+    # integers of any length: 2^64 and a bit, forty digits where a number or another kind is wanted
+    (U + "6:lengthi1e4:name1:n12:piece%20length", LONG + " " + BELOW + " i18446744073709568000e i-18446744073709535232e " + LONGER, ONE),
+    (U + "6:length", LONG + " " + BELOW + " i9223372036854775808e i18446744073709551621e i-18446744073709551611e", NAMED),
+    (U + "5:filesld6:length", LONG + " " + BELOW + " i18446744073709551621e i1e4:pathl1:aeed6:length" + LONGER, "4:pathl1:aeee" + NAMED),
+    ("", LONG + " d8:announce" + LONG + "4:infodee d8:announce0:4:info" + BELOW + "e " + U + "5:files" + LONG + NAMED + " " + U + "5:filesl" + LONG + "e" + NAMED, ""),
+    (U + "6:lengthi1e4:name", LONG + " " + BELOW, REST),
+    (U + "6:lengthi1e4:name1:n12:piece%20lengthi16384e6:pieces", LONG, "ee"),
+    (U + "5:filesld6:lengthi1e4:path", LONG + " l" + LONG + "e l1:a" + BELOW + "e", "ee" + NAMED),
+    # the same under keys that nobody knows
+    ("d1:a" + LONG + "8:announce1:u3:btn" + LONGER + "4:infod1:a" + LONG, "5:filesld1:a" + LONG + "6:lengthi1e3:md5" + BELOW + "4:pathl1:ae1:z" + LONGER + "ee 6:lengthi1e", "6:md5sum" + BELOW + "4:name1:n7:network" + LONG + "12:piece%20lengthi16384e13:piece%20lengths" + LONG + "6:pieces20:(20*A)9:signature" + LONGER + "e4:user" + LONG + "e"),
     # totals of 0, of 1, up to exactly 16,384 pieces, and one byte more
     (U + "6:length", "i0e i1e i16384e i16385e i-1e i274877906944e i274877906945e 1:1 le i9223372036854775807e", NAMED),
     (U + "6:length", "i268435456e i268435457e i268435455e i268419073e i268419072e", "4:name1:n12:piece%20lengthi16384e6:pieces327680:(327680*A)ee"),
@@ -271,6 +293,8 @@ def pieces():
 # ---- sheets: @H@ is the key of the torrent's hash, @B@ and @A@ are those just below and above it
 
 FILE = U + "6:lengthi1e" + NAMED
+# the same with integers of any length, beside its info and in it
+SIGNED = "d1:a" + LONG + FILE[1:-2] + "9:signature" + LONGER + "e4:user" + BELOW + "e"
 LOW, HIGH = "20:(20*%00)", "20:(20*%FF)"
 SHEETS = [
     # the hash alone, first, last, between, and missing by its last byte
@@ -283,7 +307,10 @@ SHEETS = [
     # keys of other lengths, and addresses that are no strings
     (FILE, "d0:1:xe d19:(19*%00)1:xe d21:(21*%00)1:xe d19:(19*%00)1:x@H@1:ye d21:(21*%00)1:x@H@1:ye d@H@1:x19:(19*%FF)1:ye d@H@1:x21:(21*%FF)1:ye"),
     (FILE, "d@H@lee d@H@i1ee d@H@dee d" + LOW + "le@H@1:xe d@H@1:x" + HIGH + "lee d@H@1:x" + HIGH + "i1ee"),
-    # what is no dictionary, and 1 to 8
+    # integers of any length as addresses, and under keys of the torrent that nobody knows
+    (FILE, "d@H@" + LONG + "e d@H@" + BELOW + "e d" + LOW + LONGER + "@H@1:xe d@H@1:x" + HIGH + LONG + "e " + LONG + " d19:(19*%00)" + LONG + "e d@H@l" + LONG + "ee"),
+    (SIGNED, "d@H@1:xe d@A@1:xe d@H@" + LONG + "e"),
+    # what is no dictionary, and what any text is refused for
     (FILE, "le 0: i0e (0*x) d d@H@ d@H@1:x x dxe d@H@01:xe d@H@1:x" + LOW + "1:ye d@H@1:x@H@1:ye d@H@i9223372036854775808ee dee (1048577*x)"),
     (FILE, "d@H@(31*l)(31*e)e d@H@(32*l)(32*e)e d@H@l(16381*0:)ee d@H@l(16382*0:)ee"),
     # which check comes first
@@ -293,6 +320,7 @@ SHEETS = [
 NO_TORRENTS = [
     "(0*x) x d4:infode8:announce0:e li9223372036854775808ee (33*l)(33*e) l(16384*0:)e lee (1048577*x) le",
     U + "6:lengthi0e" + NAMED + " " + U + "6:lengthi1e4:name1:n12:piece%20lengthi16384e6:pieces0:ee " + U + "6:lengthi1e4:name0:" + REST,
+    U + "6:length" + LONG + NAMED + " d8:announce" + LONG + FILE[14:],
 ]
 
 
@@ -326,6 +354,7 @@ LINKED = [
     (FILE, (68 + 2, 68 + 1, 0, 255)),
     ("d8:announce0:" + FILE[14:], (68 + 1, 68)),
     (U + "5:filesld6:lengthi1e4:pathl1:aeee" + NAMED, (200,)),
+    (SIGNED, (70, 69)),
     ("d8:announce16:http://yard/ann?4:infod6:lengthi1e4:name6:a-._~z12:piece%20lengthi16384e6:pieces20:(20*A)ee", (100, 99)),
     ("d8:announce5:%00%20%7F%80%FF4:infod6:lengthi1e4:name4:%C3%A4%25%2B12:piece%20lengthi16384e6:pieces20:(20*A)ee", (95, 94)),
 ]
@@ -360,10 +389,11 @@ def weeks():
 
 
 def whole_weeks():
-    """One package, some, the samples, sums over 32 bits, 256 packages, and 1,048,576 bytes or one more."""
+    """One package, some, the samples, sums over 32 bits, integers of any length, 256 packages, and 1,048,576 bytes or one more."""
     a, b, large = week_texts.A, week_texts.B, week_texts.large
     sums = [large(2**32 - 1, b"a"), large(1, b"b")], [large(2**36, b"a"), large(2**36 - 1, b"b")]
-    for packages in ([a], [b, a], week_texts.THREE, week_texts.samples(), *sums, week_texts.numbered(256)):
+    long = week_texts.signed(FORTY), week_texts.signed(HUGE)
+    for packages in ([a], [b, a], week_texts.THREE, week_texts.samples(), *sums, *long, week_texts.numbered(256)):
         yield f"{len(packages)} packages", week_texts.week_of(packages)
     for size in (1_048_576, 1_048_577):
         yield f"{size} bytes", week_texts.week_of(week_texts.filled([a], size))
@@ -401,7 +431,7 @@ def weeks_written():
     """Into room that just fits and is a byte too short; lengths that do not add up, bodies that are refused, and the limits."""
     a, b, three = week_texts.A, week_texts.B, week_texts.THREE
     found = []
-    for packages in ([a], [b, a], three, week_texts.samples()):
+    for packages in ([a], [b, a], three, week_texts.samples(), week_texts.signed(FORTY)):
         size = len(week_texts.week_of(packages))
         found += [write_week(packages, room) for room in (size, size - 1)]
     length = len(a.body)

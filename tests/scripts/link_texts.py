@@ -4,7 +4,7 @@ from hashlib import sha1
 from itertools import permutations
 from string import ascii_letters, digits, hexdigits
 
-from notation import case, faulty, refused, show, string, text_case, to_hex
+from notation import BELOW_FORTY, FORTY, HUGE, case, faulty, refused, show, string, text_case, to_hex
 from sample_texts import SAMPLES
 from sheet_texts import BAD_TORRENTS, LONGEST_TEXT, MANY, ONE, UNANNOUNCED, hash_of, marked_at
 from torrent_texts import LISTING, LISTING_INFO, torrent
@@ -312,7 +312,10 @@ def links_written():
         cases += of_one(**changes)
     # keys that nobody knows: the hash is of info's bytes as they stand
     known = b"d1:a0:8:announce1:t10:created by2:me4:info" + ONE[ONE.index(b"4:info") + 6 : -1] + b"4:zzzzdee"
-    return cases + written(known, hash_of(ONE), b"n", b"t")
+    cases += written(known, hash_of(ONE), b"n", b"t")
+    # integers of forty digits, outside of info and in it
+    beside, signed = torrent(outer={b"a": FORTY, b"sign": BELOW_FORTY}), torrent(inner={b"signature": FORTY})
+    return cases + written(beside, hash_of(ONE), b"n", b"t") + written(signed, hash_of(signed), b"n", b"t")
 
 
 def torrent_first():
@@ -440,6 +443,16 @@ def longest_written():
     ]
 
 
+def longest_numbers():
+    """Links of torrents with integers of 100,000 digits, outside of info and in it, and torrents that are refused for one."""
+    beside, signed = torrent(outer={b"a": HUGE, b"sign": HUGE}), torrent(inner={b"signature": HUGE})
+    cases = written(beside, hash_of(ONE), b"n", b"t") + written(signed, hash_of(signed), b"n", b"t")
+    for number, marked in ((11, torrent(length=b"^" + HUGE)), (10, torrent(name=b"^" + HUGE)), (10, torrent(announce=b"^" + HUGE))):
+        text, answer = marked_at(number, marked)
+        cases += [write(text, room, answer) for room in (2000, 0)]
+    return cases
+
+
 def spread(count):
     """Bytes that take so many in a link, most of them three each."""
     return b"\xff" * (count // 3) + b"x" * (count % 3)
@@ -456,4 +469,4 @@ def sum_of(text, room, made):
 SMALL = {
     "links": lambda: pairs() + unknown() + hashes() + escapes() + forms() + twice() + rooms() + links_written() + torrent_first(),
 }
-BIG = {"links-bytes": every_byte, "links-long": longest, "links-written-long": longest_written}
+BIG = {"links-bytes": every_byte, "links-long": longest, "links-written-long": longest_written, "links-integers": longest_numbers}

@@ -49,6 +49,18 @@ def integer(number):
     return b"i%de" % number
 
 
+# Integers outside 64 bits: of forty digits, and of a hundred thousand.
+FORTY, BELOW_FORTY = (b"i" + sign + b"1" * 40 + b"e" for sign in (b"", b"-"))
+HUGE, BELOW_HUGE = (b"i" + sign + b"1" * 100_000 + b"e" for sign in (b"", b"-"))
+
+
+def outside(number):
+    """Integers outside 64 bits: the first past each end, of forty digits, and those that have this number in their lowest bits, their last digits or
+    their first ones."""
+    alike = [number + 2**64, number - 2**64, number + 2**128, number + 10**39, number * 10**30]
+    return [integer(2**63), integer(-(2**63) - 1), FORTY, BELOW_FORTY, *map(integer, alike)]
+
+
 def dictionary(entries):
     """The encoding of entries that are encoded themselves; a key without a value, None, is left out."""
     present = sorted((key, value) for key, value in entries.items() if value is not None)

@@ -1,6 +1,6 @@
-"""Tracker replies: both forms, failure reasons, every refusal at its place, and the order of the checks."""
+"""Tracker replies: both forms, failure reasons, every refusal at its place, the order of the checks, and integers of any length."""
 
-from notation import dictionary, faulty, integer, refused, string, text_case, to_hex
+from notation import BELOW_FORTY, BELOW_HUGE, FORTY, HUGE, dictionary, faulty, integer, outside, refused, string, text_case, to_hex
 
 ID = b"-WR0001-truck0000001"
 ENTRY = bytes([10, 0, 0, 7, 0x1A, 0xE1])
@@ -12,8 +12,8 @@ def reply(interval=b"i1800e", peers=b"0:", mark=b"", **more):
     return mark + dictionary(entries)
 
 
-def peer(peer_id=string(ID), ip=b"8:10.0.0.7", port=b"i6881e", mark=b""):
-    return mark + dictionary({b"peer id": peer_id, b"ip": ip, b"port": port})
+def peer(peer_id=string(ID), ip=b"8:10.0.0.7", port=b"i6881e", mark=b"", more=None):
+    return mark + dictionary({b"peer id": peer_id, b"ip": ip, b"port": port} | (more or {}))
 
 
 def listed(*peers):
@@ -135,7 +135,6 @@ def tops():
         taken(reply(interval=b"i0e"), 0, 0),
         taken(reply(interval=b"i2147483647e"), 2147483647, 0),
         bad(11, reply(interval=b"^i2147483648e")),
-        bad(4, reply(interval=b"^i9223372036854775808e")),
         bad(10, reply(peers=None, mark=b"^")),
         bad(10, reply(peers=b"^i6e")),
         bad(10, reply(peers=b"^de")),
@@ -161,6 +160,65 @@ def failures():
     ]
 
 
+def out_of_range():
+    """Integers outside 64 bits where a number is wanted, and where another kind is."""
+    cases = [bad(11, reply(interval=b"^" + number)) for number in outside(1800)]
+    for number in outside(6881):
+        cases.append(bad(11, listed(peer(port=b"^" + number))))
+        cases.append(bad(11, listed(peer(), peer(port=b"^" + number, more={b"a": b"0:"}), peer(ip=None))))
+    for number in (FORTY, BELOW_FORTY, b"i9223372036854775808e"):
+        other = b"^" + number
+        cases += [
+            bad(10, other),
+            bad(10, reply(peers=other)),
+            bad(10, reply(failure_reason=other)),
+            bad(10, listed(other)),
+            bad(10, listed(peer(), other)),
+            bad(10, listed(peer(peer_id=other))),
+            bad(10, listed(peer(ip=other))),
+        ]
+    return cases + [
+        bad(11, reply(interval=b"^" + FORTY, peers=FORTY)),
+        bad(10, reply(interval=None, peers=FORTY, mark=b"^")),
+        bad(15, listed(peer(peer_id=b"^0:", port=FORTY))),
+        bad(10, listed(peer(ip=b"^i1e", port=FORTY))),
+        bad(10, listed(peer(ip=None, port=FORTY, mark=b"^"))),
+        bad(15, reply(peers=b"^5:abcde", complete=FORTY)),
+        bad(1, b"d8:intervali1800e5:peersld2:ip0:4:port" + FORTY[:-1] + b"^"),
+        bad(2, listed(peer(port=b"i0^" + FORTY[1:]))),
+    ]
+
+
+def signed(number):
+    """Replies and peers with an integer under keys that nobody knows, before, between and after theirs."""
+    packed = f"none {ENTRY[:4].hex()} 6881"
+    one = f"{to_hex(ID)} {to_hex(b'10.0.0.7')} 6881"
+    cases = []
+    for key in ("complete", "intervals", "peer", "peers6"):
+        text = reply(peers=string(ENTRY), **{key: number})
+        cases += [taken(text, 1800, 1), text_case("peer", text, packed, 0)]
+    for key in (b"a", b"ip6", b"peer", b"peers", b"ports", b"signature"):
+        text = listed(peer(more={key: number}), peer(port=b"i1e"), peer(more={key: number}))
+        cases += [taken(text, 1800, 3), text_case("peer", text, one, 0), text_case("peer", text, one, 2)]
+    return cases + [
+        text_case("reply", reply(failure_reason=b"4:full", complete=number), f"failure {to_hex(b'full')}"),
+        # beside a failure reason nothing else is looked at
+        text_case("reply", reply(interval=number, peers=number, failure_reason=b"4:full"), f"failure {to_hex(b'full')}"),
+        text_case("peer", reply(interval=number, failure_reason=b"4:full"), refused(31), 0),
+    ]
+
+
+def longest_numbers():
+    """Integers of 100,000 digits."""
+    return [
+        *signed(HUGE),
+        bad(11, reply(interval=b"^" + HUGE)),
+        bad(11, listed(peer(), peer(port=b"^" + BELOW_HUGE))),
+        bad(10, reply(peers=b"^" + BELOW_HUGE)),
+        bad(10, listed(peer(ip=b"^" + HUGE))),
+    ]
+
+
 def long_replies():
     peers = [peer(peer_id=string(b"%020d" % number), port=integer(number)) for number in range(2000)]
     text = listed(*peers)
@@ -178,5 +236,5 @@ def long_replies():
     ]
 
 
-SMALL = {"replies": lambda: compact() + in_list() + usual() + tops() + failures()}
-BIG = {"replies-long": long_replies}
+SMALL = {"replies": lambda: compact() + in_list() + usual() + tops() + failures() + out_of_range() + signed(FORTY)}
+BIG = {"replies-long": long_replies, "replies-integers": longest_numbers}

@@ -2,7 +2,7 @@
 
 from hashlib import sha1
 
-from notation import MARK, Case, dictionary, refused, show, string, to_hex
+from notation import BELOW_FORTY, FORTY, HUGE, MARK, Case, dictionary, refused, show, string, to_hex
 from torrent_texts import FIELDS, LISTING, LISTING_INFO, file, of_files, torrent
 
 LONGEST_TEXT = 1_048_576
@@ -121,6 +121,7 @@ def of_torrents():
     known = b"d1:a0:8:announce1:t10:created by2:me4:info" + ONE[ONE.index(b"4:info") + 6 : -1] + b"4:zzzzdee"
     unknown = b"d8:announce1:t4:info" + info + b"4:zzzzlee"
     both = sheet(*(row(key, address) for key, address in sorted([(HASH, b"3:one"), (hash_of(MANY), b"4:many")])))
+    beside, signed = torrent(outer={b"a": FORTY, b"sign": BELOW_FORTY}), torrent(inner={b"signature": FORTY})
     return [
         listed(both, b"one"),
         listed(both, b"many", MANY),
@@ -132,6 +133,11 @@ def of_torrents():
         listed(sheet(row(HASH)), b"b", known),
         unlisted(sheet(row(HASH)), unknown),
         listed(sheet(row(sha1(info).digest())), b"b", unknown),
+        # integers of forty digits, outside of info and in it
+        listed(sheet(row(HASH)), b"b", beside),
+        unlisted(sheet(row(LOW)), beside),
+        unlisted(sheet(row(HASH)), signed),
+        listed(sheet(row(hash_of(signed))), b"b", signed),
     ]
 
 
@@ -162,7 +168,8 @@ def values():
     """An address that is no string, before the hash's row, there, after it and where there is none."""
     mine = row(HASH, b"1:s")
     cases = []
-    for address in (b"le", b"l1:be", b"i0e", b"i-9223372036854775808e", b"de", b"d1:a1:be", b"lldeli7eeee"):
+    numbers = [b"i0e", b"i-9223372036854775808e", b"i9223372036854775808e", b"i-9223372036854775809e", FORTY, BELOW_FORTY]
+    for address in (b"le", b"l1:be", *numbers, b"de", b"d1:a1:be", b"lldeli7eeee", b"l" + FORTY + b"e"):
         no_string = b"^" + address
         cases += [
             bad(10, sheet(row(LOW, no_string))),
@@ -182,6 +189,7 @@ def tops():
         bad(10, b"^le"),
         bad(10, b"^0:"),
         bad(10, b"^i0e"),
+        bad(10, b"^" + FORTY),
         bad(10, b"^" + string(HASH)),
         bad(10, b"^l" + row(HASH) + b"e"),
         bad(10, b"^l" + sheet(row(HASH)) + b"e"),
@@ -190,7 +198,7 @@ def tops():
 
 
 def texts():
-    """1 to 7, as of any text."""
+    """What any text is refused for."""
     mine = row(HASH, b"3:abc")
     return [
         bad(1, b"^"),
@@ -218,6 +226,10 @@ def texts():
         bad(2, b"d20:" + HASH + b"0^1:be"),
         bad(2, b"d20:" + HASH + b"i-^0ee"),
         bad(2, b"d20:" + HASH + b"i0^3ee"),
+        bad(1, b"d20:" + HASH + FORTY[:-1] + b"^"),
+        bad(2, b"d20:" + HASH + FORTY[:-1] + b"^x"),
+        bad(2, b"d20:" + HASH + b"i0^" + FORTY[1:] + b"e"),
+        bad(2, b"d^" + FORTY + b"1:be"),
         bad(2, b"d" + mine + b"^x"),
         bad(3, sheet(mine, b"^" + row(LOW))),
         bad(3, sheet(row(HIGH), b"^" + mine)),
@@ -229,9 +241,6 @@ def texts():
         # the hash as an address and then twice as a key
         bad(3, sheet(row(LOW, string(HASH)), mine, b"^" + row(HASH, string(LOW)))),
         bad(3, sheet(row(LOW, b"d1:b0:^1:a0:e"), mine)),
-        bad(4, sheet(row(HASH, b"^i9223372036854775808e"))),
-        bad(4, sheet(row(LOW, b"^i-9223372036854775809e"), mine)),
-        bad(4, sheet(mine, row(HIGH, b"l^i" + b"1" * 40 + b"ee"))),
         bad(5, sheet(row(HASH, b"l" * 31 + b"^l" + b"e" * 32))),
         bad(5, sheet(mine, row(HIGH, b"d1:a" * 31 + b"^d" + b"e" * 32))),
         bad(10, sheet(row(HASH, b"^l" + b"l" * 30 + b"e" * 31))),
@@ -247,7 +256,7 @@ def texts():
 def order():
     """Which check comes first: a text's own, the top, and then the first bad row; in a row the key."""
     mine = row(HASH, b"1:s")
-    short, long, number = row(LOW[1:]), row(LOW + b"A"), row(LOW, b"i1e")
+    short, long, number, long_number = row(LOW[1:]), row(LOW + b"A"), row(LOW, b"i1e"), row(LOW, FORTY)
     return [
         # a bad row, and what is no bencode behind it
         bad(7, sheet(short) + b"^x"),
@@ -261,21 +270,26 @@ def order():
         bad(3, sheet(number, mine, b"^" + mine)),
         bad(3, sheet(row(LOW), b"^" + short)),
         bad(3, sheet(mine, b"^" + row(HASH[:19]))),
-        bad(4, sheet(short, row(HASH, b"^i9223372036854775808e"))),
-        bad(4, sheet(row(LOW[1:], b"^i9223372036854775808e"))),
+        bad(1, b"d" + long_number + b"^"),
+        bad(2, sheet(long_number, b"20:" + HASH + b"^x")),
+        bad(3, sheet(long_number, mine, b"^" + mine)),
+        bad(7, sheet(long_number, mine) + b"^x"),
         bad(5, sheet(number, row(HASH, b"l" * 31 + b"^le" + b"e" * 31))),
         bad(5, sheet(row(b"", b"l" * 31 + b"^le" + b"e" * 31))),
         # a key and its address
         bad(15, sheet(b"^" + row(LOW[1:], b"i1e"))),
         bad(15, sheet(b"^" + row(LOW + b"A", b"le"), mine)),
         bad(15, sheet(mine, b"^" + row(HIGH[1:], b"de"))),
+        bad(15, sheet(b"^" + row(LOW[1:], b"i9223372036854775808e"))),
         # two bad rows
         bad(15, sheet(b"^" + short, long)),
         bad(15, sheet(b"^" + short, mine, row(HIGH[1:]))),
         bad(15, sheet(b"^" + short, number)),
+        bad(15, sheet(b"^" + short, row(HASH, b"i9223372036854775808e"))),
         bad(15, sheet(b"^" + short, mine, row(HIGH, b"le"))),
         bad(10, sheet(row(LOW, b"^i1e"), long)),
         bad(10, sheet(row(LOW, b"^i1e"), mine, row(HIGH[1:]))),
+        bad(10, sheet(row(LOW, b"^" + FORTY), long)),
         bad(10, sheet(row(LOW, b"^le"), row(HASH, b"i1e"))),
         bad(10, sheet(row(LOW, b"^le"), mine, row(HIGH, b"de"))),
         bad(10, sheet(row(HASH, b"^le"), row(HASH + b"\0"))),
@@ -284,8 +298,8 @@ def order():
 
 # A sheet for each of its refusals but 6 and 8.
 BAD_SHEETS = [
-    b"", b"x", sheet(row(HASH), row(LOW)), sheet(row(HASH, b"i9223372036854775808e")), sheet(row(HASH, b"l" * 32 + b"e" * 32)),
-    b"dee", b"le", sheet(row(HASH, b"le")), sheet(row(HASH[1:])),
+    b"", b"x", sheet(row(HASH), row(LOW)), sheet(row(HASH, b"l" * 32 + b"e" * 32)),
+    b"dee", b"le", sheet(row(HASH, b"le")), sheet(row(HASH, b"i9223372036854775808e")), sheet(row(HASH[1:])),
 ]
 
 # A torrent for each of its refusals but 6 and 8, each with its number and its mark.
@@ -295,16 +309,18 @@ BAD_TORRENTS = [
     (2, b"^x"),
     (2, torrent(announce=b"0^1:t")),
     (3, b"d4:infode^8:announce0:e"),
-    (4, torrent(length=b"^i9223372036854775808e")),
     (5, b"l" * 32 + b"^l" + b"e" * 33),
     (7, ONE + b"^x"),
     (10, b"^le"),
     (10, b"^de"),
     (10, torrent(announce=b"^i1e")),
+    (10, torrent(announce=b"^" + FORTY)),
     (10, torrent(top=b"^", announce=None)),
     (10, torrent(info=b"^", pieces=None)),
     (11, torrent(piece_length=b"^i5e")),
     (11, torrent(length=b"^i0e")),
+    (11, torrent(length=b"^i9223372036854775808e")),
+    (11, torrent(piece_length=b"^" + FORTY)),
     (12, torrent(pieces=b"^0:")),
     (13, torrent(name=b"^2:..")),
     (13, of_files(file(path=b"^le"))),
@@ -391,7 +407,27 @@ def longest():
     ]
 
 
+def longest_numbers():
+    """Integers of 100,000 digits in the torrent, beside its info and in it, and as addresses, one of which fills the sheet."""
+    beside, signed = torrent(outer={b"a": HUGE, b"sign": HUGE}), torrent(inner={b"signature": HUGE})
+    whole = b"i-" + b"1" * (LONGEST_TEXT - len(sheet(row(HASH, b"i-e")))) + b"e"
+    return [
+        listed(sheet(row(HASH)), b"b", beside),
+        unlisted(sheet(row(LOW)), beside),
+        listed(sheet(row(hash_of(signed))), b"b", signed),
+        unlisted(sheet(row(HASH)), signed),
+        bad(10, sheet(row(HASH, b"^" + HUGE))),
+        bad(10, sheet(row(LOW, b"^" + HUGE), row(HASH)), signed),
+        bad(10, sheet(row(HASH), row(HIGH, b"^l" + HUGE + b"e"))),
+        bad(10, sheet(row(HASH, b"^" + whole))),
+        bad(10, b"^" + HUGE),
+        bad(15, sheet(b"^" + row(LOW[1:], HUGE))),
+        bad_torrent(11, torrent(length=b"^" + HUGE), sheet(row(HASH, HUGE))),
+        bad_torrent(10, torrent(announce=b"^" + HUGE), b""),
+    ]
+
+
 SMALL = {
     "sheets": lambda: found() + addresses() + of_torrents() + keys() + values() + tops() + texts() + order() + torrent_first(),
 }
-BIG = {"sheets-rows": most_rows, "sheets-long": longest}
+BIG = {"sheets-rows": most_rows, "sheets-long": longest, "sheets-integers": longest_numbers}

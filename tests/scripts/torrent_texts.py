@@ -1,8 +1,8 @@
-"""Torrents: document 01's listing, every refusal at its place, the order of the checks, and the limits."""
+"""Torrents: document 01's listing, every refusal at its place, the order of the checks, integers of any length, and the limits."""
 
 from hashlib import sha1
 
-from notation import case, dictionary, faulty, integer, refused, string, text_case, to_hex
+from notation import BELOW_FORTY, BELOW_HUGE, FORTY, HUGE, case, dictionary, faulty, integer, outside, refused, string, text_case, to_hex
 
 LISTING = (
     b"d8:announce15:http://yard/ann4:infod5:filesld6:lengthi20000e4:pathl3:rte1:aeed6:lengthi0e4:pathl1:bee"
@@ -21,24 +21,24 @@ FIELDS = {
 }
 
 
-def torrent(top=b"", info=b"", **changes):
-    """A torrent's text; top and info are put before those dictionaries, for a mark."""
+def torrent(top=b"", info=b"", outer=None, inner=None, **changes):
+    """A torrent's text; top and info are put before those dictionaries, for a mark, and outer and inner are entries of theirs that nobody knows."""
     fields = FIELDS | {name.replace("_", " "): value for name, value in changes.items()}
-    inner = {name.encode(): fields[name] for name in ("name", "piece length", "pieces", "length", "files")}
-    outer = {b"announce": fields["announce"], b"info": info + dictionary(inner)}
-    return top + dictionary(outer)
+    known = {name.encode(): fields[name] for name in ("name", "piece length", "pieces", "length", "files")}
+    return top + dictionary({b"announce": fields["announce"], b"info": info + dictionary(known | (inner or {}))} | (outer or {}))
 
 
 def of_files(*files, **changes):
     return torrent(length=None, files=b"l" + b"".join(files) + b"e", **changes)
 
 
-def file(length=b"i5e", path=b"l1:fe", mark=b""):
-    return mark + dictionary({b"length": length, b"path": path})
+def file(length=b"i5e", path=b"l1:fe", mark=b"", more=None):
+    return mark + dictionary({b"length": length, b"path": path} | (more or {}))
 
 
-def taken(text, name, piece_length, pieces, files, total, announce=b"t"):
-    info = text[text.index(b"4:info") + 6 : -1]
+def taken(text, name, piece_length, pieces, files, total, announce=b"t", after=b""):
+    """After: the entries of the top dictionary that stand behind info."""
+    info = text[text.index(b"4:info") + 6 : -1 - len(after)]
     words = f"{to_hex(announce)} {to_hex(name)} {piece_length} {pieces} {files} {total} {sha1(info).hexdigest()}"
     return text_case("torrent", text, f"taken {words}")
 
@@ -126,7 +126,6 @@ def numbers():
     return [
         *[taken(torrent(piece_length=integer(n)), b"n", n, 1, 1, 5) for n in lengths],
         *[bad(11, torrent(piece_length=b"^" + integer(n))) for n in wrong],
-        bad(4, torrent(piece_length=b"^i9223372036854775808e")),
         bad(11, torrent(length=b"^i-1e")),
         bad(11, torrent(length=b"^i0e")),
         taken(torrent(length=b"i1e"), b"n", 16384, 1, 1, 1),
@@ -182,9 +181,11 @@ ORDER = [
     ("name", b"i1e", 10),
     ("name", b"2:..", 13),
     ("piece length", b"0:", 10),
+    ("piece length", FORTY, 11),
     ("piece length", b"i5e", 11),
     ("pieces", b"le", 10),
     ("length", b"0:", 10),
+    ("length", BELOW_FORTY, 11),
     ("length", b"i-1e", 11),
     ("length", b"i0e", 11),
     ("pieces", b"0:", 12),
@@ -229,6 +230,96 @@ def unknown_keys():
         taken(many, b"n", 16384, 1, 1, 5),
         bad(10, b"^d8:Announce1:t4:infodee"),
         bad(10, b"d8:announce1:t4:info^d6:Lengthi5e4:name1:n12:piece lengthi16384e6:pieces20:AAAAAAAAAAAAAAAAAAAAee"),
+    ]
+
+
+def out_of_range():
+    """Integers outside 64 bits where a number is wanted, and where another kind is."""
+    cases = []
+    for number in outside(16384):
+        cases.append(bad(11, torrent(piece_length=b"^" + number)))
+    for number in outside(5):
+        cases.append(bad(11, torrent(length=b"^" + number)))
+        cases.append(bad(11, of_files(file(length=b"^" + number))))
+        cases.append(bad(11, of_files(file(), file(length=b"^" + number, path=b"le"), b"i1e")))
+    for number in (FORTY, BELOW_FORTY, b"i9223372036854775808e"):
+        other = b"^" + number
+        cases += [
+            bad(10, other),
+            bad(10, torrent(announce=other)),
+            bad(10, b"d8:announce1:t4:info" + other + b"e"),
+            bad(10, torrent(name=other)),
+            bad(10, torrent(pieces=other)),
+            bad(10, torrent(length=None, files=other)),
+            bad(10, of_files(other)),
+            bad(10, of_files(file(), other)),
+            bad(10, of_files(file(path=other))),
+            bad(10, of_files(file(path=b"l" + other + b"e"))),
+            bad(10, of_files(file(path=b"l1:f" + other + b"e"))),
+        ]
+    return cases + [
+        bad(10, torrent(info=b"^", length=FORTY, files=FORTY)),
+        bad(10, torrent(info=b"^", length=None, inner={b"lengths": FORTY})),
+        bad(10, torrent(top=b"^", announce=None, outer={b"announced": FORTY})),
+        bad(12, torrent(pieces=b"^0:", inner={b"signature": FORTY})),
+        bad(13, of_files(file(path=b"^le", more={b"signature": FORTY}))),
+        bad(1, torrent(inner={b"signature": FORTY[:-1]})[:-2] + b"^"),
+        bad(2, torrent(inner={b"signature": b"i0^" + FORTY[1:]})),
+        bad(3, b"d8:announce1:t9:signature" + FORTY + b"^4:infodee"),
+    ]
+
+
+# Keys that nobody knows, before, between and after those of the top dictionary, of info and of a file.
+IN_TOP = [b"a", b"announced", b"inf", b"signature"]
+IN_INFO = [b"a", b"filet", b"lengths", b"nam", b"named", b"piece lengt", b"piece lengths", b"piecer", b"signature"]
+IN_FILE = [b"a", b"lengths", b"patch", b"signature"]
+
+
+def signed(number):
+    """Torrents with an integer under one of these keys, or under all of them."""
+    cases = []
+    for keys in [*([key] for key in IN_TOP), IN_TOP]:
+        after = b"".join(string(key) + number for key in keys if key > b"info")
+        cases.append(taken(torrent(outer=dict.fromkeys(keys, number)), b"n", 16384, 1, 1, 5, after=after))
+    for keys in [*([key] for key in IN_INFO), IN_INFO]:
+        cases.append(taken(torrent(inner=dict.fromkeys(keys, number)), b"n", 16384, 1, 1, 5))
+        cases.append(taken(of_files(file(), inner=dict.fromkeys(keys, number)), b"n", 16384, 1, 1, 5))
+    for keys in [*([key] for key in IN_FILE), IN_FILE]:
+        text = of_files(file(), file(length=b"i7e", path=b"l1:g1:he", more=dict.fromkeys(keys, number)), file(path=b"l1:ie"))
+        cases += [taken(text, b"n", 16384, 1, 3, 17), text_case("file", text, "5 7 67/68", 1), text_case("file", text, "12 5 69", 2)]
+    return cases
+
+
+def long_numbers():
+    """Skipped keys with integers outside 64 bits, alone and inside of what is skipped, and what is asked of such a torrent."""
+    text = torrent(pieces=string(sha1(b"board").digest()), inner={b"signature": FORTY})
+    deep = b"l" + FORTY + b"d1:a" + BELOW_FORTY + b"1:b" + FORTY + b"ee"
+    return [
+        *signed(FORTY),
+        *[taken(torrent(inner={b"signature": number}), b"n", 16384, 1, 1, 5) for number in (*outside(5), deep)],
+        *[taken(of_files(file(more={b"md5": number})), b"n", 16384, 1, 1, 5) for number in (BELOW_FORTY, deep)],
+        text_case("file", text, "0 5 6e", 0),
+        text_case("file", text, refused(31), 1),
+        text_case("piece", text, "yes", 0, to_hex(b"board")),
+        text_case("piece", text, "no", 0, to_hex(b"boarD")),
+    ]
+
+
+def longest_numbers():
+    """Integers of 100,000 digits, skipped and in the place of others, and one that fills the text."""
+    rest = 1_048_576 - len(torrent(inner={b"signature": b"ie"}))
+    full, over = (torrent(inner={b"signature": b"i" + b"1" * count + b"e"}) for count in (rest, rest + 1))
+    return [
+        *signed(HUGE),
+        taken(full, b"n", 16384, 1, 1, 5),
+        text_case("torrent", over, refused(8)),
+        bad(11, torrent(piece_length=b"^" + HUGE)),
+        bad(11, torrent(length=b"^" + BELOW_HUGE)),
+        bad(11, of_files(file(), file(length=b"^" + HUGE))),
+        bad(10, torrent(name=b"^" + HUGE)),
+        bad(10, torrent(announce=b"^" + BELOW_HUGE)),
+        bad(10, of_files(file(path=b"l1:f^" + HUGE + b"e"))),
+        bad(12, torrent(pieces=b"^0:", inner={b"signature": HUGE})),
     ]
 
 
@@ -304,6 +395,6 @@ def limits():
 SMALL = {
     "torrents-listing": listing,
     "pieces": piece_checks,
-    "torrents": lambda: files() + kinds() + numbers() + pieces() + names() + order() + unknown_keys(),
+    "torrents": lambda: files() + kinds() + numbers() + pieces() + names() + order() + unknown_keys() + out_of_range() + long_numbers(),
 }
-BIG = {"torrents-limits": limits, "pieces-long": long_pieces}
+BIG = {"torrents-limits": limits, "torrents-integers": longest_numbers, "pieces-long": long_pieces}

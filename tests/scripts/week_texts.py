@@ -1,11 +1,11 @@
 """A week's packages in one file: what they come to, every field of the table wrong, cut off or given before, bodies refused at their place in the
-file, the order of the checks, files written of bodies, and the limits."""
+file, the order of the checks, integers of any length in bodies, files written of bodies, and the limits."""
 
 import re
 from collections import namedtuple
 from hashlib import sha1
 
-from notation import MARK, case, integer, refused, string
+from notation import BELOW_FORTY, BELOW_HUGE, FORTY, HUGE, MARK, case, integer, refused, string
 from sample_texts import SAMPLES
 from sheet_texts import BAD_TORRENTS, LONGEST_TEXT, hash_of
 from torrent_texts import LISTING, file, of_files, torrent
@@ -89,7 +89,7 @@ def offset_of(packages, package_number):
 
 
 # What comes many times in a row, which a script has as a run.
-UNITS = [b"A", b"u", b"\0", b"\xff", b"0:", file(b"i0e")]
+UNITS = [b"A", b"u", b"1", b"\0", b"\xff", b"0:", file(b"i0e")]
 RUNS = re.compile(b"|".join(b"((?:%s){12,})" % re.escape(unit) for unit in UNITS))
 
 
@@ -358,6 +358,32 @@ def order():
     ]
 
 
+def signed(number):
+    """Packages with an integer under a key that nobody knows: before info, after it, in it and in a file's dictionary."""
+    # of the third the info is C's, and does not end the body
+    return [
+        package(torrent(name=string(b"a"), outer={b"a": number, b"b": number}), 1, 5),
+        package(torrent(name=string(b"b"), inner={b"a": number, b"signature": number}), 1, 5),
+        Package(torrent(name=string(b"c"), outer={b"sign": number}), 1, 5, C.info_hash),
+        package(of_files(file(), file(length=b"i7e", more={b"a": number, b"md5": number, b"sign": number}), name=string(b"d")), 2, 12),
+    ]
+
+
+def long_numbers(long, below):
+    """Integers outside 64 bits in bodies: skipped, refused, beside another hash, and cut off by the body's end though digits follow."""
+    together = signed(long)
+    cases = taken(together, "integers of any length") + taken([together[2], B])
+    for number, body in ((11, torrent(length=b"^" + long)), (11, torrent(piece_length=b"^" + below)), (10, torrent(name=b"^" + below)), (10, b"^" + long)):
+        one, place = marked(body)
+        for packages in ([one], [B, one, A]):
+            cases.append(bad(week_of(packages), number, offset_of(packages, packages.index(one)) + place))
+    cut = [A._replace(body=b"d1:a" + long[:-9]), B._replace(body=long[-9:])]
+    return cases + [
+        bad_field(together, {hash_field(1): B.info_hash}, hash_field(1)),
+        bad(week_of(cut), 1, offset_of(cut, 1), "a body that ends among digits"),
+    ]
+
+
 # ---- writing
 
 
@@ -406,6 +432,7 @@ def files_written():
         *written(THREE, "three bodies"),
         *written([B, A, MANY]),
         *written(samples(), "samples/packages.week"),
+        *written(signed(FORTY), "integers of forty digits"),
     ]
 
 
@@ -570,11 +597,17 @@ def most_values():
     ]
 
 
+def longest_numbers():
+    """Integers of 100,000 digits, read and written."""
+    return long_numbers(HUGE, BELOW_HUGE) + written(signed(HUGE))
+
+
 SMALL = {
     "weeks": lambda: packages() + sums() + wrong_numbers() + wrong_offsets() + wrong_lengths() + wrong_hashes() + some_cuts() + after_the_last()
-    + short_bodies() + order(),
+    + short_bodies() + order() + long_numbers(FORTY, BELOW_FORTY),
     "weeks-written": lambda: files_written() + wrong_sums() + twice_or_wrong(),
 }
 BIG = {
     "weeks-cut": every_cut, "weeks-bodies": lambda: bad_bodies() + wrong_bodies(), "weeks-most": most_packages, "weeks-long": longest, "weeks-values": most_values,
+    "weeks-integers": longest_numbers,
 }

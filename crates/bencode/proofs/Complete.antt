@@ -4,7 +4,6 @@ use mathlib.Core.Bool.{true, false}
 use mathlib.Core.List.{List, [], _∷_, _++_, append-assoc}
 use Prim.Native.Nat.{ℕ, zero, suc, _+_, _<_, _≤_}
 use native.Mathlib.Omega.{arith}
-use lib.IntN.{ℤ}
 use lib.ListN.{length, length-append}
 use borrow.Author.Tests.{lt-ltb, ne-eqb}
 use Rattle.bencode_scalar.specs.Written.{writtenString, signed}
@@ -12,7 +11,7 @@ use Rattle.bencode_scalar.specs.Reading.{Got, got, mapGot, isDigit, stringOf, i
 use Rattle.bencode_scalar.proofs.Decimal.{digit-range}
 use Rattle.bencode_scalar.proofs.Complete.{numeral, Key, string-complete, int-complete}
 use Rattle.bencode.specs.Value.{Value, Items, Entries, str, int, list, dict, none, item, empty, entry, encode, encodeItems, encodeEntries, count, countItems, countEntries, Keeps, KeepsItems, KeepsEntries, Prev, start, last, follows}
-use Rattle.bencode.specs.Decode.{digit, kindOf, ranged, closes, itemsOf, keyOf, entriesOf, valueFrom}
+use Rattle.bencode.specs.Decode.{digit, kindOf, closes, itemsOf, keyOf, entriesOf, valueFrom}
 
 -- the value at a byte
 module _ (e : ℕ) (t : List ℕ) (p n : ℕ) (few : n < 16384) where
@@ -21,7 +20,7 @@ module _ (e : ℕ) (t : List ℕ) (p n : ℕ) (few : n < 16384) where
   str-here zero b k = rw (k, lt-ltb n 16384 few)
   str-here (suc d) b k = rw (k, lt-ltb n 16384 few)
 
-  pub int-here : (d : ℕ) → valueFrom d e (105 ∷ t) p n ≡ mapGot int (ranged p (integerOf e t (p + 1) (n + 1)))
+  pub int-here : (d : ℕ) → valueFrom d e (105 ∷ t) p n ≡ mapGot int (integerOf e t (p + 1) (n + 1))
   unfolding valueFrom kindOf
   int-here zero = rw (lt-ltb n 16384 few)
   int-here (suc d) = rw (lt-ltb n 16384 few)
@@ -92,7 +91,7 @@ mutual
   complete (str k) d e r p n h x c =
       let y = string-complete e k r p x in
       ap (λ (l : List ℕ). valueFrom d e l p n) (y .text) ∙ str-here e (y .rest) p n (omega arith) d (y .first) (kind-digit (y .first) (y .starts)) ∙ ap (mapGot str) (y .reads (n + 1))
-  complete (int z) d e r p n h x c = int-here e ((signed z ++ 101 ∷ []) ++ r) p n (omega arith) d ∙ ap (λ (g : Got ℤ). mapGot int (ranged p g)) (int-complete e p z r (n + 1)) ∙ rw h
+  complete (int z) d e r p n h x c = int-here e ((signed z ++ 101 ∷ []) ++ r) p n (omega arith) d ∙ ap (mapGot int) (int-complete e p z r (n + 1))
   complete (list vs) d e r p n h x c =
       rw (h .1) (list-here e (encodeItems vs ++ r) p n (omega arith) (h .0)
       ∙ ap (mapGot list) (complete-items vs (h .0) e r (p + 1) (n + 1) (suc e) (h .2) (omega arith) (omega arith) (omega arith))

@@ -2,18 +2,17 @@
 use mathlib.Core.Path.{_≡_, refl, sym, ap, _∙_}
 use mathlib.Core.Bool.{Bool, true, false}
 use mathlib.Core.List.{List}
-use Prim.Native.Nat.{ℕ, _+_, _*_, _-_, _<_, _≤_, _^_, pred}
+use Prim.Native.Nat.{ℕ, _+_, _*_, _-_, _<_, _≤_}
 use native.Mathlib.Omega.{arith}
 use native.Mathlib.Nat.{add-zero}
 use lib.Dec.{eqb}
 use lib.ListN.{length, getD, drop}
-use borrow.Author.Tests.{lt-ltb, ne-eqb, eqb-true}
+use borrow.Author.Tests.{ne-eqb, eqb-true}
 use Rattle.bencode_scalar.specs.Reading.{isDigit, numVal, numLen, digitsVal, digitsLen, stringAt, closedOf, minusAt, integerAt}
 use Rattle.bencode_scalar.specs.Answers.{textOf}
 use Rattle.bencode_scalar.specs.declared.Text.the-variants.{Whole}
 use Rattle.bencode_scalar.proofs.Decimal.{cap, Reading, digit-range, val-more, val-stop, len-more, len-stop, reading-stop}
 use Rattle.bencode_scalar.proofs.Forms.{string-whole, closed-whole, minus-here, int-plus, int-minus}
-use Rattle.bencode.specs.Decode.{ranged}
 use Rattle.bencode.specs.Answers.{stepOf, Held, Ended}
 use Rattle.bencode.specs.declared.Step.the-variants.{Past}
 
@@ -84,50 +83,47 @@ module _ (s : List ℕ) (p n r : ℕ) (l : p < length s) (m : length s < cap) (d
       let o = ne-eqb (getD s p 0) 48 z in
       held-by (p + 1 + digitsLen (drop (p + 1) s)) (digitsVal a (drop (p + 1) s)) (rw o) (rw (o, y)) e
 
+-- a run of digits from `at` on, of which those before i are passed
+abbrev pub Passing : List ℕ → ℕ → ℕ → Type 0
+Passing s at i = (i ≤ length s) × (at + digitsLen (drop at s) ≡ i + digitsLen (drop i s))
+
+pub passing-more : (s : List ℕ) (at i : ℕ) → Passing s at i → i < length s → isDigit (getD s i 0) ≡ true → Passing s at (i + 1)
+passing-more s at i w l d = (omega arith, omega (arith, w .1, len-more s i l d))
+
 -- the digits of an integer, by what `closing` answers
-pub ended-digits : (s : List ℕ) (at acc i v m r : ℕ) → Reading s at acc i v → i < length s → isDigit (getD s i 0) ≡ false → m < cap → Ended s i v m r
-    → Ended s (at + digitsLen (drop at s)) (digitsVal acc (drop at s)) m r
-ended-digits s at acc i v m r w l x h e =
-    let u = reading-stop s at acc w l x in
-    let y : digitsVal acc (drop at s) ≡ v = omega (arith, u .0, e .fits) in
-    rw (← (u .1), y) e
+pub ended-digits : (s : List ℕ) (at i r : ℕ) → Passing s at i → i < length s → isDigit (getD s i 0) ≡ false → Ended s i r → Ended s (at + digitsLen (drop at s)) r
+ended-digits s at i r w l x e =
+    let u : at + digitsLen (drop at s) ≡ i = omega (arith, w .1, len-stop s i l x) in
+    rw u e
 
 -- an integer whose i stands at p
 module _ (s : List ℕ) (p n r : ℕ) (h : p + 2 < length s) (x : getD s p 0 ≡ 105) where
   abbrev goal : Type 0
-  goal = Past (record { at = r; count = n }) ≡ stepOf (ranged p (integerAt (length s) (drop p s) p n))
+  goal = Past (record { at = r; count = n }) ≡ stepOf (integerAt (length s) (drop p s) p n)
 
-  plus-by : isDigit (getD s (p + 1) 0) ≡ true → (c v : ℕ) → c ≡ p + 2 + numLen (getD s (p + 1) 0) (drop (p + 2) s) → v ≡ numVal (getD s (p + 1) 0) (drop (p + 2) s)
-      → Ended s c v 9223372036854775808 r → goal
-  plus-by d c v k w e =
+  plus-by : isDigit (getD s (p + 1) 0) ≡ true → (c : ℕ) → c ≡ p + 2 + numLen (getD s (p + 1) 0) (drop (p + 2) s) → Ended s c r → goal
+  plus-by d c k e =
       let a : p + 1 + 1 ≡ p + 2 = omega arith in
       let z : getD s (p + 1) 0 ≡ 45 → ⊥ = λ y. absurd (omega (arith, digit-range (getD s (p + 1) 0) d)) in
       let i : integerAt (length s) (drop p s) p n ≡ closedOf false (length s) (getD s (p + 1) 0) (drop (p + 2) s) (p + 2) n = int-plus s p n (omega arith) x (omega arith) z d ∙ rw a in
-      let u : numVal (getD s (p + 1) 0) (drop (p + 2) s) < 2 ^ 63 = omega (arith, e .fits) in
-      sym (ap (λ g. stepOf (ranged p g)) (i ∙ closed-whole s false (getD s (p + 1) 0) (p + 2) n c k (e .here) (e .ends)) ∙ rw (lt-ltb (numVal (getD s (p + 1) 0) (drop (p + 2) s)) (2 ^ 63) u, e .past))
+      sym (ap stepOf (i ∙ closed-whole s false (getD s (p + 1) 0) (p + 2) n c k (e .here) (e .ends)) ∙ rw (e .past))
 
-  pub zero-past : getD s (p + 1) 0 ≡ 48 → Ended s (p + 2) 0 9223372036854775808 r → goal
-  zero-past y e = plus-by (rw y) (p + 2) 0 (rw y (sym (add-zero (p + 2)))) (rw y) e
+  pub zero-past : getD s (p + 1) 0 ≡ 48 → Ended s (p + 2) r → goal
+  zero-past y e = plus-by (rw y) (p + 2) (rw y (sym (add-zero (p + 2)))) e
 
-  pub plus-past : (getD s (p + 1) 0 ≡ 48 → ⊥) → isDigit (getD s (p + 1) 0) ≡ true → (a : ℕ) → a ≡ getD s (p + 1) 0 - 48
-      → Ended s (p + 2 + digitsLen (drop (p + 2) s)) (digitsVal a (drop (p + 2) s)) 9223372036854775808 r → goal
-  plus-past z d a y e =
-      let o = ne-eqb (getD s (p + 1) 0) 48 z in
-      plus-by d (p + 2 + digitsLen (drop (p + 2) s)) (digitsVal a (drop (p + 2) s)) (rw o) (rw (o, y)) e
+  pub plus-past : (getD s (p + 1) 0 ≡ 48 → ⊥) → isDigit (getD s (p + 1) 0) ≡ true → Ended s (p + 2 + digitsLen (drop (p + 2) s)) r → goal
+  plus-past z d e = let o = ne-eqb (getD s (p + 1) 0) 48 z in plus-by d (p + 2 + digitsLen (drop (p + 2) s)) (rw o) e
 
-  pub below-past : getD s (p + 1) 0 ≡ 45 → Past (record { at = r; count = n }) ≡ stepOf (ranged p (minusAt (length s) (drop (p + 2) s) (p + 2) n)) → goal
+  pub below-past : getD s (p + 1) 0 ≡ 45 → Past (record { at = r; count = n }) ≡ stepOf (minusAt (length s) (drop (p + 2) s) (p + 2) n) → goal
   below-past y e =
       let a : p + 1 + 1 ≡ p + 2 = omega arith in
       let i : integerAt (length s) (drop p s) p n ≡ minusAt (length s) (drop (p + 2) s) (p + 2) n = int-minus s p n (omega arith) x (omega arith) y ∙ rw a in
-      e ∙ ap (λ g. stepOf (ranged p g)) (sym i)
+      e ∙ ap stepOf (sym i)
 
 -- the digits after a minus before p
-pub minus-past : (s : List ℕ) (p n o r : ℕ) → p < length s → (getD s p 0 ≡ 48 → ⊥) → isDigit (getD s p 0) ≡ true → (a : ℕ) → a ≡ getD s p 0 - 48
-    → Ended s (p + 1 + digitsLen (drop (p + 1) s)) (digitsVal a (drop (p + 1) s)) 9223372036854775809 r
-    → Past (record { at = r; count = n }) ≡ stepOf (ranged o (minusAt (length s) (drop p s) p n))
-minus-past s p n o r l z d a y e =
+pub minus-past : (s : List ℕ) (p n r : ℕ) → p < length s → (getD s p 0 ≡ 48 → ⊥) → isDigit (getD s p 0) ≡ true → Ended s (p + 1 + digitsLen (drop (p + 1) s)) r
+    → Past (record { at = r; count = n }) ≡ stepOf (minusAt (length s) (drop p s) p n)
+minus-past s p n r l z d e =
     let t = ne-eqb (getD s p 0) 48 z in
-    let v : digitsVal a (drop (p + 1) s) ≡ numVal (getD s p 0) (drop (p + 1) s) = rw (t, y) in
     let k : p + 1 + digitsLen (drop (p + 1) s) ≡ p + 1 + numLen (getD s p 0) (drop (p + 1) s) = rw t in
-    let u : pred (numVal (getD s p 0) (drop (p + 1) s)) < 2 ^ 63 = omega (arith, e .fits, v) in
-    sym (ap (λ g. stepOf (ranged o g)) (minus-here s p n l z d ∙ closed-whole s true (getD s p 0) (p + 1) n (p + 1 + digitsLen (drop (p + 1) s)) k (e .here) (e .ends)) ∙ rw (lt-ltb (pred (numVal (getD s p 0) (drop (p + 1) s))) (2 ^ 63) u, e .past))
+    sym (ap stepOf (minus-here s p n l z d ∙ closed-whole s true (getD s p 0) (p + 1) n (p + 1 + digitsLen (drop (p + 1) s)) k (e .here) (e .ends)) ∙ rw (e .past))

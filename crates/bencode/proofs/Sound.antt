@@ -8,22 +8,17 @@ use lib.Dec.{ltb, eqb}
 use lib.IntN.{ℤ}
 use lib.ListN.{length, drop}
 use borrow.Author.Tests.{ltb-true, eqb-true}
-use Rattle.refusal.specs.Numbers.{byte, order, integer, many}
+use Rattle.refusal.specs.Numbers.{byte, order, many}
 use Rattle.refusal.proofs.Cases.{by-test}
-use Rattle.bencode_scalar.specs.Written.{inRange}
 use Rattle.bencode_scalar.specs.Reading.{Got, got, bad, isDigit, stringOf, integerOf}
 use Rattle.bencode_scalar.proofs.Sound.{Holds, holds-map, holds-then, holds-cond, At, at-then, at-byte, at-left, TextP, string-sound, IntP, int-sound}
 use Rattle.bencode.specs.Value.{Value, Items, Entries, str, int, list, dict, item, entry, encode, encodeItems, encodeEntries, count, countItems, countEntries, Keeps, KeepsItems, KeepsEntries, Prev, start, last, follows}
-use Rattle.bencode.specs.Decode.{Kind, digit, letterI, letterL, letterD, other, kindOf, begin, ranged, valueBy, closes, itemsBy, itemsOf, ordered, keyOf, entriesBy, entriesOf, valueFrom}
+use Rattle.bencode.specs.Decode.{Kind, digit, letterI, letterL, letterD, other, kindOf, begin, valueBy, closes, itemsBy, itemsOf, ordered, keyOf, entriesBy, entriesOf, valueFrom}
 
 holds-begin : {A : Type 0} (P : A → List ℕ → ℕ → ℕ → Type 0) (n p : ℕ) (g : Got A) → (n < 16384 → Holds P g) → Holds P (begin n p g)
 holds-begin P n p g h = holds-cond P (ltb n 16384) g (bad many p) (λ e. h (ltb-true n 16384 e)) (λ e. tt)
 
--- an integer within its range; a key that is greater than the one before
-ranged-sound : (l : List ℕ) (p n : ℕ) (g : Got ℤ) → Holds (IntP l p n) g → Holds (λ z r q m. IntP l p n z r q m × (inRange z ≡ true)) (ranged p g)
-ranged-sound l p n (got z r q m) h = holds-cond (λ z r q m. IntP l p n z r q m × (inRange z ≡ true)) (inRange z) (got z r q m) (bad integer p) (λ e. (h, e)) (λ e. tt)
-ranged-sound l p n (bad r q) h = tt
-
+-- a key that is greater than the one before
 abbrev pub KeyP : List ℕ → Prev → ℕ → ℕ → List ℕ → List ℕ → ℕ → ℕ → Type 0
 KeyP l prev p n k r q m = TextP l p (n + 1) k r q m × (follows prev k ≡ true) × (n < 16384)
 
@@ -112,9 +107,9 @@ module _ (l : List ℕ) (d p n : ℕ) (few : n < 16384) where
   value-str (got k r q m) h = record { at = h .0; counted = h .1; few = omega (arith, h .1); keeps = tt }
   value-str (bad r q) h = tt
 
-  value-int : (g : Got ℤ) → Holds (λ z r q m. IntP l p (n + 1) z r q m × (inRange z ≡ true)) g → Holds (λ z. Took l d p n (int z)) g
+  value-int : (g : Got ℤ) → Holds (IntP l p (n + 1)) g → Holds (λ z. Took l d p n (int z)) g
   unfolding encode count Keeps
-  value-int (got z r q m) h = record { at = h .0 .0; counted = h .0 .1; few = omega (arith, h .0 .1); keeps = h .1 }
+  value-int (got z r q m) h = record { at = h .0; counted = h .1; few = omega (arith, h .1); keeps = tt }
   value-int (bad r q) h = tt
 
   value-list : (t : List ℕ) → l ≡ 108 ∷ t → (g : Got Items) → Holds (TookItems t d (p + 1) (n + 1)) g → Holds (λ vs. Took l (suc d) p n (list vs)) g
@@ -150,9 +145,9 @@ value-by : (d e b : ℕ) (t : List ℕ) (p n : ℕ) (ls : List ℕ → ℕ → �
 value-by d e b t p n ls ds x other v hl hd = tt
 value-by d e b t p n ls ds x digit v hl hd = holds-begin (Took (b ∷ t) d p n) n p _ (λ l. holds-map (Took (b ∷ t) d p n) str (stringOf e b t p (n + 1))
     (value-str (b ∷ t) d p n l (stringOf e b t p (n + 1)) (string-sound e b t p (n + 1) v x)))
-value-by d e b t p n ls ds x letterI v hl hd = holds-begin (Took (b ∷ t) d p n) n p _ (λ l. holds-map (Took (b ∷ t) d p n) int (ranged p (integerOf e t (p + 1) (n + 1)))
-    (value-int (b ∷ t) d p n l (ranged p (integerOf e t (p + 1) (n + 1)))
-    (ranged-sound (b ∷ t) p (n + 1) (integerOf e t (p + 1) (n + 1)) (subst (λ (c : ℕ). Holds (IntP (c ∷ t) p (n + 1)) (integerOf e t (p + 1) (n + 1))) (sym v) (int-sound e p t (n + 1))))))
+value-by d e b t p n ls ds x letterI v hl hd = holds-begin (Took (b ∷ t) d p n) n p _ (λ l. holds-map (Took (b ∷ t) d p n) int (integerOf e t (p + 1) (n + 1))
+    (value-int (b ∷ t) d p n l (integerOf e t (p + 1) (n + 1))
+    (subst (λ (c : ℕ). Holds (IntP (c ∷ t) p (n + 1)) (integerOf e t (p + 1) (n + 1))) (sym v) (int-sound e p t (n + 1)))))
 value-by d e b t p n ls ds x letterL v hl hd = holds-begin (Took (b ∷ t) d p n) n p _ (λ l. holds-map (Took (b ∷ t) d p n) list (ls t (p + 1) (n + 1)) (hl v l))
 value-by d e b t p n ls ds x letterD v hl hd = holds-begin (Took (b ∷ t) d p n) n p _ (λ l. holds-map (Took (b ∷ t) d p n) dict (ds t (p + 1) (n + 1)) (hd v l))
 

@@ -9,10 +9,10 @@ use lib.IntN.{ℤ}
 use lib.ListN.{length, getD, take, drop, length-append, length-drop, drop-of-length-le}
 use lib.Seq.{drop-drop, drop-append-seam}
 use borrow.Author.Tests.{lt-ltb, le-ltb, ne-eqb, eqb-true, eqb-false}
-use Rattle.refusal.specs.Numbers.{cut, byte, order, integer, deep, many}
+use Rattle.refusal.specs.Numbers.{cut, byte, order, deep, many}
 use Rattle.refusal.specs.Limits.{mostValues}
 use Rattle.refusal.specs.declared.Refusal.{Refusal}
-use Rattle.refusal.proofs.Cases.{no-way}
+use Rattle.refusal.proofs.Cases.{by-test, no-way}
 use Rattle.bencode_scalar.specs.Written.{decimal, writtenString, inRange}
 use Rattle.bencode_scalar.specs.Reading.{Got, got, bad, andThen, mapGot, isDigit, stringOf, stringAt, integerOf, integerAt}
 use Rattle.bencode_scalar.specs.Answers.{textOf, integerIs}
@@ -22,7 +22,7 @@ use Rattle.bencode_scalar.specs.declared.Int.the-variants.{Is, Large, Refused a
 use Rattle.bencode_scalar.proofs.Forms.{at-head, at-byte}
 use Rattle.bencode_scalar.proofs.Sound.{Holds, At as Stood, at-left, IntP, integer-at-sound}
 use Rattle.bencode.specs.Value.{Value, Items, Entries, str, int, list, dict, item, entry, count, Prev, start, last, follows}
-use Rattle.bencode.specs.Decode.{Kind, digit, letterI, letterL, letterD, other, kindOf, begun, ranged, valueBy, closes, itemsOf, ordered, keyOf, entriesOf, valueFrom}
+use Rattle.bencode.specs.Decode.{Kind, digit, letterI, letterL, letterD, other, kindOf, begun, valueBy, closes, itemsOf, ordered, keyOf, entriesOf, valueFrom}
 use Rattle.bencode.specs.Answers.{stepOf, prevOf, keyIs, told, inside}
 use Rattle.bencode.specs.declared.Cursor.{Cursor}
 use Rattle.bencode.specs.declared.Key.{Key}
@@ -184,10 +184,10 @@ module _ (s : List ℕ) (p n : ℕ) where
     value-deep zero x e h = rw (at-head s p l) (deep-by (kindOf (getD s p 0)) e h)
     value-deep (suc d) x e h = absurd (omega arith)
 
-    pub value-int : (d : ℕ) → getD s p 0 ≡ 105 → n < 16384 → stepOf (ranged p (integerAt (length s) (drop p s) p (n + 1))) ≡ here d
+    pub value-int : (d : ℕ) → getD s p 0 ≡ 105 → n < 16384 → stepOf (integerAt (length s) (drop p s) p (n + 1)) ≡ here d
     unfolding valueFrom
-    value-int zero e h = rw (at-byte s p 105 l e, kind-I 105 refl, lt-ltb n 16384 h) (sym (step-map int (ranged p (integerOf (length s) (drop (p + 1) s) (p + 1) (n + 1)))))
-    value-int (suc d) e h = rw (at-byte s p 105 l e, kind-I 105 refl, lt-ltb n 16384 h) (sym (step-map int (ranged p (integerOf (length s) (drop (p + 1) s) (p + 1) (n + 1)))))
+    value-int zero e h = rw (at-byte s p 105 l e, kind-I 105 refl, lt-ltb n 16384 h) (sym (step-map int (integerOf (length s) (drop (p + 1) s) (p + 1) (n + 1))))
+    value-int (suc d) e h = rw (at-byte s p 105 l e, kind-I 105 refl, lt-ltb n 16384 h) (sym (step-map int (integerOf (length s) (drop (p + 1) s) (p + 1) (n + 1))))
 
     pub value-str : (d : ℕ) → isDigit (getD s p 0) ≡ true → n < 16384 → stepOf (stringAt (length s) (drop p s) p (n + 1)) ≡ here d
     unfolding valueFrom
@@ -413,40 +413,14 @@ module _ (s : List ℕ) (before : Prev) (p n : ℕ) where
 
 -- an integer that the code read, as value number n
 module _ (p n : ℕ) where
-  is-by : (l : List ℕ) (g : Got ℤ) → Holds (IntP l p n) g → (z : ℤ) (q : ℕ) → Is z q ≡ integerIs g → Past (record { at = q; count = n }) ≡ stepOf (ranged p g)
-  is-by l (got y r o m) h z q e = go (inRange y) refl
-    where
-      go : (t : Bool) → inRange y ≡ t → Past (record { at = q; count = n }) ≡ stepOf (cond (inRange y) (got y r o m) (bad integer p))
-      go true x = let f : Is z q ≡ Is y o = e ∙ rw x in rw x (cc (h .1))
-      go false x = let f : Is z q ≡ Large o = e ∙ rw x in no-way (cc)
-  is-by l (bad r o) h z q e = no-way (cc)
+  abbrev byInt : Int → Step
+  byInt (Is z q) = Past (record { at = q; count = n })
+  byInt (Large q) = Past (record { at = q; count = n })
+  byInt (Unread r) = Bad r
 
-  large-by : (g : Got ℤ) (q : ℕ) → Large q ≡ integerIs g → Bad (record { number = integer; place = p }) ≡ stepOf (ranged p g)
-  large-by (got y r o m) q e = go (inRange y) refl
-    where
-      go : (t : Bool) → inRange y ≡ t → Bad (record { number = integer; place = p }) ≡ stepOf (cond (inRange y) (got y r o m) (bad integer p))
-      go true x = let f : Large q ≡ Is y o = e ∙ rw x in no-way (cc)
-      go false x = rw x
-  large-by (bad r o) q e = no-way (cc)
+  int-by : (l : List ℕ) (g : Got ℤ) → Holds (IntP l p n) g → byInt (integerIs g) ≡ stepOf g
+  int-by l (got z r q m) h = by-test (λ (i : Int). byInt i ≡ Past (record { at = q; count = m })) (inRange z) (λ e. rw (h .1)) (λ e. rw (h .1))
+  int-by l (bad r o) h = refl
 
-  unread-by : (g : Got ℤ) (r : Refusal) → Unread r ≡ integerIs g → Bad r ≡ stepOf (ranged p g)
-  unread-by (got y l o m) r e = go (inRange y) refl
-    where
-      go : (t : Bool) → inRange y ≡ t → Bad r ≡ stepOf (cond (inRange y) (got y l o m) (bad integer p))
-      go true x = let f : Unread r ≡ Is y o = e ∙ rw x in no-way (cc)
-      go false x = let f : Unread r ≡ Large o = e ∙ rw x in no-way (cc)
-  unread-by (bad a b) r e = ap (λ (x : Int). byInt x) e
-    where
-      byInt : Int → Step
-      byInt (Is z q) = Bad r
-      byInt (Large q) = Bad r
-      byInt (Unread u) = Bad u
-
-  pub is-at : (s : List ℕ) (z : ℤ) (q : ℕ) → Is z q ≡ integerIs (integerAt (length s) (drop p s) p n) → Past (record { at = q; count = n }) ≡ stepOf (ranged p (integerAt (length s) (drop p s) p n))
-  is-at s z q e = is-by (drop p s) (integerAt (length s) (drop p s) p n) (integer-at-sound (length s) (drop p s) p n) z q e
-
-  pub large-at : (s : List ℕ) (q : ℕ) → Large q ≡ integerIs (integerAt (length s) (drop p s) p n) → Bad (record { number = integer; place = p }) ≡ stepOf (ranged p (integerAt (length s) (drop p s) p n))
-  large-at s q e = large-by (integerAt (length s) (drop p s) p n) q e
-
-  pub unread-at : (s : List ℕ) (r : Refusal) → Unread r ≡ integerIs (integerAt (length s) (drop p s) p n) → Bad r ≡ stepOf (ranged p (integerAt (length s) (drop p s) p n))
-  unread-at s r e = unread-by (integerAt (length s) (drop p s) p n) r e
+  pub int-at : (s : List ℕ) (i : Int) → i ≡ integerIs (integerAt (length s) (drop p s) p n) → byInt i ≡ stepOf (integerAt (length s) (drop p s) p n)
+  int-at s i e = ap byInt e ∙ int-by (drop p s) (integerAt (length s) (drop p s) p n) (integer-at-sound (length s) (drop p s) p n)

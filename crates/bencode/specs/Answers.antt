@@ -61,9 +61,8 @@ pub record Held (s : List ℕ) (c v r : ℕ) : Type 0 where
   pub ends : c + 1 + v ≤ length s
   pub past : r ≡ c + 1 + v
 
--- an integer's e at c, whose digits stand for v, less than m; r is past it
-pub record Ended (s : List ℕ) (c v m r : ℕ) : Type 0 where
+-- an integer's e at c; r is past it
+pub record Ended (s : List ℕ) (c r : ℕ) : Type 0 where
   pub here : c < length s
   pub ends : getD s c 0 ≡ 101
-  pub fits : v < m
   pub past : r ≡ c + 1

@@ -4,12 +4,10 @@ use mathlib.Core.Bool.{Bool, true, false, cond}
 use mathlib.Core.List.{List, [], _∷_}
 use Prim.Native.Nat.{ℕ, zero, suc, _+_}
 use lib.Dec.{ltb, eqb}
-use lib.IntN.{ℤ}
 use lib.ListN.{length, drop}
 use Rattle.refusal.specs.Paper.{Outcome, taken, refused}
-use Rattle.refusal.specs.Numbers.{cut, byte, order, integer, deep, many, after, long}
+use Rattle.refusal.specs.Numbers.{cut, byte, order, deep, many, after, long}
 use Rattle.refusal.specs.Limits.{mostText, mostValues, mostLevels}
-use Rattle.bencode_scalar.specs.Written.{inRange}
 use Rattle.bencode_scalar.specs.Reading.{Got, got, bad, andThen, mapGot, onHead, isDigit, stringOf, integerOf}
 use Rattle.bencode.specs.Value.{Value, Items, Entries, str, int, list, dict, none, item, empty, entry, Prev, start, last, follows}
 
@@ -31,15 +29,10 @@ begun other = false
 abbrev pub begin : {A : Type 0} → ℕ → ℕ → Got A → Got A
 begin n p g = cond (ltb n mostValues) g (bad many p)
 
--- an integer whose i stands at p, once it is read
-abbrev pub ranged : ℕ → Got ℤ → Got ℤ
-ranged p (got z l q n) = cond (inRange z) (got z l q n) (bad integer p)
-ranged p (bad r q) = bad r q
-
 -- a value by its first byte b, before t, with the readers of a list's items and a dictionary's entries
 abbrev pub valueBy : Kind → (List ℕ → ℕ → ℕ → Got Items) → (List ℕ → ℕ → ℕ → Got Entries) → ℕ → ℕ → List ℕ → ℕ → ℕ → Got Value
 valueBy digit ls ds e b t p n = let r : Got Value = mapGot str (stringOf e b t p (n + 1)) in begin n p r
-valueBy letterI ls ds e b t p n = let r : Got Value = mapGot int (ranged p (integerOf e t (p + 1) (n + 1))) in begin n p r
+valueBy letterI ls ds e b t p n = let r : Got Value = mapGot int (integerOf e t (p + 1) (n + 1)) in begin n p r
 valueBy letterL ls ds e b t p n = let r : Got Value = mapGot list (ls t (p + 1) (n + 1)) in begin n p r
 valueBy letterD ls ds e b t p n = let r : Got Value = mapGot dict (ds t (p + 1) (n + 1)) in begin n p r
 valueBy other ls ds e b t p n = bad byte p

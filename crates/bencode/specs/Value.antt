@@ -4,7 +4,7 @@ use mathlib.Core.Bool.{Bool, true}
 use mathlib.Core.List.{List, [], _∷_, _++_}
 use Prim.Native.Nat.{ℕ, suc, _+_}
 use lib.IntN.{ℤ}
-use Rattle.bencode_scalar.specs.Written.{writtenString, writtenInt, inRange, keyLt}
+use Rattle.bencode_scalar.specs.Written.{writtenString, writtenInt, keyLt}
 
 mutual
   pub data Value : Type 0 where
@@ -62,11 +62,11 @@ abbrev pub follows : Prev → List ℕ → Bool
 follows start k = true
 follows (last j) k = keyLt j k
 
--- the integers in range, keys strictly ascending, and lists and dictionaries d levels deep at most
+-- keys strictly ascending, and lists and dictionaries d levels deep at most; an integer may have any length
 unfoldable mutual
   pub Keeps : Value → ℕ → Type 0
   Keeps (str bs) d = Unit
-  Keeps (int z) d = inRange z ≡ true
+  Keeps (int z) d = Unit
   Keeps (list vs) d = (e : ℕ) × (d ≡ suc e) × KeepsItems vs e
   Keeps (dict es) d = (e : ℕ) × (d ≡ suc e) × KeepsEntries es e start
 

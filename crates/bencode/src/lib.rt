@@ -5,7 +5,7 @@ ghost use mathlib.Core.Path.{_≡_};
 ghost use Prim.Native.Nat.{suc, _+_, _^_, _<_, _≤_};
 ghost use lib.ListN.{length, take, drop};
 ghost use Rattle.bencode.specs.Value.{start, follows};
-ghost use Rattle.bencode.specs.Decode.{kindOf, begun, ranged, keyOf, itemsOf, entriesOf, valueFrom};
+ghost use Rattle.bencode.specs.Decode.{kindOf, begun, keyOf, itemsOf, entriesOf, valueFrom};
 ghost use Rattle.bencode_scalar.specs.Reading.{stringAt, integerAt};
 ghost use Rattle.bencode.specs.Answers.{paper, checkOf, stepOf, prevOf, keyIs, told, inside};
 ghost use Rattle.bencode.specs.Exact.{Exactly};
@@ -234,11 +234,11 @@ fn may_follow(text: &[u8], before: Key, from: usize, size: usize) -> bool
 
 // The integer whose i stands at `at`, as value number `count`.
 fn integer(text: &[u8], at: usize, count: usize) -> Step
-    ensures { λ r. ⌜ r ≡ stepOf (ranged at (integerAt (length (now (text .entry))) (drop at (now (text .entry))) at count)) ⌝ }
+    ensures { λ r. ⌜ r ≡ stepOf (integerAt (length (now (text .entry))) (drop at (now (text .entry))) at count) ⌝ }
 {
     match bencode_scalar::integer(text, at) {
         Int::Is(_, next) => passed(next, count),
-        Int::Large(_) => bad(number::INTEGER, at),
+        Int::Large(next) => passed(next, count),
         Int::Refused(r) => Step::Refused(r),
     }
 }

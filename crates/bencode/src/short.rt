@@ -6,7 +6,7 @@ ghost use lib.ListN.{length, getD, drop};
 ghost use Rattle.bencode_scalar.specs.Reading.{isDigit, digitsVal, digitsLen, stringAt, minusAt, integerAt};
 ghost use Rattle.bencode_scalar.specs.Answers.{textOf};
 ghost use Rattle.bencode_scalar.specs.declared.Text.the-variants.{Whole};
-ghost use Rattle.bencode.specs.Decode.{ranged, valueFrom};
+ghost use Rattle.bencode.specs.Decode.{valueFrom};
 ghost use Rattle.bencode.specs.Answers.{stepOf, Held, Ended};
 ghost use Rattle.bencode.specs.declared.Step.the-variants.{Past};
 use refusal::limit;
@@ -25,7 +25,7 @@ pub fn plain(text: &[u8], at: usize) -> bool
     b < 58
 }
 
-// The place past the string or integer at `at`, after `count` values, where it is whole and in range; 0 where `value` is to tell.
+// The place past the string or integer at `at`, after `count` values, where it is whole; 0 where `value` is to tell.
 pub fn leaf(text: &[u8], at: usize, count: usize) -> usize
     requires { ⌜ at < length (now text) ⌝ }
     ensures { λ r. ⌜ ((r ≡ 0 → ⊥) → (count < 16384) × ((levels : ℕ) → Past (record { at = r; count = count + 1 }) ≡ stepOf (valueFrom levels (length (now (text .entry))) (drop at (now (text .entry))) at count))) ⌝ }
@@ -159,10 +159,10 @@ fn held(text: &[u8], at: usize, size: usize) -> usize
     0
 }
 
-// The place past the integer whose i stands at `at`, where it is whole and fits 64 bits; 0 where not.
+// The place past the integer whose i stands at `at`, where it is whole; 0 where not.
 fn integer(text: &[u8], at: usize) -> usize
     requires { ⌜ (at < length (now text)) × (getD (now text) at 0 ≡ 105) ⌝ }
-    ensures { λ r. ⌜ ((n : ℕ) → (r ≡ 0 → ⊥) → Past (record { at = r; count = n }) ≡ stepOf (ranged at (integerAt (length (now (text .entry))) (drop at (now (text .entry))) at n))) ⌝ }
+    ensures { λ r. ⌜ ((n : ℕ) → (r ≡ 0 → ⊥) → Past (record { at = r; count = n }) ≡ stepOf (integerAt (length (now (text .entry))) (drop at (now (text .entry))) at n)) ⌝ }
 {
     if text.len() - at < 3 {
         return 0;
@@ -172,60 +172,52 @@ fn integer(text: &[u8], at: usize) -> usize
         return negative(text, at + 2);
     }
     if first == b'0' {
-        return closing(text, at + 2, 0, 9223372036854775808);
+        return closing(text, at + 2);
     }
     if bencode_scalar::digit(first) {
-        return digits(text, at + 2, units(first), 9223372036854775808);
+        return digits(text, at + 2);
     }
     0
 }
 
-// The place past the integer whose minus stands before `at`, where it is whole and fits 64 bits; 0 where not.
+// The place past the integer whose minus stands before `at`, where it is whole; 0 where not.
 fn negative(text: &[u8], at: usize) -> usize
     requires { ⌜ at < length (now text) ⌝ }
-    ensures { λ r. ⌜ ((n p : ℕ) → (r ≡ 0 → ⊥) → Past (record { at = r; count = n }) ≡ stepOf (ranged p (minusAt (length (now (text .entry))) (drop at (now (text .entry))) at n))) ⌝ }
+    ensures { λ r. ⌜ ((n : ℕ) → (r ≡ 0 → ⊥) → Past (record { at = r; count = n }) ≡ stepOf (minusAt (length (now (text .entry))) (drop at (now (text .entry))) at n)) ⌝ }
 {
     let b = text[at];
     if b == b'0' {
         return 0;
     }
     if bencode_scalar::digit(b) {
-        return digits(text, at + 1, units(b), 9223372036854775809);
+        return digits(text, at + 1);
     }
     0
 }
 
-// The place past the digits from `at` on and their e, where with `acc`, for those before, they stand for less than `top`; 0 where not.
-fn digits(text: &[u8], at: usize, acc: usize, top: usize) -> usize
-    requires { ⌜ (at ≤ length (now text)) × (acc < 10) ⌝ }
-    ensures { λ r. ⌜ ((r ≡ 0 → ⊥) → top < 10000000000000000000 → Ended (now (text .entry)) (at + digitsLen (drop at (now (text .entry)))) (digitsVal acc (drop at (now (text .entry)))) top r) ⌝ }
+// The place past the digits from `at` on and their e, however many they are; 0 where there is no e.
+fn digits(text: &[u8], at: usize) -> usize
+    requires { ⌜ at ≤ length (now text) ⌝ }
+    ensures { λ r. ⌜ ((r ≡ 0 → ⊥) → Ended (now (text .entry)) (at + digitsLen (drop at (now (text .entry)))) r) ⌝ }
 {
     let mut i = at;
-    let mut value = acc;
     while i < text.len() {
-        let b = text[i];
-        if bencode_scalar::digit(b) {
-            if 1000000000000000000 <= value {
-                return 0;
-            }
-            value = value * 10 + units(b);
+        if bencode_scalar::digit(text[i]) {
             i += 1;
         } else {
-            return closing(text, i, value, top);
+            return closing(text, i);
         }
     }
     0
 }
 
-// The place past an integer's e at `at`, where its digits stand for less than `top`; 0 where not.
-fn closing(text: &[u8], at: usize, value: usize, top: usize) -> usize
+// The place past an integer's e at `at`; 0 where there is none.
+fn closing(text: &[u8], at: usize) -> usize
     requires { ⌜ at < length (now text) ⌝ }
-    ensures { λ r. ⌜ ((r ≡ 0 → ⊥) → Ended (now (text .entry)) at value top r) ⌝ }
+    ensures { λ r. ⌜ ((r ≡ 0 → ⊥) → Ended (now (text .entry)) at r) ⌝ }
 {
     if text[at] == b'e' {
-        if value < top {
-            return at + 1;
-        }
+        return at + 1;
     }
     0
 }

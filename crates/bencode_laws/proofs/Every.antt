@@ -5,21 +5,20 @@ use mathlib.Core.Bool.{true, false}
 use mathlib.Core.List.{List, [], _∷_, _++_}
 use Prim.Native.Nat.{ℕ, zero, suc, _+_, _<_, _≤_}
 use native.Mathlib.Omega.{arith}
-use lib.IntN.{ℤ}
 use lib.ListN.{length, length-append}
 use borrow.Author.Tests.{lt-ltb, le-ltb, ne-eqb}
-use Rattle.refusal.specs.Numbers.{cut, byte, order, integer, deep, many, after}
+use Rattle.refusal.specs.Numbers.{cut, byte, order, deep, many, after}
 use Rattle.refusal.specs.Limits.{mostValues, mostLevels}
 use Rattle.refusal.specs.Paper.{refused}
 use Rattle.bencode_scalar.specs.Written.{writtenString}
 use Rattle.bencode_scalar.specs.Reading.{Got, got, bad, andThen, mapGot, isDigit, stringOf}
 use Rattle.bencode_scalar.proofs.Decimal.{digit-range}
-use Rattle.bencode_scalar.proofs.Complete.{string-complete, int-complete}
+use Rattle.bencode_scalar.proofs.Complete.{string-complete}
 use Rattle.bencode.specs.Value.{Value, Items, Entries, str, int, list, dict, entry, encode, count, Prev, last, follows}
 use Rattle.bencode.specs.Value.{item as one}
-use Rattle.bencode.specs.Decode.{Kind, digit, letterI, letterL, letterD, other, kindOf, begun, ranged, valueBy, closes, itemsOf, ordered, keyOf, entriesOf, valueFrom, wholeOf}
+use Rattle.bencode.specs.Decode.{Kind, digit, letterI, letterL, letterD, other, kindOf, begun, valueBy, closes, itemsOf, ordered, keyOf, entriesOf, valueFrom, wholeOf}
 use Rattle.bencode.proofs.Complete.{str-here, int-here, list-here, dict-here, kind-digit, first-byte, encode-pos, complete}
-use Rattle.bencode_laws.specs.Causes.{Due, value, item, key, Comes, top, an-item, in-list, past-item, in-dictionary, past-key, past-entry, Begins, Ends, Stops, Cut, Byte, Order, Integer, Deep, Many, After}
+use Rattle.bencode_laws.specs.Causes.{Due, value, item, key, Comes, top, an-item, in-list, past-item, in-dictionary, past-key, past-entry, Begins, Ends, Stops, Cut, Byte, Order, Deep, Many, After}
 use Rattle.bencode_laws.proofs.Fails.{place}
 use Rattle.bencode_laws.proofs.Scalars.{BadString, string-ends, string-stops, BadInteger, integer-ends, integer-stops}
 
@@ -96,7 +95,7 @@ module _ (s : List ℕ) (r q : ℕ) where
 
   integer-value : {l : List ℕ} {p n d : ℕ} → Comes s value l p n d → n < mostValues → BadInteger (length s) l p r q → Ended s r q
   integer-value {l} {p} {n} {d} c few y =
-      goes c (ap (λ (t : List ℕ). valueFrom d (length s) t p n) (y .text) ∙ int-here (length s) (y .rest) p n few d ∙ ap (λ (g : Got ℤ). mapGot int (ranged p g)) (y .reads (n + 1)))
+      goes c (ap (λ (t : List ℕ). valueFrom d (length s) t p n) (y .text) ∙ int-here (length s) (y .rest) p n few d ∙ ap (mapGot int) (y .reads (n + 1)))
 
   -- where a key is due
   key-value : {j : Prev} {l : List ℕ} {p n d : ℕ} → Comes s (key j) l p n d → closes l ≡ false → keyOf (length s) j l p n ≡ bad r q → Ended s r q
@@ -183,10 +182,6 @@ module _ (s : List ℕ) where
 
   pub every-order : {p : ℕ} → Order s p → Ended s order p
   every-order (Order.not-greater {before = j} {p} {n} k l c few x) = key-value s order p c (key-open (length s) j k l p n (place c)) (key-whole (length s) j k l p n (place c) few ∙ rw x)
-
-  pub every-integer : {p : ℕ} → Integer s p → Ended s integer p
-  every-integer (Integer.outside {p} {n} {d} z l c few x) =
-      goes s integer p c (int-here (length s) _ p n few d ∙ ap (λ (g : Got ℤ). mapGot int (ranged p g)) (int-complete (length s) p z l (n + 1)) ∙ rw x)
 
   pub every-deep : {p : ℕ} → Deep s p → Ended s deep p
   every-deep (Deep.level {b} {l} {p} {n} c few x) = goes s deep p c (value-deep (length s) b l p n (omega arith) x)

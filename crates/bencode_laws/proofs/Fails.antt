@@ -14,15 +14,15 @@ use Rattle.bencode_scalar.specs.Reading.{Got, got, bad, andThen, mapGot}
 use Rattle.bencode_scalar.proofs.Sound.{Holds}
 use Rattle.bencode.specs.Value.{encode}
 use Rattle.bencode.specs.Decode.{begin}
-use Rattle.bencode_laws.specs.Causes.{Due, Comes, top, an-item, in-list, past-item, in-dictionary, past-key, past-entry, Cut, Byte, Order, Integer, Deep, Many, After}
+use Rattle.bencode_laws.specs.Causes.{Due, Comes, top, an-item, in-list, past-item, in-dictionary, past-key, past-entry, Cut, Byte, Order, Deep, Many, After}
 
--- the cause that a number stands for
+-- the cause that a number stands for; 4 has none
 abbrev pub Cause : List ℕ → ℕ → ℕ → Type 0
 Cause s zero p = ⊥
 Cause s (suc zero) p = Cut s p
 Cause s (suc (suc zero)) p = Byte s p
 Cause s (suc (suc (suc zero))) p = Order s p
-Cause s (suc (suc (suc (suc zero)))) p = Integer s p
+Cause s (suc (suc (suc (suc zero)))) p = ⊥
 Cause s (suc (suc (suc (suc (suc zero))))) p = Deep s p
 Cause s (suc (suc (suc (suc (suc (suc zero)))))) p = Many s p
 Cause s (suc (suc (suc (suc (suc (suc (suc zero))))))) p = After s p

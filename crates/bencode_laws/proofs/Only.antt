@@ -5,22 +5,21 @@ use mathlib.Core.Bool.{Bool, true, false}
 use mathlib.Core.List.{List, [], _∷_, _++_}
 use Prim.Native.Nat.{ℕ, zero, suc, _+_, _<_}
 use native.Mathlib.Omega.{arith}
-use lib.IntN.{ℤ}
 use lib.ListN.{length}
 use borrow.Author.Tests.{eqb-false}
 use Rattle.refusal.specs.Numbers.{after}
 use Rattle.refusal.specs.Limits.{mostValues, mostLevels}
 use Rattle.refusal.specs.Paper.{refused}
 use Rattle.refusal.proofs.Cases.{by-test}
-use Rattle.bencode_scalar.specs.Written.{writtenString, inRange}
+use Rattle.bencode_scalar.specs.Written.{writtenString}
 use Rattle.bencode_scalar.specs.Reading.{Got, got, bad, isDigit, stringOf, integerOf}
-use Rattle.bencode_scalar.proofs.Sound.{Holds, TextP, string-sound, IntP, int-sound}
+use Rattle.bencode_scalar.proofs.Sound.{Holds, TextP, string-sound}
 use Rattle.bencode.specs.Value.{Value, Items, Entries, str, int, list, dict, entry, Prev, start, last, follows}
 use Rattle.bencode.specs.Value.{item as one}
-use Rattle.bencode.specs.Decode.{Kind, digit, letterI, letterL, letterD, other, kindOf, begun, ranged, valueBy, closes, itemsBy, itemsOf, ordered, keyOf, entriesBy, entriesOf, valueFrom, wholeOf}
+use Rattle.bencode.specs.Decode.{Kind, digit, letterI, letterL, letterD, other, kindOf, begun, valueBy, closes, itemsBy, itemsOf, ordered, keyOf, entriesBy, entriesOf, valueFrom, wholeOf}
 use Rattle.bencode.proofs.Sound.{KeyP, key-sound, Took, KindP, kind-view, value-sound}
 use Rattle.bencode.proofs.Complete.{encode-pos}
-use Rattle.bencode_laws.specs.Causes.{Due, value, item, key, Comes, top, an-item, in-list, past-item, in-dictionary, past-key, past-entry, StringEnds, StringStops, Ends, Stops, Cut, Byte, Order, Integer, Deep, Many, After}
+use Rattle.bencode_laws.specs.Causes.{Due, value, item, key, Comes, top, an-item, in-list, past-item, in-dictionary, past-key, past-entry, StringEnds, StringStops, Ends, Stops, Cut, Byte, Order, Deep, Many, After}
 use Rattle.bencode_laws.proofs.Fails.{Cause, Fails, fails-map, fails-then, fails-begin, place, moved}
 use Rattle.bencode_laws.proofs.Scalars.{string-fails, integer-fails}
 
@@ -34,14 +33,8 @@ module _ (s : List ℕ) where
   string-due {b = b} {t} {p} {n} c few d ends stops = string-fails (Cause s) (length s) p b t (λ h. Cut.within c few (ends h)) (λ v a u x h. Byte.within v a u (moved c x refl refl) few (stops v a h)) (n + 1) d (place c)
 
   -- an integer that is due
-  ranged-fails : {t : List ℕ} {p n d : ℕ} → Comes s value (105 ∷ t) p n d → n < mostValues → (g : Got ℤ) → Holds (IntP (105 ∷ t) p (n + 1)) g → Fails (Cause s) g → Fails (Cause s) (ranged p g)
-  ranged-fails {p = p} c few (got z r q m) h x = by-test (Fails (Cause s)) (inRange z) (λ y. tt) (λ y. Integer.outside z r (moved c (h .0 .text) refl refl) few y)
-  ranged-fails c few (bad r q) h x = x
-
-  integer-due : {t : List ℕ} {p n d : ℕ} → Comes s value (105 ∷ t) p n d → n < mostValues → Fails (Cause s) (ranged p (integerOf (length s) t (p + 1) (n + 1)))
-  integer-due {t} {p} {n} c few =
-      ranged-fails c few (integerOf (length s) t (p + 1) (n + 1)) (int-sound (length s) p t (n + 1))
-      (integer-fails (Cause s) (length s) p t (n + 1) (λ h. Cut.within c few (inr h)) (λ w a u x h. Byte.within w a u (moved c x refl refl) few (inr h)))
+  integer-due : {t : List ℕ} {p n d : ℕ} → Comes s value (105 ∷ t) p n d → n < mostValues → Fails (Cause s) (integerOf (length s) t (p + 1) (n + 1))
+  integer-due {t} {p} {n} c few = integer-fails (Cause s) (length s) p t (n + 1) (λ h. Cut.within c few (inr h)) (λ w a u x h. Byte.within w a u (moved c x refl refl) few (inr h))
 
   -- a key that is due
   ordered-fails : {before : Prev} {l : List ℕ} {p n d : ℕ} → Comes s (key before) l p n d → n < mostValues → (g : Got (List ℕ)) → Holds (TextP l p (n + 1)) g → Fails (Cause s) g → Fails (Cause s) (ordered before p g)
@@ -102,7 +95,7 @@ module _ (s : List ℕ) where
   value-by d b t p n ls ds c digit x y hl hd =
       fails-begin (Cause s) n p _ (λ few. fails-map (Cause s) str (stringOf (length s) b t p (n + 1)) (string-due c few y inl (λ v a h. inl h))) (λ h. Many.begins c (omega arith) (ap begun x))
   value-by d b t p n ls ds c letterI x y hl hd =
-      fails-begin (Cause s) n p _ (λ few. fails-map (Cause s) int (ranged p (integerOf (length s) t (p + 1) (n + 1))) (integer-due (moved c (ap (λ (a : ℕ). a ∷ t) y) refl refl) few)) (λ h. Many.begins c (omega arith) (ap begun x))
+      fails-begin (Cause s) n p _ (λ few. fails-map (Cause s) int (integerOf (length s) t (p + 1) (n + 1)) (integer-due (moved c (ap (λ (a : ℕ). a ∷ t) y) refl refl) few)) (λ h. Many.begins c (omega arith) (ap begun x))
   value-by d b t p n ls ds c letterL x y hl hd = fails-begin (Cause s) n p _ (λ few. fails-map (Cause s) list (ls t (p + 1) (n + 1)) (hl y few)) (λ h. Many.begins c (omega arith) (ap begun x))
   value-by d b t p n ls ds c letterD x y hl hd = fails-begin (Cause s) n p _ (λ few. fails-map (Cause s) dict (ds t (p + 1) (n + 1)) (hd y few)) (λ h. Many.begins c (omega arith) (ap begun x))
 

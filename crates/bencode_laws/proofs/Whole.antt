@@ -1,5 +1,5 @@
 -- The outcome of a whole text, by its length. Assumes nothing.
-use mathlib.Core.Path.{_≡_, refl, sym, ap, _∙_}
+use mathlib.Core.Path.{_≡_, refl, sym, ap, _∙_, subst}
 use mathlib.Core.Bool.{Bool, true, false}
 use mathlib.Core.List.{List}
 use Prim.Native.Nat.{ℕ, zero, suc, _<_, _≤_}
@@ -39,17 +39,24 @@ by-length {P} s x y = go (ltb mostText (length s)) refl
 pub long-only : (s : List ℕ) (p : ℕ) → decode s ≡ refused long p → (mostText < length s) × (p ≡ 0)
 long-only s p e = by-length s (λ h. absurd (caused s long p h e)) (λ h. let x = decode-long s h in (h, cc))
 
--- the numbers that have a cause
-numbered : (s : List ℕ) (r p : ℕ) → Cause s r p → (1 ≤ r) × (r ≤ 8)
+-- the numbers of refused texts
+abbrev pub Numbered : ℕ → Type 0
+Numbered r = (1 ≤ r) × (r ≤ 8) × (r ≡ 4 → ⊥)
+
+pub eight : Numbered long
+eight = (omega arith, omega arith, λ e. omega (arith, e))
+
+-- those that have a cause
+numbered : (s : List ℕ) (r p : ℕ) → Cause s r p → Numbered r
 numbered s zero p c = absurd c
-numbered s (suc zero) p c = omega arith
-numbered s (suc (suc zero)) p c = omega arith
-numbered s (suc (suc (suc zero))) p c = omega arith
-numbered s (suc (suc (suc (suc zero)))) p c = omega arith
-numbered s (suc (suc (suc (suc (suc zero))))) p c = omega arith
-numbered s (suc (suc (suc (suc (suc (suc zero)))))) p c = omega arith
-numbered s (suc (suc (suc (suc (suc (suc (suc zero))))))) p c = omega arith
+numbered s (suc zero) p c = (omega arith, omega arith, λ e. omega arith)
+numbered s (suc (suc zero)) p c = (omega arith, omega arith, λ e. omega arith)
+numbered s (suc (suc (suc zero))) p c = (omega arith, omega arith, λ e. omega arith)
+numbered s (suc (suc (suc (suc zero)))) p c = absurd c
+numbered s (suc (suc (suc (suc (suc zero))))) p c = (omega arith, omega arith, λ e. omega arith)
+numbered s (suc (suc (suc (suc (suc (suc zero)))))) p c = (omega arith, omega arith, λ e. omega arith)
+numbered s (suc (suc (suc (suc (suc (suc (suc zero))))))) p c = (omega arith, omega arith, λ e. omega arith)
 numbered s (suc (suc (suc (suc (suc (suc (suc (suc r)))))))) p c = absurd c
 
-pub one-of : (s : List ℕ) (r p : ℕ) → decode s ≡ refused r p → (1 ≤ r) × (r ≤ 8)
-one-of s r p e = by-length s (λ h. numbered s r p (caused s r p h e)) (λ h. let x = decode-long s h in let y : r ≡ long = cc in omega arith)
+pub one-of : (s : List ℕ) (r p : ℕ) → decode s ≡ refused r p → Numbered r
+one-of s r p e = by-length s (λ h. numbered s r p (caused s r p h e)) (λ h. let x = decode-long s h in let y : long ≡ r = cc in subst Numbered y eight)

@@ -1,4 +1,4 @@
--- When a text is refused by 1 to 7, and where: the causes in document 01's words, over what is written before the fault; 8 is its length alone. Assumes nothing: these are definitions.
+-- When a text is refused by 1, 2, 3, 5, 6 or 7, and where: the causes in document 01's words, over what is written before the fault; 8 is its length alone. Assumes nothing: these are definitions.
 -- Throughout, l is what is left of the text, p its place, n how many values have begun before it, and d how many more levels of lists and dictionaries may open.
 use mathlib.Core.Path.{_≡_}
 use mathlib.Core.Logic.{_⊎_}
@@ -8,7 +8,7 @@ use Prim.Native.Nat.{ℕ, suc, _+_, _<_, _≤_}
 use lib.IntN.{ℤ, pos, negsuc}
 use lib.ListN.{length}
 use Rattle.refusal.specs.Limits.{mostValues, mostLevels}
-use Rattle.bencode_scalar.specs.Written.{decimal, writtenString, signed, writtenInt, inRange}
+use Rattle.bencode_scalar.specs.Written.{decimal, writtenString, signed}
 use Rattle.bencode_scalar.specs.Reading.{isDigit, more}
 use Rattle.bencode.specs.Value.{Value, encode, count, Keeps, Prev, start, last, follows}
 use Rattle.bencode.specs.Decode.{kindOf, other, begun, closes}
@@ -88,10 +88,6 @@ pub data Byte (s : List ℕ) : ℕ → Type 0 where
 -- 3: a key not greater than the one before; offset of its first digit
 pub data Order (s : List ℕ) : ℕ → Type 0 where
   not-greater : {before : Prev} {p n d : ℕ} (k l : List ℕ) → Comes s (key before) (writtenString k ++ l) p n d → n < mostValues → follows before k ≡ false → Order s p
-
--- 4: integer outside -2^63 .. 2^63-1; offset of its i
-pub data Integer (s : List ℕ) : ℕ → Type 0 where
-  outside : {p n d : ℕ} (z : ℤ) (l : List ℕ) → Comes s value (writtenInt z ++ l) p n d → n < mostValues → inRange z ≡ false → Integer s p
 
 -- 5: list or dictionary at level 33; its offset
 pub data Deep (s : List ℕ) : ℕ → Type 0 where

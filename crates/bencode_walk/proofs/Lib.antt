@@ -3,6 +3,7 @@ pub mod Limited
 pub mod Seeing
 pub mod Rest
 pub mod Standing
+pub mod Telling
 pub mod Seeking
 pub mod Finding
 pub mod Determined

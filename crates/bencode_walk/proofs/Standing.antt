@@ -10,10 +10,10 @@ use lib.ListN.{length, take, drop, length-append, length-drop, drop-of-length-le
 use lib.Seq.{drop-drop, drop-append-seam, take-append-seam}
 use borrow.Author.Tests.{ne-eqb, ltb-true, ltb-false}
 use Rattle.refusal.specs.Paper.{Outcome, taken, refused, then}
-use Rattle.refusal.specs.Numbers.{long}
+use Rattle.refusal.specs.Numbers.{long as tooLong}
 use Rattle.refusal.specs.Limits.{mostText}
 use Rattle.refusal.proofs.Cases.{by-test}
-use Rattle.bencode_scalar.specs.Written.{decimal, writtenString, signed, writtenInt}
+use Rattle.bencode_scalar.specs.Written.{decimal, writtenString, signed, writtenInt, inRange}
 use Rattle.bencode_scalar.specs.Reading.{Got, got, bad, onHead, integerOf}
 use Rattle.bencode_scalar.proofs.Decimal.{digit-range}
 use Rattle.bencode_scalar.proofs.Sound.{Holds}
@@ -24,7 +24,7 @@ use Rattle.bencode.specs.Answers.{stepOf}
 use Rattle.bencode.specs.Exact.{Fine}
 use Rattle.bencode.proofs.Sound.{Took, value-sound}
 use Rattle.bencode.proofs.Complete.{complete, first-byte}
-use Rattle.bencode_walk.specs.Walk.{Head, string, integer, dictionary, end, integerHead, lookAt, lookOf, asEntry, key, close, entryOf, pastOf, skipOf}
+use Rattle.bencode_walk.specs.Walk.{Head, string, integer, long, dictionary, end, integerHead, lookAt, lookOf, asEntry, key, close, entryOf, pastOf, skipOf}
 use Rattle.bencode_walk.specs.Walk as walk
 use Rattle.bencode_walk.specs.Stands.{Stands, StandItems, StandEntries}
 use Rattle.bencode_walk.proofs.Limited.{unless-long, unless-short}
@@ -43,7 +43,7 @@ mutual
 
   pub keeps-more : (v : Value) (d e : ℕ) → d ≤ e → Keeps v d → Keeps v e
   keeps-more (str bs) d e h k = tt
-  keeps-more (int z) d e h k = k
+  keeps-more (int z) d e h k = tt
   keeps-more (list vs) d zero h k = absurd (omega (arith, k .1))
   keeps-more (list vs) d (suc e) h k = (e, refl, keeps-more-items vs (k .0) e (omega (arith, k .1)) (k .2))
   keeps-more (dict es) d zero h k = absurd (omega (arith, k .1))
@@ -70,7 +70,7 @@ skip-short s p h = unless-short s _ h
 pub value-skipped : (s : List ℕ) (p : ℕ) → length s ≤ mostText → byStep (stepOf (valueFrom 32 (length s) (drop p s) p 0)) ≡ skipOf s p
 value-skipped s p h = past-by (valueFrom 32 (length s) (drop p s) p 0) ∙ skip-short s p h
 
-pub skip-long : (s : List ℕ) (p : ℕ) → mostText < length s → refused long 0 ≡ skipOf s p
+pub skip-long : (s : List ℕ) (p : ℕ) → mostText < length s → refused tooLong 0 ≡ skipOf s p
 unfolding skipOf
 skip-long s p h = unless-long s _ h
 
@@ -130,18 +130,36 @@ look-written s p bs r l h e =
       bytes = ap (λ (i : ℕ). take (length bs) (drop i s)) a ∙ ap (take (length bs)) (past s p (decimal (length bs) ++ 58 ∷ []) (bs ++ r) g) ∙ take-append-seam bs r;
     }
 
+-- an integer z at p, as a look tells it
+abbrev pub toldAs : ℕ → ℤ → Head
+toldAs p z = cond (inRange z) (integer z (p + length (writtenInt z))) (long (p + 1) (length (signed z)) (p + length (writtenInt z)))
+
 module _ (s : List ℕ) (d p : ℕ) where
   pub string-stands : (bs : List ℕ) → Stands s d p (str bs) → Bytes s p bs
   unfolding encode
   string-stands bs t = look-written s p bs (t .rest) (t .short) (t .inside) (t .text)
 
-  pub integer-stands : (z : ℤ) → Stands s d p (int z) → lookOf s p ≡ taken (integer z (p + length (writtenInt z)))
-  unfolding encode Keeps
+  -- an integer's number; outside 64 bits where its sign and digits stand, between the i and the e
+  pub integer-stands : (z : ℤ) → Stands s d p (int z) → lookOf s p ≡ taken (toldAs p z)
+  unfolding encode
   integer-stands z t =
+      let a : p + length (writtenInt z) - (p + 2) ≡ length (signed z) = omega (arith, length-append (signed z) (101 ∷ [])) in
       look-by s p 105 ((signed z ++ 101 ∷ []) ++ t .rest) (t .short) (t .text)
       ∙ ap (λ (l : List ℕ). integerHead p (onHead l (bad 1 (length s)) (λ b u. cond (eqb b 105) (integerOf (length s) u (p + 1) 0) (bad 2 p)))) (t .text)
       ∙ ap (integerHead p) (int-complete (length s) p z (t .rest) 0)
-      ∙ rw (t .keeps)
+      ∙ ap (λ (m : ℕ). taken (cond (inRange z) (integer z (p + length (writtenInt z))) (long (p + 1) m (p + length (writtenInt z))))) a
+
+  pub number-stands : (z : ℤ) → inRange z ≡ true → Stands s d p (int z) → lookOf s p ≡ taken (integer z (p + length (writtenInt z)))
+  number-stands z i t = integer-stands z t ∙ rw i
+
+  pub long-stands : (z : ℤ) → inRange z ≡ false → Stands s d p (int z) → lookOf s p ≡ taken (long (p + 1) (length (signed z)) (p + length (writtenInt z)))
+  long-stands z o t = integer-stands z t ∙ rw o
+
+  -- the bytes between the i and the e
+  pub digits-stand : (z : ℤ) → Stands s d p (int z) → take (length (signed z)) (drop (p + 1) s) ≡ signed z
+  unfolding encode
+  digits-stand z t =
+      ap (take (length (signed z))) (past s p (105 ∷ []) ((signed z ++ 101 ∷ []) ++ t .rest) (t .text) ∙ append-assoc (signed z) (101 ∷ []) (t .rest)) ∙ take-append-seam (signed z) (101 ∷ t .rest)
 
   -- a list, and its items
   pub list-stands : (vs : Items) → Stands s d p (list vs) → (lookOf s p ≡ taken (walk.list (p + 1))) × ((e : ℕ) × (d ≡ suc e) × StandItems s e (p + 1) vs)

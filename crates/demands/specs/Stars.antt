@@ -1,4 +1,4 @@
--- THE WORKED CASES: every ★ block, yard step and text of document 01 as one table, in its order and numbers, and what tickets 2 and 6 of document 02 add to the yard, each
+-- THE WORKED CASES: every ★ block, yard step and text of document 01 as one table, in its order and numbers, and what tickets 2 and 6 of document 02 add to the yard and ticket 8 to texts, each
 -- beside the answer that it is to have; and that the definitions give these answers, by computation. Assumes nothing.
 use mathlib.Core.Path.{_≡_, refl}
 use mathlib.Core.Bool.{Bool, true, false}
@@ -136,6 +136,15 @@ stars =
     ∷ text "4:spa" (1 at 5)
     ∷ text "00:" (2 at 1)
     ∷ text "lee" (7 at 2)
+    -- Ticket 8: integers of any length in proper form
+    ∷ text "i9223372036854775807e" (taken 1)
+    ∷ text "i9223372036854775808e" (taken 1)
+    ∷ text "i-9223372036854775809e" (taken 1)
+    ∷ text "i1234567890123456789012345678901234567890e" (taken 1)
+    ∷ text "i-e" (2 at 2)
+    ∷ text "ie" (2 at 1)
+    ∷ text "i00e" (2 at 2)
+    ∷ text "i9223372036854775808" (1 at 20)
     -- The listing program
     ∷ prints "d8:announce15:http://yard/ann4:infod5:filesld6:lengthi20000e4:pathl3:rte1:aeed6:lengthi0e4:pathl1:beed6:lengthi12769e4:pathl1:ceee4:name3:pkg12:piece lengthi16384e6:pieces60:AAAAAAAAAAAAAAAAAAAAAAAAAAAAAAAAAAAAAAAAAAAAAAAAAAAAAAAAAAAAee"
     "pkg 3 files 32769 bytes 3 pieces of 16384\n0 20000 rte/a\n20000 0 b\n20000 12769 c\n"

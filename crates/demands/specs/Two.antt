@@ -8,7 +8,7 @@ use mathlib.Core.Path.{_≡_, refl, sym, ap, ap₂, _∙_, subst}
 use mathlib.Core.Logic.{_⊎_, _↔_, Iff·trans}
 use mathlib.Core.Bool.{true, false, cond}
 use mathlib.Core.List.{List, [], _∷_, _++_}
-use Prim.Native.Nat.{ℕ, suc, _+_, _-_, _*_, _≤_, _<_, min}
+use Prim.Native.Nat.{ℕ, suc, _+_, _-_, _*_, _^_, _≤_, _<_, min}
 use native.Mathlib.Omega.{arith}
 use lib.IntN.{ℤ, pos}
 use lib.ListN.{length, getD, take, drop}
@@ -17,20 +17,26 @@ use Rattle.refusal.specs.Limits.{mostText}
 use Rattle.refusal.specs.Paper.{taken, refused, map}
 use Rattle.refusal.specs.Parts.{bytesAt}
 use Rattle.refusal.specs.declared.Part.{Part}
-use Rattle.bencode_scalar.specs.Written.{writtenString, writtenInt}
+use Rattle.bencode_scalar.specs.Written.{writtenString, signed, writtenInt, inRange}
 use Rattle.bencode.specs.Value.{Value, Items, Entries, str, int, list, dict, none, item, empty, entry, encode, count, Prev, start, last}
 use Rattle.bencode.specs.Answers.{paper as countPaper}
 use Rattle.bencode.specs.declared.Checked.{Checked}
 use Rattle.bencode_walk.specs.Walk as heads
-use Rattle.bencode_walk.specs.Walk.{string, integer, dictionary, end, key, close, entryPaper, pastPaper, paper as seenPaper}
+use Rattle.bencode_walk.specs.Walk.{string, integer, long, dictionary, end, key, close, entryPaper, pastPaper, paper as seenPaper}
 use Rattle.bencode_walk.specs.Stands.{Stands, StandItems, StandEntries}
 use Rattle.bencode_walk.specs.declared.Seen.{Seen}
 use Rattle.bencode_walk.specs.declared.Next.{Next}
 use Rattle.bencode_walk.specs.declared.Past.{Past}
 use Rattle.bencode_walk.proofs.Standing as standing
+use Rattle.bencode_walk.proofs.Telling as telling
 use Rattle.bencode_walk.proofs.Standing.{fine-stands}
 use Rattle.bencode_walk.specs.Has.{Has}
 use Rattle.bencode_walk.specs.Lookup.{under, lookup}
+use Rattle.bencode_fields.specs.Looks.{stringPaper, naturalPaper, insidePaper, ranged}
+use Rattle.bencode_fields.specs.declared.Bytes as bytes
+use Rattle.bencode_fields.specs.declared.Inside.{Inside}
+use Rattle.bencode_fields.specs.declared.Natural.{Natural}
+use Rattle.bencode_fields.proofs.Standing as known
 use Rattle.bencode_writer.specs.Put.{Left as Putting, left, putOf, Ran, paper as putPaper}
 use Rattle.bencode_writer.specs.declared.Put.{Put}
 use Rattle.hash_sha1.specs.Sha1.{sha1}
@@ -136,6 +142,7 @@ use Rattle.demands.specs.One.{Lent, Ref, now, before, after}
 use Rattle.demands.specs.One.Alike.{Frames, as-framed, asked}
 use Rattle.demands.specs.One.Doors.Bencode as bencode
 use Rattle.demands.specs.One.Doors.Walk as walk
+use Rattle.demands.specs.One.Inner.Fields as fields
 use Rattle.demands.specs.One.Doors.Metainfo as metainfo
 use Rattle.demands.specs.One.Doors.Contents as contents
 use Rattle.demands.specs.One.Doors.Authoring as authoring
@@ -175,8 +182,18 @@ module _ (text : Lent (List ℕ)) (at : ℕ) (r : Seen) (c : walk.look-ensures t
       → (p : Part) × (seenPaper r ≡ taken (string (p .from) (p .len) (at + length (writtenString bs)))) × (p .len ≡ length bs) × ((b : Ref (List ℕ)) → walk.bytes-ensures text p b → now b ≡ bs)
   look-string bs t = let x = standing.string-stands (before text) d at bs t in (record { from = x .from; len = length bs }, c ∙ x .seen, refl, λ b e. e .0 ∙ x .bytes)
 
-  pub look-integer : (z : ℤ) → Stands (before text) d at (int z) → seenPaper r ≡ taken (integer z (at + length (writtenInt z)))
-  look-integer z t = c ∙ standing.integer-stands (before text) d at z t
+  -- "hands one outside 64 bits back as the text part with sign and digits": at any place of any text, the number told is the integer that stands there, for all of -2^63 to
+  -- 2^63 - 1 (`inRange`), and every other is told by the bytes between its i and its e
+  pub look-number : (z : ℤ) (q : ℕ) → seenPaper r ≡ taken (integer z q) ↔ ((inRange z ≡ true) × Stands (before text) d at (int z) × (q ≡ at + length (writtenInt z)))
+  look-number z q = Iff·trans (same-answer c) (telling.number-exact (before text) d at z q)
+
+  pub look-long : (p : Part) (q : ℕ) → seenPaper r ≡ taken (long (p .from) (p .len) q)
+      ↔ ((z : ℤ) × (inRange z ≡ false) × Stands (before text) d at (int z) × (q ≡ at + length (writtenInt z)) × (p .from ≡ at + 1) × (p .len ≡ length (signed z)))
+  look-long p q = Iff·trans (same-answer c) (telling.long-exact (before text) d at (p .from) (p .len) q)
+
+  -- which are its sign and digits
+  pub long-bytes : (z : ℤ) → Stands (before text) d at (int z) → (b : Ref (List ℕ)) → walk.bytes-ensures text (record { from = at + 1; len = length (signed z) }) b → now b ≡ signed z
+  long-bytes z t b e = e .0 ∙ standing.digits-stand (before text) d at z t
 
   pub look-list : (vs : Items) → Stands (before text) d at (list vs) → (seenPaper r ≡ taken (heads.list (at + 1))) × ((e : ℕ) × (d ≡ suc e) × StandItems (before text) e (at + 1) vs)
   look-list vs t = let x = standing.list-stands (before text) d at vs t in (c ∙ x .0, x .1)
@@ -187,6 +204,23 @@ module _ (text : Lent (List ℕ)) (at : ℕ) (r : Seen) (c : walk.look-ensures t
 
   pub look-end : StandItems (before text) d at none → seenPaper r ≡ taken (end (at + 1))
   look-end t = c ∙ standing.items-end (before text) d at t
+
+-- "Known keys with such a number are out of range": what every reader asks a known key by, at any place of any text where an integer stands
+-- of bencode_fields::natural_at: it is the number from 0 to `most`, or else 11 at its place, whatever integer it is
+pub known-number : (text : Lent (List ℕ)) (at most : ℕ) (r : Natural) → fields.natural-at-ensures text at most r → (d : ℕ) (z : ℤ) → most < 2 ^ 63 → Stands (before text) d at (int z) → naturalPaper r ≡ ranged most at z
+known-number text at most r c d z h t = c ∙ known.natural-is (before text) d at most h (int z) t
+
+-- of bencode_fields::string_at: 10 at its place
+pub known-string : (text : Lent (List ℕ)) (at : ℕ) (r : bytes.Bytes) → fields.string-at-ensures text at r → (d : ℕ) (z : ℤ) → Stands (before text) d at (int z) → stringPaper r ≡ refused 10 at
+known-string text at r c d z t = c ∙ known.string-is (before text) d at (int z) t
+
+-- of bencode_fields::list_at
+pub known-list : (text : Lent (List ℕ)) (at : ℕ) (r : Inside) → fields.list-at-ensures text at r → (d : ℕ) (z : ℤ) → Stands (before text) d at (int z) → insidePaper r ≡ refused 10 at
+known-list text at r c d z t = c ∙ known.list-is (before text) d at (int z) t
+
+-- of bencode_fields::dictionary_at
+pub known-dictionary : (text : Lent (List ℕ)) (at : ℕ) (r : Inside) → fields.dictionary-at-ensures text at r → (d : ℕ) (z : ℤ) → Stands (before text) d at (int z) → insidePaper r ≡ refused 10 at
+known-dictionary text at r c d z t = c ∙ known.dictionary-is (before text) d at (int z) t
 
 -- of bencode_walk::entry: the key's bytes, its value past it, and the entries after that
 module _ (text : Lent (List ℕ)) (at : ℕ) (r : Next) (c : walk.entry-ensures text at r) (d : ℕ) (earlier : Prev) where

@@ -26,11 +26,12 @@ use Rattle.torrent_contents.proofs.Numbering as numbering
 use Rattle.torrent_contents.proofs.Hashing.{hash-there, hash-beyond, check-beyond, check-long, check-outside, check-agreed}
 use Rattle.refusal.proofs.Cases.{less-or, same-or}
 use Rattle.refusal.proofs.Outcomes.{not-refused, same-refusal}
+use Rattle.bencode_laws.proofs.Laws.{Numbered}
 use Rattle.demands_laws.proofs.Refusals.{first-of, second-of, refusal-is, caused, at-zero, then-refused}
 use Rattle.demands_laws.specs.Causes.{Unchecked, no-such-piece, long-piece, wrong-length}
 
 torrent-number : (s : List ℕ) (n p : ℕ) → readOf s ≡ refused n p → n ≤ 13
-torrent-number s n p e = ⊎-elim (λ (h : (1 ≤ n) × (n ≤ 8)). omega (arith, h .1)) (λ (h : (10 ≤ n) × (n ≤ 13)). h .1) (torrent.none-other s n p e)
+torrent-number s n p e = ⊎-elim (λ (h : Numbered n). omega (arith, h .1)) (λ (h : (10 ≤ n) × (n ≤ 13)). h .1) (torrent.none-other s n p e)
 
 -- ---- the hash of a piece
 

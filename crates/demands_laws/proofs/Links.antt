@@ -18,6 +18,7 @@ use Rattle.refusal.proofs.Outcomes.{not-taken, not-refused, same-refusal, then-
 use Rattle.refusal.proofs.Places.{bytes-take, bytes-drop}
 use Rattle.bencode.specs.Value.{Value, dict, encode}
 use Rattle.bencode.specs.Decode.{decode}
+use Rattle.bencode_laws.proofs.Laws.{Numbered}
 use Rattle.bencode_writer.specs.Put.{puts}
 use Rattle.bencode_writer.proofs.Puts.{put-front, put-taken, NoRoom, puts-refused, puts-taken}
 use Rattle.hash_sha1.specs.Sha1.{sha1}
@@ -168,7 +169,7 @@ module _ (s : List ℕ) where
   written-alike n p h = first-of (written-refused n p) (λ x. h (x .0))
 
   not-37 : (p : ℕ) → writtenOf s ≡ refused 37 p → ⊥
-  not-37 p e = let f = written-alike 37 p (λ x. omega (arith, x)) .0 e in ⊎-elim (λ (h : (1 ≤ 37) × (37 ≤ 8)). omega (arith, h .1)) (λ (h : (10 ≤ 37) × (37 ≤ 13)). omega (arith, h .1)) (torrents.none-other s 37 p f)
+  not-37 p e = let f = written-alike 37 p (λ x. omega (arith, x)) .0 e in ⊎-elim (λ (h : Numbered 37). omega (arith, h .1)) (λ (h : (10 ≤ 37) × (37 ≤ 13)). omega (arith, h .1)) (torrents.none-other s 37 p f)
 
   -- ---- into an output
 

@@ -14,12 +14,11 @@ use Rattle.refusal.specs.Limits.{mostText, mostValues, mostLevels, longestFile,
 use Rattle.refusal.specs.Paper.{Outcome, taken, refused, map, then}
 use Rattle.refusal.proofs.Cases.{by-test, less-or, no-way}
 use Rattle.refusal.proofs.Outcomes.{same-refusal}
-use Rattle.bencode_scalar.specs.Written.{inRange, keyLt}
+use Rattle.bencode_scalar.specs.Written.{keyLt}
 use Rattle.bencode_scalar.specs.Reading.{Got, got, bad, andThen, mapGot, onHead, isDigit, numVal, numLen, colonOf, stringOf, integerEnd, closedOf, minusAt, integerOf}
 use Rattle.bencode_scalar.specs.Reading.{stringAt as stringRead, integerAt as integerRead}
 use Rattle.bencode.specs.Value.{Value, Items, Entries, str, int, list, dict, none, item, entry, Prev, start, last, follows, encode}
 use Rattle.bencode.specs.Decode.{Kind, digit, letterI, letterL, letterD, other, kindOf, begin, valueBy, closes, itemsBy, itemsOf, ordered, keyOf, entriesBy, entriesOf, valueFrom, unlessLong}
-use Rattle.bencode.specs.Decode.{ranged as readRanged}
 use Rattle.bencode_laws.proofs.Fails.{Fails, fails-map}
 use Rattle.bencode_walk.specs.Walk as walk
 use Rattle.bencode_walk.specs.Walk.{Head, stringHead, integerHead, lookAt, lookOf, NextEntry, key, close, asEntry, entryOf, pastOf, skipOf, Hit, found, missing, seekBy, seekOf}
@@ -139,15 +138,11 @@ module _ (P : ℕ → Type 0) where
     entered : (s : List ℕ) → Eight s → (p : ℕ) → Among P (entryOf s p)
     entered s eight p = after (lookOf s p) (asEntry p) (looked s eight p) (as-entry p)
 
-    -- ---- values: 3 to 6 too
+    -- ---- values: 3, 5 and 6 too
 
-    module _ (three : P no.order) (four : P no.integer) (five : P no.deep) (six : P no.many) where
+    module _ (three : P no.order) (five : P no.deep) (six : P no.many) where
       begins : {A : Type 0} (n p : ℕ) (g : Got A) → Fails Given g → Fails Given (begin n p g)
       begins n p g h = by-test (Fails Given) (ltb n mostValues) (λ x. h) (λ x. six)
-
-      in-range : (p : ℕ) (g : Got ℤ) → Fails Given g → Fails Given (readRanged p g)
-      in-range p (got z l q n) h = by-test (Fails Given) (inRange z) (λ x. tt) (λ x. four)
-      in-range p (bad r q) h = h
 
       in-order : (prev : Prev) (p : ℕ) (g : Got (List ℕ)) → Fails Given g → Fails Given (ordered prev p g)
       in-order prev p (got k l q n) h = by-test (Fails Given) (follows prev k) (λ x. tt) (λ x. three)
@@ -162,7 +157,7 @@ module _ (P : ℕ → Type 0) where
           → ((l : List ℕ) (q m : ℕ) → Fails Given (ls l q m)) → ((l : List ℕ) (q m : ℕ) → Fails Given (ds l q m)) → Fails Given (valueBy k ls ds e b t p n)
       value-by digit ls ds e b t p n hl hd = begins n p (mapGot str (stringOf e b t p (n + 1))) (fails-map Given str (stringOf e b t p (n + 1)) (string e b t p (n + 1)))
       value-by letterI ls ds e b t p n hl hd =
-          begins n p (mapGot int (readRanged p (integerOf e t (p + 1) (n + 1)))) (fails-map Given int (readRanged p (integerOf e t (p + 1) (n + 1))) (in-range p (integerOf e t (p + 1) (n + 1)) (integer e t (p + 1) (n + 1))))
+          begins n p (mapGot int (integerOf e t (p + 1) (n + 1))) (fails-map Given int (integerOf e t (p + 1) (n + 1)) (integer e t (p + 1) (n + 1)))
       value-by letterL ls ds e b t p n hl hd = begins n p (mapGot list (ls t (p + 1) (n + 1))) (fails-map Given list (ls t (p + 1) (n + 1)) (hl t (p + 1) (n + 1)))
       value-by letterD ls ds e b t p n hl hd = begins n p (mapGot dict (ds t (p + 1) (n + 1))) (fails-map Given dict (ds t (p + 1) (n + 1)) (hd t (p + 1) (n + 1)))
       value-by other ls ds e b t p n hl hd = two
@@ -332,15 +327,15 @@ module _ (P : ℕ → Type 0) (s : List ℕ) (eight : Eight P s) (one : P 1) (tw
   by-element : P 10 → P 13 → (p : ℕ) → Among P (elementOf s p)
   by-element ten thirteen p = after P (lookOf s p) (elementIn s p) (by-look p) (as-element P ten thirteen s p)
 
-  module _ (three : P 3) (four : P 4) (five : P 5) (six : P 6) where
+  module _ (three : P 3) (five : P 5) (six : P 6) where
     by-skip : (p : ℕ) → Among P (skipOf s p)
-    by-skip p = skipped P one two three four five six s eight p
+    by-skip p = skipped P one two three five six s eight p
 
     by-seek : (p : ℕ) (k : List ℕ) → Among P (soughtFrom s p k)
-    by-seek p k = sought P one two three four five six (suc (length s)) s eight p k
+    by-seek p k = sought P one two three five six (suc (length s)) s eight p k
 
     by-file : P 10 → P 11 → P 13 → (p : ℕ) → Among P (fileAt s p)
-    by-file ten eleven thirteen p = after P (valueAt s p) (fileOf p) (value-at P one two three four five six s eight p) (file-of P ten thirteen eleven p)
+    by-file ten eleven thirteen p = after P (valueAt s p) (fileOf p) (value-at P one two three five six s eight p) (file-of P ten thirteen eleven p)
 
     -- an entry of a list: the searches for its keys, peer id, ip and port, and the place past it
     module _ (ten : P 10) (eleven : P 11) (fifteen : P 15) where
@@ -405,10 +400,10 @@ on4 i = List·Memᴰ·tail (List·Memᴰ·tail (List·Memᴰ·tail (List·Memᴰ
 
 -- of a value that is read, then 8, then others
 abbrev ofValue : List ℕ → List ℕ
-ofValue ns = 1 ∷ 2 ∷ 3 ∷ 4 ∷ 5 ∷ 6 ∷ 8 ∷ ns
+ofValue ns = 1 ∷ 2 ∷ 3 ∷ 5 ∷ 6 ∷ 8 ∷ ns
 
 past : {a : ℕ} {l : List ℕ} → In a l → In a (ofValue l)
-past i = on4 (List·Memᴰ·tail (List·Memᴰ·tail (List·Memᴰ·tail i)))
+past i = on4 (List·Memᴰ·tail (List·Memᴰ·tail i))
 
 abbrev ofFile : ℕ → Type 0
 ofFile = Of (ofValue (10 ∷ 11 ∷ 13 ∷ []))
@@ -422,14 +417,14 @@ look s p = given (Of (1 ∷ 2 ∷ 8 ∷ [])) (lookOf s p) (by-look (Of (1 ∷ 2 
 pub entry-look : (s : List ℕ) (p k q : ℕ) → entryOf s p ≡ refused k q → In k (1 ∷ 2 ∷ 8 ∷ [])
 entry-look s p = given (Of (1 ∷ 2 ∷ 8 ∷ [])) (entryOf s p) (by-entry (Of (1 ∷ 2 ∷ 8 ∷ [])) s (λ h. at2) at0 at1 p)
 
-pub skip : (s : List ℕ) (p k q : ℕ) → skipOf s p ≡ refused k q → In k (1 ∷ 2 ∷ 3 ∷ 4 ∷ 5 ∷ 6 ∷ 8 ∷ [])
-skip s p = given (Of (ofValue [])) (skipOf s p) (by-skip (Of (ofValue [])) s (λ h. on4 at2) at0 at1 at2 at3 (on4 at0) (on4 at1) p)
+pub skip : (s : List ℕ) (p k q : ℕ) → skipOf s p ≡ refused k q → In k (1 ∷ 2 ∷ 3 ∷ 5 ∷ 6 ∷ 8 ∷ [])
+skip s p = given (Of (ofValue [])) (skipOf s p) (by-skip (Of (ofValue [])) s (λ h. on4 at1) at0 at1 at2 at3 (on4 at0) p)
 
-pub seek : (s : List ℕ) (p : ℕ) (j : List ℕ) (k q : ℕ) → soughtFrom s p j ≡ refused k q → In k (1 ∷ 2 ∷ 3 ∷ 4 ∷ 5 ∷ 6 ∷ 8 ∷ [])
-seek s p j = given (Of (ofValue [])) (soughtFrom s p j) (by-seek (Of (ofValue [])) s (λ h. on4 at2) at0 at1 at2 at3 (on4 at0) (on4 at1) p j)
+pub seek : (s : List ℕ) (p : ℕ) (j : List ℕ) (k q : ℕ) → soughtFrom s p j ≡ refused k q → In k (1 ∷ 2 ∷ 3 ∷ 5 ∷ 6 ∷ 8 ∷ [])
+seek s p j = given (Of (ofValue [])) (soughtFrom s p j) (by-seek (Of (ofValue [])) s (λ h. on4 at1) at0 at1 at2 at3 (on4 at0) p j)
 
-pub file-at : (s : List ℕ) (p k q : ℕ) → fileAt s p ≡ refused k q → In k (1 ∷ 2 ∷ 3 ∷ 4 ∷ 5 ∷ 6 ∷ 8 ∷ 10 ∷ 11 ∷ 13 ∷ [])
-file-at s p = given ofFile (fileAt s p) (by-file ofFile s (λ h. on4 at2) at0 at1 at2 at3 (on4 at0) (on4 at1) (past at0) (past at1) (past at2) p)
+pub file-at : (s : List ℕ) (p k q : ℕ) → fileAt s p ≡ refused k q → In k (1 ∷ 2 ∷ 3 ∷ 5 ∷ 6 ∷ 8 ∷ 10 ∷ 11 ∷ 13 ∷ [])
+file-at s p = given ofFile (fileAt s p) (by-file ofFile s (λ h. on4 at1) at0 at1 at2 at3 (on4 at0) (past at0) (past at1) (past at2) p)
 
 pub element-at : (s : List ℕ) (p k q : ℕ) → elementOf s p ≡ refused k q → In k (1 ∷ 2 ∷ 8 ∷ 10 ∷ 13 ∷ [])
 element-at s p = given (Of (1 ∷ 2 ∷ 8 ∷ 10 ∷ 13 ∷ [])) (elementOf s p) (by-element (Of (1 ∷ 2 ∷ 8 ∷ 10 ∷ 13 ∷ [])) s (λ h. at2) at0 at1 at3 (on4 at0) p)
@@ -437,8 +432,8 @@ element-at s p = given (Of (1 ∷ 2 ∷ 8 ∷ 10 ∷ 13 ∷ [])) (elementOf s p)
 pub packed-at : (s : List ℕ) (p k q : ℕ) → packedAt s p ≡ refused k q → In k (1 ∷ 8 ∷ [])
 packed-at s p = given (Of (1 ∷ 8 ∷ [])) (packedAt s p) (by-packed (Of (1 ∷ 8 ∷ [])) s (λ h. at1) at0 p)
 
-pub listed-at : (s : List ℕ) (p k q : ℕ) → listedAt s p ≡ refused k q → In k (1 ∷ 2 ∷ 3 ∷ 4 ∷ 5 ∷ 6 ∷ 8 ∷ 10 ∷ 11 ∷ 15 ∷ [])
-listed-at s p = given ofPeer (listedAt s p) (by-listed ofPeer s (λ h. on4 at2) at0 at1 at2 at3 (on4 at0) (on4 at1) (past at0) (past at1) (past at2) p)
+pub listed-at : (s : List ℕ) (p k q : ℕ) → listedAt s p ≡ refused k q → In k (1 ∷ 2 ∷ 3 ∷ 5 ∷ 6 ∷ 8 ∷ 10 ∷ 11 ∷ 15 ∷ [])
+listed-at s p = given ofPeer (listedAt s p) (by-listed ofPeer s (λ h. on4 at1) at0 at1 at2 at3 (on4 at0) (past at0) (past at1) (past at2) p)
 
 -- ---- 8 exactly where the text is too long
 
@@ -465,10 +460,10 @@ module _ (s : List ℕ) (p q : ℕ) where
   entry-8 = eight-law s (entryOf s p) (limited-entry s p) (λ e. by-entry Other s e (not-8 1 refl) (not-8 2 refl) p) q
 
   pub skip-8 : skipOf s p ≡ refused 8 q ↔ ((mostText < length s) × (q ≡ 0))
-  skip-8 = eight-law s (skipOf s p) (limited-skip s p) (λ e. by-skip Other s e (not-8 1 refl) (not-8 2 refl) (not-8 3 refl) (not-8 4 refl) (not-8 5 refl) (not-8 6 refl) p) q
+  skip-8 = eight-law s (skipOf s p) (limited-skip s p) (λ e. by-skip Other s e (not-8 1 refl) (not-8 2 refl) (not-8 3 refl) (not-8 5 refl) (not-8 6 refl) p) q
 
   pub seek-8 : (j : List ℕ) → soughtFrom s p j ≡ refused 8 q ↔ ((mostText < length s) × (q ≡ 0))
-  seek-8 j = eight-law s (soughtFrom s p j) (limited-seek s p (length s) j) (λ e. by-seek Other s e (not-8 1 refl) (not-8 2 refl) (not-8 3 refl) (not-8 4 refl) (not-8 5 refl) (not-8 6 refl) p j) q
+  seek-8 j = eight-law s (soughtFrom s p j) (limited-seek s p (length s) j) (λ e. by-seek Other s e (not-8 1 refl) (not-8 2 refl) (not-8 3 refl) (not-8 5 refl) (not-8 6 refl) p j) q
 
   value-limited : Limited s (valueAt s p)
   unfolding valueAt
@@ -476,7 +471,7 @@ module _ (s : List ℕ) (p q : ℕ) where
 
   pub file-at-8 : fileAt s p ≡ refused 8 q ↔ ((mostText < length s) × (q ≡ 0))
   file-at-8 = eight-law s (fileAt s p) (limited-then s (valueAt s p) (fileOf p) value-limited)
-      (λ e. by-file Other s e (not-8 1 refl) (not-8 2 refl) (not-8 3 refl) (not-8 4 refl) (not-8 5 refl) (not-8 6 refl) (not-8 10 refl) (not-8 11 refl) (not-8 13 refl) p) q
+      (λ e. by-file Other s e (not-8 1 refl) (not-8 2 refl) (not-8 3 refl) (not-8 5 refl) (not-8 6 refl) (not-8 10 refl) (not-8 11 refl) (not-8 13 refl) p) q
 
   pub element-at-8 : elementOf s p ≡ refused 8 q ↔ ((mostText < length s) × (q ≡ 0))
   element-at-8 = eight-law s (elementOf s p) (limited-then s (lookOf s p) (elementIn s p) (limited-look s p)) (λ e. by-element Other s e (not-8 1 refl) (not-8 2 refl) (not-8 10 refl) (not-8 13 refl) p) q
@@ -494,4 +489,4 @@ module _ (s : List ℕ) (p q : ℕ) where
 
   pub listed-at-8 : listedAt s p ≡ refused 8 q ↔ ((mostText < length s) × (q ≡ 0))
   listed-at-8 = eight-law s (listedAt s p) listed-limited
-      (λ e. by-listed Other s e (not-8 1 refl) (not-8 2 refl) (not-8 3 refl) (not-8 4 refl) (not-8 5 refl) (not-8 6 refl) (not-8 10 refl) (not-8 11 refl) (not-8 15 refl) p) q
+      (λ e. by-listed Other s e (not-8 1 refl) (not-8 2 refl) (not-8 3 refl) (not-8 5 refl) (not-8 6 refl) (not-8 10 refl) (not-8 11 refl) (not-8 15 refl) p) q

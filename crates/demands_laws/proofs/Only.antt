@@ -1,15 +1,19 @@
 -- The number of a refusal is one of a list, call by call. Assumes nothing.
-use mathlib.Core.Path.{_≡_, refl}
+use mathlib.Core.Path.{_≡_, refl, sym, _∙_, subst}
+use mathlib.Core.Bool.{Bool, false, _||_}
 use mathlib.Core.Logic.{_⊎_, inl, inr, ⊎-elim}
-use mathlib.Core.List.{List, [], _∷_, _++_, List·Memᴰ·head, List·Memᴰ·tail, Memᴰ·append-left, Memᴰ·append-right, List·Memᴰ as In}
+use mathlib.Core.List.{List, [], _∷_, _++_, List·Memᴰ·head, List·Memᴰ·tail, List·Memᴰ·not-nil, List·Memᴰ·cases-cons, Memᴰ·append-left, Memᴰ·append-right, List·Memᴰ as In}
 use Prim.Native.Nat.{ℕ, zero, suc, _+_, _≤_, _<_}
 use native.Mathlib.Omega.{arith}
+use lib.Dec.{eqb}
 use lib.ListN.{length}
+use borrow.Author.Tests.{eq-eqb}
 use Rattle.refusal.specs.Paper.{taken, refused, map, then}
 use Rattle.bencode.specs.Value as value
 use Rattle.bencode.specs.Decode.{decode}
 use Rattle.bencode.specs.Answers.{checkOf}
 use Rattle.bencode_laws.proofs.Laws as bencode
+use Rattle.bencode_laws.proofs.Laws.{Numbered, eight}
 use Rattle.torrent_blocks.specs.Spans.{Span}
 use Rattle.torrent_blocks.specs.Answers.{spot}
 use Rattle.torrent_blocks.specs.Covers.{run, BlockCause, block-range, block-beyond, block-outside, block-room, ByteCause, byte-range, byte-beyond, byte-outside, SizeCause, size-range, size-beyond}
@@ -35,7 +39,7 @@ use Rattle.week_laws.specs.Causes.{NoTable, long-table, no-table, NoEntry, long
 use Rattle.week_laws.proofs.Laws as week-laws
 use Rattle.week_laws.proofs.Numbers as weeks
 use Rattle.week_laws.proofs.Back as week-back
-use Rattle.refusal.proofs.Cases.{same-or}
+use Rattle.refusal.proofs.Cases.{cannot, less-or, same-or, or-left, or-right}
 use Rattle.demands_laws.proofs.Refusals.{map-refused, then-refused}
 use Rattle.demands_laws.specs.Causes.{NoReplyText, Unchecked, no-such-piece, long-piece, wrong-length, Unsized, broken, over}
 use Rattle.demands_laws.proofs.Contents.{in-hash, check-exactly, file-alike}
@@ -45,7 +49,7 @@ use Rattle.demands_laws.proofs.Weeks.{package-alike}
 use Rattle.demands_laws.proofs.Links.{Over, written-refused, write-refused, size-refused}
 
 abbrev ofBencode : List ℕ
-ofBencode = 1 ∷ 2 ∷ 3 ∷ 4 ∷ 5 ∷ 6 ∷ 7 ∷ 8 ∷ []
+ofBencode = 1 ∷ 2 ∷ 3 ∷ 5 ∷ 6 ∷ 7 ∷ 8 ∷ []
 
 abbrev ofTorrent : List ℕ
 ofTorrent = ofBencode ++ (10 ∷ 11 ∷ 12 ∷ 13 ∷ [])
@@ -53,29 +57,44 @@ ofTorrent = ofBencode ++ (10 ∷ 11 ∷ 12 ∷ 13 ∷ [])
 abbrev ofReply : List ℕ
 ofReply = ofBencode ++ (10 ∷ 11 ∷ 15 ∷ [])
 
+-- whether a list has a number; one that it has not is none of its numbers
+unfoldable pub has : List ℕ → ℕ → Bool
+has [] j = false
+has (n ∷ ns) j = let r : Bool = has ns j in eqb n j || r
+
+pub without : (ns : List ℕ) (j : ℕ) → has ns j ≡ false → {k : ℕ} → In k ns → k ≡ j → ⊥
+unfolding has
+without [] j f i h = List·Memᴰ·not-nil i
+without (n ∷ ns) j f {k} i h = ⊎-elim
+    (λ (e : k ≡ n). cannot (eqb n j) (or-left (eqb n j) (has ns j) f) (eq-eqb n j (sym e ∙ h)))
+    (λ (m : In k ns). without ns j (or-right (eqb n j) (has ns j) f) m h)
+    (List·Memᴰ·cases-cons i)
+
 -- n numbers from a on
 in-run : (a n k : ℕ) → a ≤ k → k < a + n → In k (run a n)
 unfolding run
 in-run a zero k l h = absurd (omega arith)
 in-run a (suc n) k l h = same-or k a (λ e. List·Memᴰ·head e) (λ (f : k ≡ a → ⊥). List·Memᴰ·tail (in-run (suc a) n k (omega arith) (omega arith)))
 
-among-bencode : (k : ℕ) → 1 ≤ k → k ≤ 8 → In k ofBencode
+among-bencode : (k : ℕ) → Numbered k → In k ofBencode
 unfolding run
-among-bencode k l h = in-run 1 8 k l (omega arith)
+among-bencode k (l, h, n) = less-or k 4
+    (λ f. Memᴰ·append-left (run 5 4) (in-run 1 3 k l (omega arith)))
+    (λ f. Memᴰ·append-right (run 1 3) (same-or k 4 (λ e. absurd (n e)) (λ e. in-run 5 4 k (omega (arith, e)) (omega arith))))
 
 among-torrent : (k : ℕ) → 10 ≤ k → k ≤ 13 → In k (10 ∷ 11 ∷ 12 ∷ 13 ∷ [])
 unfolding run
 among-torrent k l h = in-run 10 4 k l (omega arith)
 
 decoded : (s : List ℕ) (k p : ℕ) → decode s ≡ refused k p → In k ofBencode
-decoded s k p e = let o = bencode.none-other s k p e in among-bencode k (o .0) (o .1)
+decoded s k p e = among-bencode k (bencode.none-other s k p e)
 
 pub check : (s : List ℕ) (k p : ℕ) → checkOf s ≡ refused k p → In k ofBencode
 check s k p e = decoded s k p (map-refused value.count (decode s) k p .0 e)
 
 pub torrent : (s : List ℕ) (k p : ℕ) → readOf s ≡ refused k p → In k ofTorrent
 torrent s k p e = ⊎-elim
-    (λ (h : (1 ≤ k) × (k ≤ 8)). Memᴰ·append-left (10 ∷ 11 ∷ 12 ∷ 13 ∷ []) (among-bencode k (h .0) (h .1)))
+    (λ (h : Numbered k). Memᴰ·append-left (10 ∷ 11 ∷ 12 ∷ 13 ∷ []) (among-bencode k h))
     (λ (h : (10 ≤ k) × (k ≤ 13)). Memᴰ·append-right ofBencode (among-torrent k (h .0) (h .1)))
     (torrents.none-other s k p e)
 
@@ -91,7 +110,7 @@ torrent-beside t s k p e = torrent t k p (of-torrent t s k p .0 e)
 
 pub sheet : (t s : List ℕ) (k p : ℕ) → findOf t s ≡ of OfSheet (refused k p) → In k (ofBencode ++ (10 ∷ 15 ∷ []))
 sheet t s k p e = ⊎-elim
-    (λ (h : (1 ≤ k) × (k ≤ 8)). Memᴰ·append-left (10 ∷ 15 ∷ []) (among-bencode k (h .0) (h .1)))
+    (λ (h : Numbered k). Memᴰ·append-left (10 ∷ 15 ∷ []) (among-bencode k h))
     (λ (h : (k ≡ 10) ⊎ (k ≡ 15)). Memᴰ·append-right ofBencode (⊎-elim (λ (f : k ≡ 10). List·Memᴰ·head f) (λ (f : k ≡ 15). List·Memᴰ·tail (List·Memᴰ·head f)) h))
     (sheet-only t s k p e)
 
@@ -107,7 +126,7 @@ link s h d t k p e = unread s h d t k p (left-refused s h d t k p .0 e)
 link-text : (s : List ℕ) (k p : ℕ) → writtenOf s ≡ refused k p → In k ofTorrent
 link-text s k p e = ⊎-elim
     (λ (h : readOf s ≡ refused k p). torrent s k p h)
-    (λ (h : (k ≡ 8) × Over s × (p ≡ 0)). Memᴰ·append-left (10 ∷ 11 ∷ 12 ∷ 13 ∷ []) (among-bencode k (omega (arith, h .0)) (omega (arith, h .0))))
+    (λ (h : (k ≡ 8) × Over s × (p ≡ 0)). Memᴰ·append-left (10 ∷ 11 ∷ 12 ∷ 13 ∷ []) (among-bencode k (subst Numbered (sym (h .0)) eight)))
     (written-refused s k p .0 e)
 
 pub link-writer : (s o : List ℕ) (k p : ℕ) → writeOf s o .answer ≡ refused k p → In k (37 ∷ ofTorrent)
@@ -120,9 +139,9 @@ pub link-size : (s : List ℕ) (k p : ℕ) → map length (writtenOf s) ≡ refu
 link-size s k p e = link-text s k p (size-refused s k p .0 e)
 
 -- of a week's file: a torrent's numbers, or 18 too
-among-week : (k : ℕ) → ((1 ≤ k) × (k ≤ 8)) ⊎ (((10 ≤ k) × (k ≤ 13)) ⊎ (k ≡ 18)) → In k (18 ∷ ofTorrent)
+among-week : (k : ℕ) → Numbered k ⊎ (((10 ≤ k) × (k ≤ 13)) ⊎ (k ≡ 18)) → In k (18 ∷ ofTorrent)
 among-week k h = ⊎-elim
-    (λ (x : (1 ≤ k) × (k ≤ 8)). List·Memᴰ·tail (Memᴰ·append-left (10 ∷ 11 ∷ 12 ∷ 13 ∷ []) (among-bencode k (x .0) (x .1))))
+    (λ (x : Numbered k). List·Memᴰ·tail (Memᴰ·append-left (10 ∷ 11 ∷ 12 ∷ 13 ∷ []) (among-bencode k x)))
     (⊎-elim (λ (x : (10 ≤ k) × (k ≤ 13)). List·Memᴰ·tail (Memᴰ·append-right ofBencode (among-torrent k (x .0) (x .1)))) (λ (x : k ≡ 18). List·Memᴰ·head x))
     h
 
@@ -140,7 +159,7 @@ pub week-entry : (s : List ℕ) (i k p : ℕ) → packageAt s i ≡ refused k p 
 week-entry s i k p e = go k p (week-laws.entry-faults s i k p .0 e)
   where
     go : (j q : ℕ) → NoEntry s i j q → In j (31 ∷ 18 ∷ ofTorrent)
-    go j q (long-file l) = List·Memᴰ·tail (among-week j (inl (omega arith, omega arith)))
+    go j q (long-file l) = List·Memᴰ·tail (among-week j (inl eight))
     go j q (no-count l h) = List·Memᴰ·tail (List·Memᴰ·head refl)
     go j q (past-last n l c h) = List·Memᴰ·head refl
     go j q (no-offset n l c b h) = List·Memᴰ·tail (List·Memᴰ·head refl)
@@ -151,7 +170,7 @@ week-entry s i k p e = go k p (week-laws.entry-faults s i k p .0 e)
 pub week-writer : (bs ns o : List ℕ) (k p : ℕ) → weekTextOf bs ns o .answer ≡ refused k p → In k (37 ∷ 18 ∷ ofTorrent)
 week-writer bs ns o k p e = go (week-back.none-other bs ns o k p e)
   where
-    go : ((1 ≤ k) × (k ≤ 8)) ⊎ (((10 ≤ k) × (k ≤ 13)) ⊎ ((k ≡ 18) ⊎ (k ≡ 37))) → In k (37 ∷ 18 ∷ ofTorrent)
+    go : week-back.Ours k → In k (37 ∷ 18 ∷ ofTorrent)
     go (inl h) = List·Memᴰ·tail (among-week k (inl h))
     go (inr (inl h)) = List·Memᴰ·tail (among-week k (inr (inl h)))
     go (inr (inr (inl h))) = List·Memᴰ·tail (List·Memᴰ·head h)
@@ -175,7 +194,7 @@ piece-hash s n k p e = ⊎-elim
 
 unchecked : (t : Torrent) (n : ℕ) (m : List ℕ) (k : ℕ) → Unchecked t n m k → In k (31 ∷ 34 ∷ ofTorrent)
 unchecked t n m k (no-such-piece l) = List·Memᴰ·head refl
-unchecked t n m k (long-piece l h) = List·Memᴰ·tail (List·Memᴰ·tail (Memᴰ·append-left (10 ∷ 11 ∷ 12 ∷ 13 ∷ []) (among-bencode 8 (omega arith) (omega arith))))
+unchecked t n m k (long-piece l h) = List·Memᴰ·tail (List·Memᴰ·tail (Memᴰ·append-left (10 ∷ 11 ∷ 12 ∷ 13 ∷ []) (among-bencode 8 eight)))
 unchecked t n m k (wrong-length l h g) = List·Memᴰ·tail (List·Memᴰ·head refl)
 
 pub piece-check : (s : List ℕ) (n : ℕ) (m : List ℕ) (k p : ℕ) → pieceOf s n m ≡ refused k p → In k (31 ∷ 34 ∷ ofTorrent)

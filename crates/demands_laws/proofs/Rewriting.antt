@@ -2,9 +2,9 @@
 use mathlib.Core.Path.{_≡_, refl, sym, ap, _∙_}
 use mathlib.Core.Bool.{Bool, true, false, cond}
 use mathlib.Core.List.{List}
-use Prim.Native.Nat.{ℕ, _+_, _%_, _^_, _≤_}
+use Prim.Native.Nat.{ℕ, _+_, _%_, _≤_}
 use native.Mathlib.Omega.{arith}
-use borrow.Author.Tests.{eqb-true, lt-ltb, le-ltb}
+use borrow.Author.Tests.{eqb-true, le-ltb}
 use lib.Dec.{leb, eqb}
 use lib.ListN.{length, take, drop}
 use Rattle.refusal.specs.Paper.{Outcome, taken, refused, map, then}
@@ -83,7 +83,7 @@ reply-again s v w f n p l e =
     let k = shown-small s (compact n p l) (h .0) (h .1) n p l (h .4) (h .3) refl in
     let g : Fine s (compactReply n (b .0)) = record {
       text = sym (b .3);
-      keeps = (31, refl, (refl, lt-ltb n (2 ^ 63) (omega (arith, k)), (interval-peers, tt, tt)));
+      keeps = (31, refl, (refl, tt, (interval-peers, tt, tt)));
       few = omega arith;
       short = f .3;
     } in

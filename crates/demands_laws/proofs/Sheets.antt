@@ -11,6 +11,7 @@ use Rattle.refusal.specs.Parts.{bytesAt}
 use Rattle.refusal.specs.declared.Part.{Part}
 use Rattle.bencode.specs.Value.{Value, Entries, str, dict, encode}
 use Rattle.bencode.specs.Decode.{decode}
+use Rattle.bencode_laws.proofs.Laws.{Numbered}
 use Rattle.bencode_walk.specs.Has.{Has}
 use Rattle.bencode_fields.specs.Values.{partOf}
 use Rattle.hash_sha1.specs.Sha1.{sha1}
@@ -106,7 +107,7 @@ module _ (t s : List ℕ) where
     sheet-15 p = Iff·trans (answers.of-sheet t s x e 15 p) (sheets.peer-law (sha1 (bytesAt t (x .info))) s p)
 
   -- and no other
-  pub sheet-only : (k p : ℕ) → findOf t s ≡ of Sheet (refused k p) → ((1 ≤ k) × (k ≤ 8)) ⊎ ((k ≡ 10) ⊎ (k ≡ 15))
+  pub sheet-only : (k p : ℕ) → findOf t s ≡ of Sheet (refused k p) → Numbered k ⊎ ((k ≡ 10) ⊎ (k ≡ 15))
   sheet-only k p f = let (x, e) = answers.sheet-after t s k p f in sheets.none-other (sha1 (bytesAt t (x .info))) s k p (answers.of-sheet t s x e k p .0 f)
 
   pub sheet-after : (k p : ℕ) → findOf t s ≡ of Sheet (refused k p) → (x : Says) × (readOf t ≡ taken x)

@@ -5,6 +5,7 @@ use mathlib.Core.List.{List}
 use Prim.Native.Nat.{ℕ, _≤_}
 use native.Mathlib.Omega.{arith}
 use Rattle.refusal.specs.Paper.{refused, taken}
+use Rattle.bencode_laws.proofs.Laws.{Numbered}
 use Rattle.week.specs.Rules.{weekOf, packageOf}
 use Rattle.week.specs.declared.Week.{Week}
 use Rattle.week_laws.specs.Causes.{NoWeek}
@@ -21,6 +22,6 @@ module _ (s : List ℕ) where
     where
       never : NoWeek s 31 p → ⊥
       never h =
-          ⊎-elim (λ (z : (1 ≤ 31) × (31 ≤ 8)). omega (arith, z .1))
+          ⊎-elim (λ (z : Numbered 31). omega (arith, z .1))
           (λ (x : ((10 ≤ 31) × (31 ≤ 13)) ⊎ (_≡_ {A = ℕ} 31 18)). ⊎-elim (λ (z : (10 ≤ 31) × (31 ≤ 13)). omega (arith, z .1)) (λ (z : _≡_ {A = ℕ} 31 18). omega (arith, z)) x)
           (none-other s 31 p h)

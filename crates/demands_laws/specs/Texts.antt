@@ -13,7 +13,7 @@ use Rattle.torrent_contents.specs.declared.Entry.{Entry}
 use Rattle.links.specs.Link.{Said, absent, said}
 use Rattle.links.specs.Writing.{textOf}
 
--- the bytes s are the value v as BEP 3 writes it, and v keeps the rules: integers of 64 bits, keys strictly ascending, at most 32 levels;
+-- the bytes s are the value v as BEP 3 writes it, and v keeps the rules: keys strictly ascending, at most 32 levels;
 -- at most 16,384 values, each key counted, and at most 1,048,576 bytes
 abbrev pub Encodes : List ℕ → Value → Type 0
 Encodes s v = (s ≡ encode v) × Keeps v 32 × (count v ≤ 16384) × (length s ≤ 1048576)

@@ -115,7 +115,7 @@ module _ (h s : List ℕ) (n p : ℕ) where
   )
 
   -- its number is one of bencode's, 1 to 8, or 10 or 15
-  pub none-other : sheetOf h s ≡ refused n p → ((1 ≤ n) × (n ≤ 8)) ⊎ ((n ≡ 10) ⊎ (n ≡ 15))
+  pub none-other : sheetOf h s ≡ refused n p → bencode.Numbered n ⊎ ((n ≡ 10) ⊎ (n ≡ 15))
   none-other e = ⊎-elim (λ (d : decode s ≡ refused n p). inl (bencode.none-other s n p d)) (λ (c : NoSheetText s n p). inr (sheet-numbers (c .0) n p (c .2))) (refused-law .0 e)
 
   -- 1 to 8 are bencode's, the others the sheet's

@@ -20,7 +20,7 @@ use Rattle.bencode_scalar.specs.declared.Text.the-variants.{Whole, Refused as B
 use Rattle.bencode_scalar.proofs.Forms.{at-head, string-other}
 use Rattle.bencode_scalar.proofs.Sound.{Holds, holds-map, holds-then, at-left}
 use Rattle.bencode.specs.Value.{Value, Items, Entries, str, int, list, dict, encode, Prev, start}
-use Rattle.bencode.specs.Decode.{Kind, digit, letterI, letterL, letterD, other, kindOf, ranged, valueBy, keyOf, valueFrom}
+use Rattle.bencode.specs.Decode.{Kind, digit, letterI, letterL, letterD, other, kindOf, valueBy, keyOf, valueFrom}
 use Rattle.bencode.specs.Answers.{stepOf}
 use Rattle.bencode.specs.declared.Cursor.{Cursor}
 use Rattle.bencode.specs.declared.Step.the-variants.{Past}
@@ -83,7 +83,7 @@ module _ (e b : ℕ) (t : List ℕ) (p n : ℕ) (ls : List ℕ → ℕ → ℕ �
 
   not-by : (k : Kind) → isDigit b ≡ false → KindP b k → valueBy k ls ds e b t p n ≡ got (str bs) r q m → ⊥
   not-by digit d v w = no-way (cc)
-  not-by letterI d v w = not-made int (λ a x. no-way (cc)) (ltb n 16384) (ranged p (integerOf e t (p + 1) (n + 1))) w
+  not-by letterI d v w = not-made int (λ a x. no-way (cc)) (ltb n 16384) (integerOf e t (p + 1) (n + 1)) w
   not-by letterL d v w = not-made list (λ a x. no-way (cc)) (ltb n 16384) (ls t (p + 1) (n + 1)) w
   not-by letterD d v w = not-made dict (λ a x. no-way (cc)) (ltb n 16384) (ds t (p + 1) (n + 1)) w
   not-by other d v w = no-way (cc)

@@ -2,15 +2,14 @@
 use mathlib.Core.Path.{_≡_, refl, sym, ap, _∙_, subst}
 use mathlib.Core.Bool.{Bool, true, false}
 use mathlib.Core.List.{List}
-use Prim.Native.Nat.{ℕ, _+_, _^_, _<_, _≤_}
+use Prim.Native.Nat.{ℕ, _+_, _<_, _≤_}
 use native.Mathlib.Omega.{arith}
 use lib.Dec.{leb}
 use lib.IntN.{pos}
 use lib.ListN.{length}
 use lib.Seq.{sets}
-use borrow.Author.Tests.{leb-true, leb-false, lt-ltb}
+use borrow.Author.Tests.{leb-true, leb-false}
 use Rattle.refusal.specs.Paper.{Outcome, taken, refused}
-use Rattle.refusal.specs.Limits.{longestFile}
 use Rattle.refusal.proofs.Cases.{no-way}
 use Rattle.bencode_scalar.specs.Written.{keyLt}
 use Rattle.bencode.specs.Value.{Value, str, int, empty, entry, encode, count, Keeps, start, last}
@@ -22,7 +21,6 @@ use Rattle.bencode_writer.specs.Put.{paper as putPaper}
 use Rattle.bencode_writer.specs.declared.Put.{Put}
 use Rattle.bencode_writer.proofs.Laws.{paper-apart, put-whole, put-none, standing}
 use Rattle.torrent_blocks.specs.Rules.{pieceLength}
-use Rattle.torrent_blocks.proofs.Legal.{piece-length-is, piece-bounds}
 use Rattle.torrent_metainfo.specs.Keys.{announceKey, infoKey, lengthKey, nameKey, pieceLengthKey, piecesKey}
 use Rattle.torrent_metainfo.specs.Rules.{torrentOf}
 use Rattle.torrent_metainfo.specs.Reading.{readOf}
@@ -44,15 +42,13 @@ unfolding keyLt
 ascending = (refl, refl, refl, refl)
 
 module _ (f : Fields) where
-  pub text-fine : Ruled f → length (textOf f) ≤ 1048576 → Fine (textOf f) (torrentValue f)
+  pub text-fine : length (textOf f) ≤ 1048576 → Fine (textOf f) (torrentValue f)
   unfolding Keeps count
-  text-fine h l =
-      let b = piece-bounds (f .pieceLength) (piece-length-is (f .pieceLength) (h .piece)) in
-      let m = leb-true (f .length) longestFile (h .file) in
+  text-fine l =
       let k = ascending in
       record {
         text = refl;
-        keeps = (31, refl, (refl, tt, (k .0, (30, refl, (refl, lt-ltb (f .length) (2 ^ 63) (omega arith), (k .1, tt, (k .2, lt-ltb (f .pieceLength) (2 ^ 63) (omega arith), (k .3, tt, tt))))), tt)));
+        keeps = (31, refl, (refl, tt, (k .0, (30, refl, (refl, tt, (k .1, tt, (k .2, tt, (k .3, tt, tt))))), tt)));
         few = omega arith;
         short = l;
       }
@@ -102,7 +98,7 @@ module _ (f : Fields) where
 
   -- reading what is written
   pub text-read : Ruled f → length (textOf f) ≤ 1048576 → readOf (textOf f) ≡ taken (told f)
-  text-read h l = torrent-exact (textOf f) .every (torrentValue f) (told f) (text-fine h l) (kept-told f h)
+  text-read h l = torrent-exact (textOf f) .every (torrentValue f) (told f) (text-fine l) (kept-told f h)
 
 -- ---- what a call leaves, case by case
 
@@ -167,7 +163,7 @@ module _ (f : Fields) (o : List ℕ) where
               text = w .there;
               torrent = told f;
               read = ap readOf (w .there) ∙ text-read f a b;
-              gives = subst (λ (s : List ℕ). Gives s (told f) f) (sym (w .there)) (told-gives f (textOf f) (text-fine f a b));
+              gives = subst (λ (s : List ℕ). Gives s (told f) f) (sym (w .there)) (told-gives f (textOf f) (text-fine f b));
               past = rw z at (w .past);
             }
 

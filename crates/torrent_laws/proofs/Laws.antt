@@ -62,8 +62,8 @@ by-text s n p (v, f, h) = ap (λ (o : Outcome Value). then o torrentOf) (fine-ta
 pub refused-law : (s : List ℕ) (n p : ℕ) → readOf s ≡ refused n p ↔ ((decode s ≡ refused n p) ⊎ NoTorrentText s n p)
 refused-law s n p = (λ e. only-by s n p (decode s) refl e, ⊎-elim (λ (h : decode s ≡ refused n p). ap (λ (o : Outcome Value). then o torrentOf) h) (by-text s n p))
 
--- its number is one of bencode's, 1 to 8, or 10 to 13
-pub none-other : (s : List ℕ) (n p : ℕ) → readOf s ≡ refused n p → ((1 ≤ n) × (n ≤ 8)) ⊎ ((10 ≤ n) × (n ≤ 13))
+-- its number is one of bencode's, or 10 to 13
+pub none-other : (s : List ℕ) (n p : ℕ) → readOf s ≡ refused n p → bencode.Numbered n ⊎ ((10 ≤ n) × (n ≤ 13))
 none-other s n p e = ⊎-elim (λ (h : decode s ≡ refused n p). inl (bencode.none-other s n p h)) (λ (h : NoTorrentText s n p). inr (torrent-ours (h .0) n p (h .2))) (refused-law s n p .0 e)
 
 -- 1 to 8 are bencode's, the others the torrent's

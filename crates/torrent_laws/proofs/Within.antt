@@ -12,7 +12,7 @@ use Rattle.refusal.proofs.Cases.{by-test, no-way, lt-or-le}
 use Rattle.bencode_scalar.specs.Written.{writtenString}
 use Rattle.bencode.specs.Value.{Value, Items, Entries, str, list, dict, item, empty, entry, encode, encodeItems, encodeEntries}
 use Rattle.bencode.specs.Decode.{decode}
-use Rattle.bencode_laws.specs.Causes.{Cut, Byte, Order, Integer, Deep, Many, After}
+use Rattle.bencode_laws.specs.Causes.{Cut, Byte, Order, Deep, Many, After}
 use Rattle.bencode_laws.proofs.Fails.{Cause, place}
 use Rattle.bencode_laws.proofs.Whole.{caused}
 use Rattle.bencode_laws.proofs.Laws as bencode
@@ -41,9 +41,6 @@ byte-within s p (Byte.within w b t c few h) = omega (arith, place c, length-appe
 order-within : (s : List ℕ) (p : ℕ) → Order s p → p ≤ length s
 order-within s p (Order.not-greater k l c few h) = omega (arith, place c)
 
-integer-within : (s : List ℕ) (p : ℕ) → Integer s p → p ≤ length s
-integer-within s p (Integer.outside z l c few h) = omega (arith, place c)
-
 deep-within : (s : List ℕ) (p : ℕ) → Deep s p → p ≤ length s
 deep-within s p (Deep.level c few h) = omega (arith, place c)
 
@@ -58,7 +55,7 @@ cause-within s zero p c = absurd c
 cause-within s (suc zero) p c = cut-within s p c
 cause-within s (suc (suc zero)) p c = byte-within s p c
 cause-within s (suc (suc (suc zero))) p c = order-within s p c
-cause-within s (suc (suc (suc (suc zero)))) p c = integer-within s p c
+cause-within s (suc (suc (suc (suc zero)))) p c = absurd c
 cause-within s (suc (suc (suc (suc (suc zero))))) p c = deep-within s p c
 cause-within s (suc (suc (suc (suc (suc (suc zero)))))) p c = many-within s p c
 cause-within s (suc (suc (suc (suc (suc (suc (suc zero))))))) p c = after-within s p c

@@ -101,7 +101,7 @@ module _ (s : List ℕ) (d p : ℕ) (levels : d ≤ 32) where
           let n = entered v t in
           stop-file v n r o
           (tells-found s (n .deep) p (naturalAt longestFile) (lookup (p + 1) (n .entries) lengthKey) w i q (n .length) f (refused r o)
-          (λ x u. not-taken (endingAt (q + length (encode x))) r o (naturalAt longestFile q x) (h ∙ number-is s (n .deep) q longestFile x u)))
+          (λ x u. not-taken (endingAt (q + length (encode x))) r o (naturalAt longestFile q x) (h ∙ number-is s (n .deep) q longestFile (omega arith) x u)))
 
       module _ (m past : ℕ) (h : taken (endingAt past m) ≡ numberOf longestFile s q) (o : Outcome File)
           (j : (d : ℕ) → (before : Prev) → (es : Entries) → d ≤ 32 → StandEntries s d past before es → o ≡ then (must p (lookup past es pathKey) pathAt) (λ b. taken (record { length = m; path = b; next = past + length (encodeEntries es) }))) where
@@ -114,7 +114,7 @@ module _ (s : List ℕ) (d p : ℕ) (levels : d ≤ 32) where
             go nothing x y = let z : Tells s k nothing (Found i q) = subst (Tells s k nothing) f y in absurd z
             go (under z v) x y =
                 let b : Tells s k (under z v) (Found i q) = subst (Tells s k (under z v)) f y in
-                let c = took (z + length (encode v)) m past (naturalAt longestFile z v) (h ∙ ap (numberOf longestFile s) (b .0) ∙ number-is s k z longestFile v (b .1)) in
+                let c = took (z + length (encode v)) m past (naturalAt longestFile z v) (h ∙ ap (numberOf longestFile s) (b .0) ∙ number-is s k z longestFile (omega arith) v (b .1)) in
                 let n = beyond s k (p + 1) start es lengthKey t z v x in
                 let same : lookup past (n .left) pathKey ≡ lookup (p + 1) es pathKey = ap (λ (r : ℕ). lookup r (n .left) pathKey) (sym (c .1)) ∙ n .same pathKey refl in
                 let ends : past + length (encodeEntries (n .left)) ≡ p + suc (length (encodeEntries es)) = omega (arith, c .1, n .ends) in

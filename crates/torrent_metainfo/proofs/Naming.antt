@@ -10,6 +10,8 @@ use borrow.Author.Tests.{eq-eqb, ne-eqb}
 use Rattle.refusal.specs.Paper.{Outcome, taken, refused, then, map}
 use Rattle.refusal.specs.declared.Part.{Part}
 pub use Rattle.refusal.proofs.Cases.{no-way}
+use Rattle.refusal.proofs.Cases.{by-test}
+use Rattle.bencode_scalar.specs.Written.{writtenInt, inRange}
 use Rattle.bencode_scalar.proofs.Forms.{at-head}
 use Rattle.bencode.specs.Value.{Value, Items, str, int, list, dict, none, item, encode, encodeItems}
 use Rattle.bencode.specs.Decode.{closes}
@@ -134,14 +136,15 @@ module _ (s : List ℕ) (d p : ℕ) where
   string-ends : (v : Value) → Stands s d p v → (a m q : ℕ) → taken (string a m q) ≡ lookOf s p → q ≡ p + length (encode v)
   unfolding encode
   string-ends (str bs) t a m q e = let f = e ∙ string-stands s d p bs t .seen in cc
-  string-ends (int z) t a m q e = let f = e ∙ integer-stands s d p z t in no-way (cc)
+  string-ends (int z) t a m q e =
+      by-test (λ (h : Head). taken (string a m q) ≡ taken h → q ≡ p + length (writtenInt z)) (inRange z) (λ i f. no-way (cc)) (λ o f. no-way (cc)) (e ∙ integer-stands s d p z t)
   string-ends (list vs) t a m q e = let f = e ∙ list-stands s d p vs t .0 in no-way (cc)
   string-ends (dict es) t a m q e = let f = e ∙ dictionary-stands s d p es t .0 in no-way (cc)
 
   -- no value is an end
   not-end : (v : Value) → Stands s d p v → (q : ℕ) → taken (end q) ≡ lookOf s p → ⊥
   not-end v t q e =
-      let f : taken true ≡ taken false = ap (λ (o : Outcome Head). then o (λ h. taken (isEnd h))) e ∙ look-is s d p (λ h. taken (isEnd h)) (λ w. taken false) (λ bs. refl) (λ z. refl) (λ vs. refl) (λ es. refl) v t in
+      let f : taken true ≡ taken false = ap (λ (o : Outcome Head). then o (λ h. taken (isEnd h))) e ∙ look-is s d p (λ h. taken (isEnd h)) (λ w. taken false) (λ bs. refl) (λ z i. refl) (λ z o. refl) (λ vs. refl) (λ es. refl) v t in
       no-way (cc)
 
 -- ---- the elements of a path

@@ -75,7 +75,7 @@ sized-stopped a i n s p pl c h = ⊎-elim over under (lt-or-le largest (c .total
 
 module _ (s : List ℕ) (d D : ℕ) (u : Under) (w : Sought) (t : Tells s d u w) where
   asked : unlessLong s (needed D (seekPaper w) (naturalOf longestPiece s)) ≡ must D u (naturalAt longestPiece)
-  asked = tells-needed s d D (naturalAt longestPiece) u w t (naturalOf longestPiece s) (λ q v x. natural-is s d q longestPiece v x)
+  asked = tells-needed s d D (naturalAt longestPiece) u w t (naturalOf longestPiece s) (λ q v x. natural-is s d q longestPiece (omega arith) v x)
 
   pub piece-good : (n : ℕ) → taken n ≡ unlessLong s (needed D (seekPaper w) (naturalOf longestPiece s)) → pieceLength n ≡ true → taken n ≡ must D u pieceLengthAt
   piece-good n e h = go u (e ∙ asked)

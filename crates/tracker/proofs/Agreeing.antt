@@ -7,7 +7,8 @@ use native.Mathlib.Omega.{arith}
 use lib.Dec.{eqb}
 use lib.ListN.{length}
 use Rattle.refusal.specs.Paper.{Outcome, taken, refused, refusal, map, then}
-use Rattle.bencode_scalar.specs.Written.{keyLt}
+use Rattle.refusal.proofs.Cases.{by-test}
+use Rattle.bencode_scalar.specs.Written.{inRange, keyLt}
 use Rattle.bencode.specs.Value.{Value, Items, Entries, str, int, list, dict, none, item, count, encode, start, last}
 use Rattle.bencode.specs.Decode.{decode}
 use Rattle.bencode.specs.Answers.{checkOf}
@@ -85,7 +86,7 @@ module _ (s : List ℕ) where
       let y = sought-next s e (p + 1) es (soughtAfter s (soughtFrom s (p + 1) ip) peerId) (b .hit) x port c in
       let i = asked s e p (lookup (p + 1) es peerId) (soughtAfter s (soughtFrom s (p + 1) ip) peerId) (b .hit) x (b .says) (λ q v u. found-stands s e (p + 1) start es peerId t q v u) (idOf s) idAt (id-is e) in
       let j = asked s e p (lookup (p + 1) es ip) (soughtFrom s (p + 1) ip) (a .hit) (a .seen) (a .says) (λ q v u. found-stands s e (p + 1) start es ip t q v u) (stringOf s) stringAt (λ q v u. string-is s e q v u) in
-      let k = asked s e p (lookup (p + 1) es port) (soughtAfter s (soughtAfter s (soughtFrom s (p + 1) ip) peerId) port) (c .hit) y (c .says) (λ q v u. found-stands s e (p + 1) start es port t q v u) (naturalOf 65535 s) (naturalAt 65535) (λ q v u. natural-is s e q 65535 v u) in
+      let k = asked s e p (lookup (p + 1) es port) (soughtAfter s (soughtAfter s (soughtFrom s (p + 1) ip) peerId) port) (c .hit) y (c .says) (λ q v u. found-stands s e (p + 1) start es port t q v u) (naturalOf 65535 s) (naturalAt 65535) (λ q v u. natural-is s e q 65535 (omega arith) v u) in
       joined (needed p (soughtAfter s (soughtFrom s (p + 1) ip) peerId) (idOf s)) (needed p (soughtFrom s (p + 1) ip) (stringOf s)) (needed p (soughtAfter s (soughtAfter s (soughtFrom s (p + 1) ip) peerId) port) (naturalOf 65535 s))
       (pastPeer s p) (λ z. record { entry = listed z; next = next }) (λ z. ap (map (λ q. record { entry = listed z; next = q })) past)
       ∙ ap (λ (o : Outcome Part). map (λ z. record { entry = listed z; next = next }) (made o (needed p (soughtFrom s (p + 1) ip) (stringOf s)) (needed p (soughtAfter s (soughtAfter s (soughtFrom s (p + 1) ip) peerId) port) (naturalOf 65535 s)))) i
@@ -150,7 +151,7 @@ module _ (s : List ℕ) (e : ℕ) (levels : e ≤ 32) where
   peers-is n p (str bs) t =
       let b = string-stands s e p bs t in
       looked (peersIn s n p) p (b .seen) ∙ ap (λ (a : ℕ). compactOf n p a (length bs)) (begins s e p bs b) ∙ compact-is n p (partOf p bs .from) bs (eqb (length bs % 6) 0)
-  peers-is n p (int z) t = looked (peersIn s n p) p (integer-stands s e p z t)
+  peers-is n p (int z) t = looked (peersIn s n p) p (integer-stands s e p z t) ∙ by-test (λ (h : Head). peersIn s n p h ≡ refused 10 p) (inRange z) (λ i. refl) (λ o. refl)
   peers-is n p (list vs) t =
       let l = list-stands s e p vs t in
       looked (peersIn s n p) p (l .0)
@@ -165,7 +166,7 @@ module _ (s : List ℕ) (e : ℕ) (levels : e ≤ 32) where
         let a = seeks s e 1 es levels (last failureReason) interval p l reason-interval in
         let b = seeks s e 1 es levels (last interval) peers (placeOf (a .hit)) (a .next) interval-peers in
         let x = sought-next s e 1 es (soughtFrom s p interval) (a .hit) (a .seen) peers b in
-        let i = asked s e 0 (lookup 1 es interval) (soughtFrom s p interval) (a .hit) (a .seen) (a .says) (λ q v u. found-stands s e 1 start es interval t q v u) (naturalOf 2147483647 s) (naturalAt 2147483647) (λ q v u. natural-is s e q 2147483647 v u) in
+        let i = asked s e 0 (lookup 1 es interval) (soughtFrom s p interval) (a .hit) (a .seen) (a .says) (λ q v u. found-stands s e 1 start es interval t q v u) (naturalOf 2147483647 s) (naturalAt 2147483647) (λ q v u. natural-is s e q 2147483647 (omega arith) v u) in
         let j : (n : ℕ) → needed 0 (soughtAfter s (soughtFrom s p interval) peers) (peersOf s n) ≡ map counted (must 0 (lookup 1 es peers) (peersAt n)) = λ n.
         asked s e 0 (lookup 1 es peers) (soughtAfter s (soughtFrom s p interval) peers) (b .hit) x (b .says) (λ q v u. found-stands s e 1 start es peers t q v u) (peersOf s n) (λ q v. map counted (peersAt n q v)) (λ q v u. peers-is n q v u)
         ∙ map-must counted 0 (lookup 1 es peers) (peersAt n) in

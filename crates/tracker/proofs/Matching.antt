@@ -2,7 +2,7 @@
 use mathlib.Core.Path.{_≡_, refl, sym, ap, _∙_, subst}
 use mathlib.Core.Bool.{Bool, true, false}
 use mathlib.Core.List.{List, [], _∷_, _++_, append-assoc}
-use Prim.Native.Nat.{ℕ, _+_, _<_, _≤_, _^_}
+use Prim.Native.Nat.{ℕ, _+_, _<_, _≤_}
 use native.Mathlib.Omega.{arith}
 use lib.IntN.{ℤ, pos, negsuc, natAbs}
 use lib.Signed.{ltZ}
@@ -11,7 +11,7 @@ use mir.Val.{toZ, ofZ}
 use mir.ValLaws.{toZ-ofZ}
 use lib.ListN.{length, getD, take, drop, length-append, length-drop, length-take, take-append-drop}
 use lib.Seq.{drop-length, drop-drop}
-use borrow.Author.Tests.{lt-ltb, le-leb, eq-eqb}
+use borrow.Author.Tests.{le-leb, eq-eqb}
 use Rattle.refusal.specs.Paper.{Outcome, taken, refused, map}
 use Rattle.refusal.specs.Texts.{bytes}
 use Rattle.refusal.specs.declared.Part.{Part}
@@ -79,14 +79,14 @@ reads-then {s} {v} {w} {p} {q} {o} x y = record {
 abbrev three : List ℕ → List ℕ → ℕ → Value
 three a i n = dict (entry ip (str a) (entry peerId (str i) (entry port (int (pos n)) empty)))
 
-three-stands : (s : List ℕ) (p q n : ℕ) (a i : List ℕ) → length s ≤ 1048576 → n ≤ 65535 → Reads s p (encode (three a i n)) q → Stands s 1 p (three a i n)
+three-stands : (s : List ℕ) (p q n : ℕ) (a i : List ℕ) → length s ≤ 1048576 → Reads s p (encode (three a i n)) q → Stands s 1 p (three a i n)
 unfolding Keeps count keyLt
-three-stands s p q n a i short small r = record {
+three-stands s p q n a i short r = record {
   rest = drop q s;
   text = r .text;
   inside = omega (arith, r .place, r .inside);
   short = short;
-  keeps = (0, refl, (refl, tt, (refl, tt, (refl, lt-ltb n (2 ^ 63) (omega arith), tt))));
+  keeps = (0, refl, (refl, tt, (refl, tt, (refl, tt, tt))));
   few = omega arith;
 }
 
@@ -191,7 +191,7 @@ module _ (s : List ℕ) (p from len n q : ℕ) (short : length s ≤ 1048576) (x
 
   pub usual-is : listedAt s p ≡ taken (record { entry = listed (record { id = record { from = from + len + 12; len = 20 }; ip = record { from = from; len = len }; port = n }); next = q })
   usual-is =
-      peer-is s 1 p (omega arith) (three a i n) (three-stands s p q n a i short (z .small) whole)
+      peer-is s 1 p (omega arith) (three a i n) (three-stands s p q n a i short whole)
       ∙ ap (map (λ u. record { entry = listed u; next = p + length (encode (three a i n)) })) (three-peer p n a i (z .small) twenty)
       ∙ ap (λ (u : Part). taken (record { entry = listed (record { id = u; ip = partOf (p + 1 + 4) a; port = n }); next = p + length (encode (three a i n)) })) id-part
       ∙ ap (λ (u : Part). taken (record { entry = listed (record { id = record { from = from + len + 12; len = 20 }; ip = u; port = n }); next = p + length (encode (three a i n)) })) ip-part

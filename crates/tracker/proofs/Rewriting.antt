@@ -2,13 +2,13 @@
 use mathlib.Core.Path.{_≡_, refl, sym, ap, _∙_, subst}
 use mathlib.Core.Bool.{Bool, true, false, cond}
 use mathlib.Core.List.{List}
-use Prim.Native.Nat.{ℕ, _+_, _%_, _^_, _<_, _≤_}
+use Prim.Native.Nat.{ℕ, _+_, _%_, _<_, _≤_}
 use native.Mathlib.Omega.{arith}
 use lib.Dec.{ltb, leb}
 use lib.IntN.{pos}
 use lib.ListN.{length, take, drop}
 use lib.Seq.{sets}
-use borrow.Author.Tests.{ltb-true, ltb-false, leb-true, leb-false, lt-ltb}
+use borrow.Author.Tests.{ltb-true, ltb-false, leb-true, leb-false}
 use Rattle.refusal.specs.Paper.{taken, refused}
 use Rattle.refusal.proofs.Cases.{no-way}
 use Rattle.bencode_scalar.specs.Written.{keyLt}
@@ -40,7 +40,7 @@ module _ (n : ℕ) (bs : List ℕ) (small : n ≤ 2147483647) (whole : length bs
   unfolding Keeps count
   reply-fine h = record {
     text = refl;
-    keeps = (31, refl, (refl, lt-ltb n (2 ^ 63) (omega arith), (interval-peers, tt, tt)));
+    keeps = (31, refl, (refl, tt, (interval-peers, tt, tt)));
     few = omega arith;
     short = h;
   }
@@ -52,7 +52,7 @@ module _ (n : ℕ) (bs : List ℕ) (small : n ≤ 2147483647) (whole : length bs
   no-failure-here : (v : Value) → Has (entry interval (int (pos n)) (entry peers (str bs) empty)) failureReason v → ⊥
   unfolding Keeps
   no-failure-here v h =
-      let r = has-found 1 (entry interval (int (pos n)) (entry peers (str bs) empty)) failureReason v 31 start h (refl, lt-ltb n (2 ^ 63) (omega arith), (interval-peers, tt, tt)) in
+      let r = has-found 1 (entry interval (int (pos n)) (entry peers (str bs) empty)) failureReason v 31 start h (refl, tt, (interval-peers, tt, tt)) in
       let a = r .1 in
       let b = no-reason in
       let z : _≡_ {A = ℕ} 0 1 = cc in omega arith

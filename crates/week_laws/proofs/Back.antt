@@ -14,6 +14,7 @@ use Rattle.bencode.specs.Value.{dict, encode}
 use Rattle.bencode_writer.specs.Put.{Left, left, putOf, puts}
 use Rattle.bencode_writer.proofs.Puts.{put-there, NoRoom, puts-refused, puts-taken}
 use Rattle.hash_sha1.proofs.Determined.{digest-length}
+use Rattle.bencode_laws.proofs.Laws.{Numbered, eight}
 use Rattle.torrent_laws.specs.Torrent.{TorrentSays}
 use Rattle.torrent_laws.proofs.Laws as torrents
 use Rattle.week.specs.File.{Package, entriesFrom, bodiesOf, tableBytes, fileOf}
@@ -77,11 +78,11 @@ module _ (bs ns o : List ℕ) where
 
 -- ---- the numbers: a torrent's, 18, 8 and 37
 
-abbrev Ours : ℕ → Type 0
-Ours n = ((1 ≤ n) × (n ≤ 8)) ⊎ (((10 ≤ n) × (n ≤ 13)) ⊎ ((n ≡ 18) ⊎ (n ≡ 37)))
+abbrev pub Ours : ℕ → Type 0
+Ours n = Numbered n ⊎ (((10 ≤ n) × (n ≤ 13)) ⊎ ((n ≡ 18) ⊎ (n ≡ 37)))
 
 packages-ours : (seen bs : List (List ℕ)) (n : ℕ) → NoPackages seen bs n → Ours n
-packages-ours seen bs n (this-body s b cs m p e) = ⊎-elim (λ (h : (1 ≤ m) × (m ≤ 8)). inl h) (λ (h : (10 ≤ m) × (m ≤ 13)). inr (inl h)) (torrents.none-other b m p e)
+packages-ours seen bs n (this-body s b cs m p e) = ⊎-elim (λ (h : Numbered m). inl h) (λ (h : (10 ≤ m) × (m ≤ 13)). inr (inl h)) (torrents.none-other b m p e)
 packages-ours seen bs n (this-hash s p t cs i j) = inr (inr (inl refl))
 packages-ours seen bs n (later s p t cs m i j h) = packages-ours _ cs m h
 
@@ -89,10 +90,10 @@ unwritten-ours : (bs ns : List ℕ) (size n : ℕ) → Unwritten bs ns size n �
 unwritten-ours bs ns size n (wrong-number h) = inr (inr (inl refl))
 unwritten-ours bs ns size n (wrong-sum a b h) = inr (inr (inl refl))
 unwritten-ours bs ns size n (bad-package m a b c h) = packages-ours _ (cutBy ns bs) m h
-unwritten-ours bs ns size n (long-week ps ts a b k d x y l) = inl (omega arith, omega arith)
+unwritten-ours bs ns size n (long-week ps ts a b k d x y l) = inl eight
 unwritten-ours bs ns size n (no-room ps ts a b k d x y l s) = inr (inr (inr refl))
 
-pub none-other : (bs ns o : List ℕ) (n p : ℕ) → writeOf bs ns o .answer ≡ refused n p → ((1 ≤ n) × (n ≤ 8)) ⊎ (((10 ≤ n) × (n ≤ 13)) ⊎ ((n ≡ 18) ⊎ (n ≡ 37)))
+pub none-other : (bs ns o : List ℕ) (n p : ℕ) → writeOf bs ns o .answer ≡ refused n p → Ours n
 none-other bs ns o n p e = unwritten-ours bs ns (length o) n (write-refused bs ns o n p .0 e .1)
 
 -- ---- a week's file written again

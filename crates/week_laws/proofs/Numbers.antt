@@ -8,6 +8,7 @@ use lib.ListN.{length, take, drop, length-take, length-drop}
 use Rattle.refusal.specs.Limits.{mostText}
 use Rattle.refusal.specs.Numbers.{week, long}
 use Rattle.refusal.specs.Paper.{refused}
+use Rattle.bencode_laws.proofs.Laws.{Numbered, eight}
 use Rattle.torrent_laws.proofs.Laws as torrent
 use Rattle.week.specs.File.{tableBytes}
 use Rattle.week.specs.Rules.{offsetPlace, lengthPlace, tableOf, packageAt, weekOf}
@@ -49,16 +50,16 @@ module _ (s : List ℕ) where
       only k p e (no-hash n at m l c b o f g h) = absurd (omega (arith, e))
       only k p e (no-body n at m j r l c b x h) = absurd (body-8 i at m j r l h e)
 
-  -- no other number: bencode's, 1 to 8, the torrent's, 10 to 13, or 18
+  -- no other number: bencode's, the torrent's, 10 to 13, or 18
   abbrev pub Ours : ℕ → Type 0
-  Ours k = ((1 ≤ k) × (k ≤ 8)) ⊎ (((10 ≤ k) × (k ≤ 13)) ⊎ (k ≡ week))
+  Ours k = Numbered k ⊎ (((10 ≤ k) × (k ≤ 13)) ⊎ (k ≡ week))
 
   pub body-ours : (i at m k q : ℕ) → NoBody s i at m k q → Ours k
-  body-ours i at m k q (no-torrent n p e) = ⊎-elim (λ (z : (1 ≤ n) × (n ≤ 8)). inl z) (λ (z : (10 ≤ n) × (n ≤ 13)). inr (inl z)) (torrent.none-other (take m (drop at s)) n p e)
+  body-ours i at m k q (no-torrent n p e) = ⊎-elim (λ (z : Numbered n). inl z) (λ (z : (10 ≤ n) × (n ≤ 13)). inr (inl z)) (torrent.none-other (take m (drop at s)) n p e)
   body-ours i at m k q (other-hash v t f h d) = inr (inr refl)
 
   pub none-other : (k q : ℕ) → NoWeek s k q → Ours k
-  none-other k q (bad-table j r (long-table l)) = inl (omega arith, omega arith)
+  none-other k q (bad-table j r (long-table l)) = inl eight
   none-other k q (bad-table j r (no-table p l w)) = inr (inr refl)
   none-other k q (bad-body n i at m j r l t b g x h) = body-ours i at m j r h
 

@@ -11,6 +11,11 @@ use Rattle.bencode_scalar.specs.Written.{decimal, writtenString, writtenInt}
 use Rattle.bencode.specs.Decode.{decode}
 use Rattle.bencode.specs.Answers.{paper as countPaper}
 use Rattle.bencode.specs.declared.Checked.{Checked}
+use Rattle.bencode_walk.specs.Walk.{paper as lookPaper, entryPaper, seekPaper, pastPaper}
+use Rattle.bencode_walk.specs.declared.Seen.{Seen}
+use Rattle.bencode_walk.specs.declared.Next.{Next}
+use Rattle.bencode_walk.specs.declared.Past.{Past}
+use Rattle.bencode_walk.specs.declared.Sought.{Sought}
 use Rattle.bencode_writer.specs.Escaped.{smallHex}
 use Rattle.bencode_writer.specs.Put.{putOf, paper as putPaper}
 use Rattle.bencode_writer.specs.declared.Put.{Put}
@@ -18,18 +23,23 @@ use Rattle.hash_sha1.specs.Digest.{paper as hashPaper}
 use Rattle.hash_sha1.specs.declared.Hashed.{Hashed}
 use Rattle.torrent_blocks.specs.declared.PieceNumber.{PieceNumber}
 use Rattle.torrent_blocks.specs.declared.PieceOffset.{PieceOffset}
-use Rattle.torrent_metainfo.specs.Reading.{paper as torrentPaper}
+use Rattle.torrent_metainfo.specs.Reading.{paper as torrentPaper, filePaper}
+use Rattle.torrent_metainfo.specs.declared.Filed.{Filed}
 use Rattle.torrent_metainfo.specs.declared.Reading.{Reading}
 use Rattle.torrent_metainfo.specs.declared.Torrent.{Torrent}
 use Rattle.torrent_authoring.specs.Writing.{Fields, fields}
 use Rattle.torrent_contents.specs.Files.{foundPaper}
+use Rattle.torrent_contents.specs.Paths.{elementPaper}
 use Rattle.torrent_contents.specs.Pieces.{hashPaper as pieceHashPaper, checkPaper}
+use Rattle.torrent_contents.specs.declared.Element.{Element}
 use Rattle.torrent_contents.specs.declared.Entry.{Entry}
 use Rattle.torrent_contents.specs.declared.Found as file
 use Rattle.torrent_contents.specs.declared.Hash as hash
 use Rattle.torrent_contents.specs.declared.Checked as piece
 use Rattle.torrent_lines.specs.Lines.{listingOf}
-use Rattle.tracker.specs.Entries.{PeerEntry}
+use Rattle.tracker.specs.Entries.{PeerEntry, packedPaper, listedPaper}
+use Rattle.tracker.specs.declared.compact.Packing.{Packing}
+use Rattle.tracker.specs.declared.listed.Listing.{Listing}
 use Rattle.tracker.specs.Reply.{Answer}
 use Rattle.tracker.specs.Reading.{peerPaper, paper as replyPaper}
 use Rattle.tracker.specs.declared.Reply.{Reply}
@@ -37,8 +47,14 @@ use Rattle.tracker.specs.declared.Found as peer
 use Rattle.sheets.specs.declared.Found as address
 use Rattle.sheets.specs.declared.Source.the-variants.{Torrent as OfTorrent, Sheet as OfSheet}
 use Rattle.sheets.specs.Reading.{told, about}
+use Rattle.links.specs.Reading.{paper as linkPaper}
 use Rattle.links.specs.Writing.{sizePaper as linkSizePaper}
+use Rattle.links.specs.declared.Linked.{Linked}
 use Rattle.links.specs.declared.Sized as link-size
+use Rattle.week.specs.Reading.{paper as weekPaper, countPaper as tablePaper, toldPaper}
+use Rattle.week.specs.declared.Counted.{Counted}
+use Rattle.week.specs.declared.Told.{Told}
+use Rattle.week.specs.declared.Weekly.{Weekly}
 use Rattle.peer_wire.specs.Frames.{writeOf}
 use Rattle.peer_wire.specs.Handshake.{handshake, zeros}
 use Rattle.peer_wire.specs.Message.{body, encode, keepalive, have, bitfield, request, piece, cancel}
@@ -48,11 +64,13 @@ use Rattle.demands_laws.proofs.Sheets as sheets-laws
 use Rattle.demands_laws.proofs.Links as links-laws
 use Rattle.demands.specs.One.{Lent, before, after}
 use Rattle.demands.specs.One.Doors.Bencode as bencode
+use Rattle.demands.specs.One.Doors.Walk as walk
 use Rattle.demands.specs.One.Doors.Metainfo as metainfo
 use Rattle.demands.specs.One.Doors.Contents as contents
 use Rattle.demands.specs.One.Doors.Tracker as tracker
 use Rattle.demands.specs.One.Doors.Sheets as sheets
 use Rattle.demands.specs.One.Doors.Links as links
+use Rattle.demands.specs.One.Doors.Week as week
 use Rattle.demands.specs.One.Doors.Lines as lines
 use Rattle.demands.specs.One.Doors.WireWriting as writing
 use Rattle.demands.specs.One.Inner.Writer as writer
@@ -124,6 +142,25 @@ as-decoded text (beside-a-sheet other r c) k p l = Iff·trans (same-answer (ap (
 as-decoded text (a-sheet other q t d e r c) k p l = Iff·trans (same-answer (ap (about OfSheet) c)) (sheets-laws.sheet-read (before other) (before text) t (sym d ∙ e) k p l)
 as-decoded text (a-link-written r out c) k p l = Iff·trans (left-answer c) (links-laws.write-read (before text) (before out) k p l)
 as-decoded text (a-link-sized r c) k p l = Iff·trans (same-answer c) (links-laws.size-read (before text) k p l)
+
+-- ---- the other calls that read a text: a look at a place of one, a week's file, a link
+
+-- such a call, by its contract, refuses by k at p
+pub data Refuses (k p : ℕ) : Type 0 where
+  a-look : (text : Lent (List ℕ)) (at : ℕ) (r : Seen) → walk.look-ensures text at r → lookPaper r ≡ refused k p → Refuses k p
+  an-entry : (text : Lent (List ℕ)) (at : ℕ) (r : Next) → walk.entry-ensures text at r → entryPaper r ≡ refused k p → Refuses k p
+  a-search : (text : Lent (List ℕ)) (at : ℕ) (key : Lent (List ℕ)) (r : Sought) → walk.seek-ensures text at key r → seekPaper r ≡ refused k p → Refuses k p
+  a-skip : (text : Lent (List ℕ)) (at : ℕ) (r : Past) → walk.skip-ensures text at r → pastPaper r ≡ refused k p → Refuses k p
+  file-at : (text : Lent (List ℕ)) (at : ℕ) (r : Filed) → metainfo.file-at-ensures text at r → filePaper r ≡ refused k p → Refuses k p
+  element-at : (text : Lent (List ℕ)) (at : ℕ) (r : Element) → contents.element-at-ensures text at r → elementPaper r ≡ refused k p → Refuses k p
+  packed-at : (text : Lent (List ℕ)) (at : ℕ) (r : Packing) → tracker.packed-at-ensures text at r → packedPaper r ≡ refused k p → Refuses k p
+  listed-at : (text : Lent (List ℕ)) (at : ℕ) (r : Listing) → tracker.listed-at-ensures text at r → listedPaper r ≡ refused k p → Refuses k p
+  a-week : (file : Lent (List ℕ)) (r : Weekly) → week.read-ensures file r → weekPaper r ≡ refused k p → Refuses k p
+  a-package : (file : Lent (List ℕ)) (index : ℕ) (r : Told) → week.package-ensures file index r → toldPaper r ≡ refused k p → Refuses k p
+  a-table : (file : Lent (List ℕ)) (r : Counted) → week.table-ensures file r → tablePaper r ≡ refused k p → Refuses k p
+  package-at : (file : Lent (List ℕ)) (index : ℕ) (r : Told) → week.package-at-ensures file index r → toldPaper r ≡ refused k p → Refuses k p
+  a-week-written : (bodies lengths : Lent (List ℕ)) (r : Put) (out : Lent (List ℕ)) → week.write-ensures bodies lengths r out → putPaper r ≡ refused k p → Refuses k p
+  a-link : (text : Lent (List ℕ)) (r : Linked) (hash name address : Lent (List ℕ)) → links.read-ensures text r hash name address → linkPaper r ≡ refused k p → Refuses k p
 
 -- ---- calls that write a frame
 

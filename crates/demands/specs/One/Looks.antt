@@ -45,21 +45,21 @@ entry-no-other text at r e k p x = looks.entry-look (now (text .entry)) at k p (
 pub skip-8 : (text : Lent (List ℕ)) (at : ℕ) (r : Past) → walk.skip-ensures text at r → (p : ℕ) → pastPaper r ≡ refused 8 p ↔ ((mostText < length (now (text .entry))) × (p ≡ 0))
 skip-8 text at r e p = Iff·trans (same-answer e) (looks.skip-8 (now (text .entry)) at p)
 
-pub skip-no-other : (text : Lent (List ℕ)) (at : ℕ) (r : Past) → walk.skip-ensures text at r → (k p : ℕ) → pastPaper r ≡ refused k p → In k (1 ∷ 2 ∷ 3 ∷ 4 ∷ 5 ∷ 6 ∷ 8 ∷ [])
+pub skip-no-other : (text : Lent (List ℕ)) (at : ℕ) (r : Past) → walk.skip-ensures text at r → (k p : ℕ) → pastPaper r ≡ refused k p → In k (1 ∷ 2 ∷ 3 ∷ 5 ∷ 6 ∷ 8 ∷ [])
 skip-no-other text at r e k p x = looks.skip (now (text .entry)) at k p (sym e ∙ x)
 
 -- of bencode_walk::seek
 pub seek-8 : (text : Lent (List ℕ)) (at : ℕ) (key : Lent (List ℕ)) (r : Sought) → walk.seek-ensures text at key r → (p : ℕ) → seekPaper r ≡ refused 8 p ↔ ((mostText < length (now (text .entry))) × (p ≡ 0))
 seek-8 text at key r e p = Iff·trans (same-answer e) (looks.seek-8 (now (text .entry)) at p (now (key .entry)))
 
-pub seek-no-other : (text : Lent (List ℕ)) (at : ℕ) (key : Lent (List ℕ)) (r : Sought) → walk.seek-ensures text at key r → (k p : ℕ) → seekPaper r ≡ refused k p → In k (1 ∷ 2 ∷ 3 ∷ 4 ∷ 5 ∷ 6 ∷ 8 ∷ [])
+pub seek-no-other : (text : Lent (List ℕ)) (at : ℕ) (key : Lent (List ℕ)) (r : Sought) → walk.seek-ensures text at key r → (k p : ℕ) → seekPaper r ≡ refused k p → In k (1 ∷ 2 ∷ 3 ∷ 5 ∷ 6 ∷ 8 ∷ [])
 seek-no-other text at key r e k p x = looks.seek (now (text .entry)) at (now (key .entry)) k p (sym e ∙ x)
 
 -- of torrent_metainfo::file_at
 pub file-at-8 : (text : Lent (List ℕ)) (at : ℕ) (r : Filed) → metainfo.file-at-ensures text at r → (p : ℕ) → filePaper r ≡ refused 8 p ↔ ((mostText < length (now (text .entry))) × (p ≡ 0))
 file-at-8 text at r e p = Iff·trans (same-answer e) (looks.file-at-8 (now (text .entry)) at p)
 
-pub file-at-no-other : (text : Lent (List ℕ)) (at : ℕ) (r : Filed) → metainfo.file-at-ensures text at r → (k p : ℕ) → filePaper r ≡ refused k p → In k (1 ∷ 2 ∷ 3 ∷ 4 ∷ 5 ∷ 6 ∷ 8 ∷ 10 ∷ 11 ∷ 13 ∷ [])
+pub file-at-no-other : (text : Lent (List ℕ)) (at : ℕ) (r : Filed) → metainfo.file-at-ensures text at r → (k p : ℕ) → filePaper r ≡ refused k p → In k (1 ∷ 2 ∷ 3 ∷ 5 ∷ 6 ∷ 8 ∷ 10 ∷ 11 ∷ 13 ∷ [])
 file-at-no-other text at r e k p x = looks.file-at (now (text .entry)) at k p (sym e ∙ x)
 
 -- of torrent_contents::element_at
@@ -80,5 +80,5 @@ packed-at-no-other text at r e k p x = looks.packed-at (now (text .entry)) at k 
 pub listed-at-8 : (text : Lent (List ℕ)) (at : ℕ) (r : Listing) → tracker.listed-at-ensures text at r → (p : ℕ) → listedPaper r ≡ refused 8 p ↔ ((mostText < length (now (text .entry))) × (p ≡ 0))
 listed-at-8 text at r e p = Iff·trans (same-answer e) (looks.listed-at-8 (now (text .entry)) at p)
 
-pub listed-at-no-other : (text : Lent (List ℕ)) (at : ℕ) (r : Listing) → tracker.listed-at-ensures text at r → (k p : ℕ) → listedPaper r ≡ refused k p → In k (1 ∷ 2 ∷ 3 ∷ 4 ∷ 5 ∷ 6 ∷ 8 ∷ 10 ∷ 11 ∷ 15 ∷ [])
+pub listed-at-no-other : (text : Lent (List ℕ)) (at : ℕ) (r : Listing) → tracker.listed-at-ensures text at r → (k p : ℕ) → listedPaper r ≡ refused k p → In k (1 ∷ 2 ∷ 3 ∷ 5 ∷ 6 ∷ 8 ∷ 10 ∷ 11 ∷ 15 ∷ [])
 listed-at-no-other text at r e k p x = looks.listed-at (now (text .entry)) at k p (sym e ∙ x)

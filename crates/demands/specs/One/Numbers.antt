@@ -1,10 +1,10 @@
 -- Statement 4 of demand 1: "Given exactly when". Each number of document 01's table in its order: under the table's line, call by call, that the number
 -- is given at a place exactly when its cause holds there, by every answer r that the contract of the call permits. A cause says that the checks before it are
--- passed. The causes: bencode_laws/specs/Causes (1 to 7), torrent_laws/specs/Causes and tracker/specs/Causes (10 to 15), torrent_blocks/specs/Covers,
+-- passed. The causes: bencode_laws/specs/Causes (1, 2, 3, 5, 6, 7), torrent_laws/specs/Causes and tracker/specs/Causes (10 to 15), torrent_blocks/specs/Covers,
 -- sheets/specs/Causes (10 and 15 of a sheet), week_laws/specs/Causes (18), links_laws/specs/Causes (19), peer_wire/specs/Causes (20 to 23, wait), torrent_authoring/specs/Rules and tracker/specs/Faults (the writers),
 -- yard_laws/specs/Causes and Damage (the yard's words), and demands_laws/specs/Causes. Of the yard r is the number that C gets: `Permits t c r z` is the contract of the call c on the tables t, and `Made lent h
 -- (found t)` says that the tables `lent`, started and then called any way, have become these, and h is what happened (Program.antt). Assumes nothing.
-use mathlib.Core.Path.{_≡_, sym, _∙_}
+use mathlib.Core.Path.{_≡_, refl, sym, _∙_}
 use mathlib.Core.Logic.{_⊎_, _↔_, Iff·trans}
 use mathlib.Core.Bool.{true, false}
 use mathlib.Core.List.{List}
@@ -21,7 +21,7 @@ use Rattle.bencode.specs.Value.{Value}
 use Rattle.bencode.specs.Decode.{decode}
 use Rattle.bencode.specs.Answers.{paper as countPaper}
 use Rattle.bencode.specs.declared.Checked.{Checked}
-use Rattle.bencode_laws.specs.Causes.{Cut, Byte, Order, Integer, Deep, Many, After}
+use Rattle.bencode_laws.specs.Causes.{Cut, Byte, Order, Deep, Many, After}
 use Rattle.bencode_laws.proofs.Laws as laws
 use Rattle.hash_sha1.specs.Digest.{paper as hashPaper, agreementPaper}
 use Rattle.hash_sha1.specs.declared.Agreement.{Agreement}
@@ -110,10 +110,13 @@ use Rattle.demands_laws.proofs.Frames as framing
 use Rattle.demands_laws.proofs.Blocks as blocks-laws
 use Rattle.demands_laws.proofs.Writers as writers
 use Rattle.demands_laws.proofs.Tables.{no-wait}
+use Rattle.demands_laws.proofs.Only as only
 use Rattle.demands_laws.proofs.Runs as runs
 use Rattle.demands.specs.Program.{Tables, found, Permits, Made, permits-step, made-run}
 use Rattle.demands.specs.One.{Lent, before}
-use Rattle.demands.specs.One.Alike.{asked, Reader, answerOf, as-decoded, Frames, as-framed, Puts, as-put}
+use Rattle.demands.specs.One.Alike.{asked, Reader, answerOf, as-decoded, Refuses, a-look, an-entry, a-search, a-skip, file-at, element-at, packed-at, listed-at, a-week, a-package, a-table, package-at, a-week-written, a-link, Frames, as-framed, Puts, as-put}
+use Rattle.demands.specs.One.Only as calls
+use Rattle.demands.specs.One.Looks as looks
 use Rattle.demands.specs.One.Doors.Bencode as bencode
 use Rattle.demands.specs.One.Doors.Metainfo as metainfo
 use Rattle.demands.specs.One.Doors.Contents as contents
@@ -207,11 +210,29 @@ text-2 text r p h = Iff·trans (as-decoded text r 2 p (omega arith)) (laws.byte-
 pub text-3 : (text : Lent (List ℕ)) (r : Reader text) (p : ℕ) → length (before text) ≤ mostText → answerOf r ≡ refused 3 p ↔ Order (before text) p
 text-3 text r p h = Iff·trans (as-decoded text r 3 p (omega arith)) (laws.order-law (before text) p h)
 
--- ---- 4: "integer outside -2^63 .. 2^63-1; offset of its i"
+-- ---- 4: "integer outside -2^63 .. 2^63-1; offset of its i", and change request 8: "4 is never given again"
 
--- given by every call r that reads a text
-pub text-4 : (text : Lent (List ℕ)) (r : Reader text) (p : ℕ) → length (before text) ≤ mostText → answerOf r ≡ refused 4 p ↔ Integer (before text) p
-text-4 text r p h = Iff·trans (as-decoded text r 4 p (omega arith)) (laws.integer-law (before text) p h)
+-- given by no call r that reads a text, whatever the text
+pub text-4 : (text : Lent (List ℕ)) (r : Reader text) (p : ℕ) → answerOf r ≡ refused 4 p → ⊥
+text-4 text r p e = laws.none-other (before text) 4 p (as-decoded text r 4 p (omega arith) .0 e) .2 refl
+
+-- nor by any other: no look at a place of a text, nothing that is asked of a week's file or of a link
+pub other-4 : (k p : ℕ) → Refuses k p → k ≡ 4 → ⊥
+unfolding only.has
+other-4 k p (a-look text at r c e) = only.without _ 4 refl (looks.look-no-other text at r c k p e)
+other-4 k p (an-entry text at r c e) = only.without _ 4 refl (looks.entry-no-other text at r c k p e)
+other-4 k p (a-search text at key r c e) = only.without _ 4 refl (looks.seek-no-other text at key r c k p e)
+other-4 k p (a-skip text at r c e) = only.without _ 4 refl (looks.skip-no-other text at r c k p e)
+other-4 k p (file-at text at r c e) = only.without _ 4 refl (looks.file-at-no-other text at r c k p e)
+other-4 k p (element-at text at r c e) = only.without _ 4 refl (looks.element-at-no-other text at r c k p e)
+other-4 k p (packed-at text at r c e) = only.without _ 4 refl (looks.packed-at-no-other text at r c k p e)
+other-4 k p (listed-at text at r c e) = only.without _ 4 refl (looks.listed-at-no-other text at r c k p e)
+other-4 k p (a-week file r c e) = only.without _ 4 refl (calls.week-no-other file r c k p e)
+other-4 k p (a-package file index r c e) = only.without _ 4 refl (calls.week-package-no-other file index r c k p e)
+other-4 k p (a-table file r c e) = only.without _ 4 refl (calls.week-table-no-other file r c k p e)
+other-4 k p (package-at file index r c e) = only.without _ 4 refl (calls.package-at-no-other file index r c k p e)
+other-4 k p (a-week-written bodies lengths r out c e) = only.without _ 4 refl (calls.week-writer-no-other bodies lengths r out c k p e)
+other-4 k p (a-link text r hash name address c e) = only.without _ 4 refl (calls.link-no-other text r hash name address c k p e)
 
 -- ---- 5: "list or dictionary at level 33; its offset"
 

@@ -82,30 +82,30 @@ use Rattle.demands.specs.One.Doors.Sha1 as sha1
 -- ---- texts: "1" to "8" of the table
 
 -- of bencode::check
-pub check-no-other : (text : Lent (List ℕ)) (r : Checked) → bencode.check-ensures text r → (k p : ℕ) → countPaper r ≡ refused k p → In k (1 ∷ 2 ∷ 3 ∷ 4 ∷ 5 ∷ 6 ∷ 7 ∷ 8 ∷ [])
+pub check-no-other : (text : Lent (List ℕ)) (r : Checked) → bencode.check-ensures text r → (k p : ℕ) → countPaper r ≡ refused k p → In k (1 ∷ 2 ∷ 3 ∷ 5 ∷ 6 ∷ 7 ∷ 8 ∷ [])
 check-no-other text r e k p x = let d = sym (e .0) ∙ x in only.check (before text) k p d
 
 -- ---- torrents: "Checks in this order: bencode; top is a dictionary; [..] name (string, then 13), piece length (integer, then 11) [..]. Then how many files, the
 -- total, how many pieces (11), then 12."
 
 -- of torrent_metainfo::read
-pub torrent-no-other : (text : Lent (List ℕ)) (r : Reading) → metainfo.read-ensures text r → (k p : ℕ) → torrentPaper r ≡ refused k p → In k (1 ∷ 2 ∷ 3 ∷ 4 ∷ 5 ∷ 6 ∷ 7 ∷ 8 ∷ 10 ∷ 11 ∷ 12 ∷ 13 ∷ [])
+pub torrent-no-other : (text : Lent (List ℕ)) (r : Reading) → metainfo.read-ensures text r → (k p : ℕ) → torrentPaper r ≡ refused k p → In k (1 ∷ 2 ∷ 3 ∷ 5 ∷ 6 ∷ 7 ∷ 8 ∷ 10 ∷ 11 ∷ 12 ∷ 13 ∷ [])
 torrent-no-other text r e k p x = let d = sym e ∙ x in only.torrent (before text) k p d
 
 -- of torrent_metainfo::info_hash
-pub info-hash-no-other : (text : Lent (List ℕ)) (r : Hashed) (out : Lent (List ℕ)) → metainfo.info-hash-ensures text r out → (k p : ℕ) → hashPaper r ≡ refused k p → In k (1 ∷ 2 ∷ 3 ∷ 4 ∷ 5 ∷ 6 ∷ 7 ∷ 8 ∷ 10 ∷ 11 ∷ 12 ∷ 13 ∷ [])
+pub info-hash-no-other : (text : Lent (List ℕ)) (r : Hashed) (out : Lent (List ℕ)) → metainfo.info-hash-ensures text r out → (k p : ℕ) → hashPaper r ≡ refused k p → In k (1 ∷ 2 ∷ 3 ∷ 5 ∷ 6 ∷ 7 ∷ 8 ∷ 10 ∷ 11 ∷ 12 ∷ 13 ∷ [])
 info-hash-no-other text r out e k p x = let d = left-answer e .0 x in only.torrent (before text) k p (contents-laws.info-hash-alike (before text) (before out) k p .0 d)
 
 -- of torrent_contents::file: a file's number too
-pub file-no-other : (text : Lent (List ℕ)) (n : ℕ) (r : file.Found) → contents.file-ensures text n r → (k p : ℕ) → foundPaper r ≡ refused k p → In k (31 ∷ 1 ∷ 2 ∷ 3 ∷ 4 ∷ 5 ∷ 6 ∷ 7 ∷ 8 ∷ 10 ∷ 11 ∷ 12 ∷ 13 ∷ [])
+pub file-no-other : (text : Lent (List ℕ)) (n : ℕ) (r : file.Found) → contents.file-ensures text n r → (k p : ℕ) → foundPaper r ≡ refused k p → In k (31 ∷ 1 ∷ 2 ∷ 3 ∷ 5 ∷ 6 ∷ 7 ∷ 8 ∷ 10 ∷ 11 ∷ 12 ∷ 13 ∷ [])
 file-no-other text n r e k p x = let d = sym e ∙ x in only.file-entry (before text) n k p d
 
 -- of torrent_contents::piece_hash: a piece's number too
-pub piece-hash-no-other : (text : Lent (List ℕ)) (n : PieceNumber) (r : hash.Hash) → contents.piece-hash-ensures text n r → (k p : ℕ) → pieceHashPaper r ≡ refused k p → In k (31 ∷ 1 ∷ 2 ∷ 3 ∷ 4 ∷ 5 ∷ 6 ∷ 7 ∷ 8 ∷ 10 ∷ 11 ∷ 12 ∷ 13 ∷ [])
+pub piece-hash-no-other : (text : Lent (List ℕ)) (n : PieceNumber) (r : hash.Hash) → contents.piece-hash-ensures text n r → (k p : ℕ) → pieceHashPaper r ≡ refused k p → In k (31 ∷ 1 ∷ 2 ∷ 3 ∷ 5 ∷ 6 ∷ 7 ∷ 8 ∷ 10 ∷ 11 ∷ 12 ∷ 13 ∷ [])
 piece-hash-no-other text n r e k p x = let d = sym e ∙ x in only.piece-hash (before text) (n .0) k p d
 
 -- of torrent_contents::check_piece: and "a piece to check of the wrong length"
-pub piece-check-no-other : (text : Lent (List ℕ)) (n : PieceNumber) (bytes : Lent (List ℕ)) (r : piece.Checked) → contents.check-piece-ensures text n bytes r → (k p : ℕ) → checkPaper r ≡ refused k p → In k (31 ∷ 34 ∷ 1 ∷ 2 ∷ 3 ∷ 4 ∷ 5 ∷ 6 ∷ 7 ∷ 8 ∷ 10 ∷ 11 ∷ 12 ∷ 13 ∷ [])
+pub piece-check-no-other : (text : Lent (List ℕ)) (n : PieceNumber) (bytes : Lent (List ℕ)) (r : piece.Checked) → contents.check-piece-ensures text n bytes r → (k p : ℕ) → checkPaper r ≡ refused k p → In k (31 ∷ 34 ∷ 1 ∷ 2 ∷ 3 ∷ 5 ∷ 6 ∷ 7 ∷ 8 ∷ 10 ∷ 11 ∷ 12 ∷ 13 ∷ [])
 piece-check-no-other text n bytes r e k p x = let d = sym e ∙ x in only.piece-check (before text) (n .0) (before bytes) k p d
 
 -- of torrent_authoring::write
@@ -120,11 +120,11 @@ torrent-size-no-other announce name pl pieces len r e k p x = let d = sym e ∙ 
 -- of 6) [..] peer id (20 bytes, else 15), ip (string), port (0 to 65535, else 11)."
 
 -- of tracker::read
-pub reply-no-other : (text : Lent (List ℕ)) (r : Reply) → tracker.read-ensures text r → (k p : ℕ) → replyPaper r ≡ refused k p → In k (1 ∷ 2 ∷ 3 ∷ 4 ∷ 5 ∷ 6 ∷ 7 ∷ 8 ∷ 10 ∷ 11 ∷ 15 ∷ [])
+pub reply-no-other : (text : Lent (List ℕ)) (r : Reply) → tracker.read-ensures text r → (k p : ℕ) → replyPaper r ≡ refused k p → In k (1 ∷ 2 ∷ 3 ∷ 5 ∷ 6 ∷ 7 ∷ 8 ∷ 10 ∷ 11 ∷ 15 ∷ [])
 reply-no-other text r e k p x = let d = sym e ∙ x in only.reply (before text) k p d
 
 -- of tracker::peer: "asking for one [..] refuses as the reply does, then by 31"
-pub peer-no-other : (text : Lent (List ℕ)) (n : ℕ) (r : peer.Found) → tracker.peer-ensures text n r → (k p : ℕ) → peerPaper r ≡ refused k p → In k (31 ∷ 1 ∷ 2 ∷ 3 ∷ 4 ∷ 5 ∷ 6 ∷ 7 ∷ 8 ∷ 10 ∷ 11 ∷ 15 ∷ [])
+pub peer-no-other : (text : Lent (List ℕ)) (n : ℕ) (r : peer.Found) → tracker.peer-ensures text n r → (k p : ℕ) → peerPaper r ≡ refused k p → In k (31 ∷ 1 ∷ 2 ∷ 3 ∷ 5 ∷ 6 ∷ 7 ∷ 8 ∷ 10 ∷ 11 ∷ 15 ∷ [])
 peer-no-other text n r e k p x = let d = sym e ∙ x in only.peer (before text) n k p d
 
 -- of tracker::writing::write
@@ -135,8 +135,8 @@ reply-writer-no-other interval peers r out e k p x = let d = left-answer e .0 x 
 
 -- of sheets::find: the torrent's for the torrent, and these for the sheet
 pub find-no-other : (torrent sheet : Lent (List ℕ)) (r : address.Found) → sheets.find-ensures torrent sheet r → (k p : ℕ)
-    → (told r ≡ of OfTorrent (refused k p) → In k (1 ∷ 2 ∷ 3 ∷ 4 ∷ 5 ∷ 6 ∷ 7 ∷ 8 ∷ 10 ∷ 11 ∷ 12 ∷ 13 ∷ []))
-    × (told r ≡ of OfSheet (refused k p) → In k (1 ∷ 2 ∷ 3 ∷ 4 ∷ 5 ∷ 6 ∷ 7 ∷ 8 ∷ 10 ∷ 15 ∷ []))
+    → (told r ≡ of OfTorrent (refused k p) → In k (1 ∷ 2 ∷ 3 ∷ 5 ∷ 6 ∷ 7 ∷ 8 ∷ 10 ∷ 11 ∷ 12 ∷ 13 ∷ []))
+    × (told r ≡ of OfSheet (refused k p) → In k (1 ∷ 2 ∷ 3 ∷ 5 ∷ 6 ∷ 7 ∷ 8 ∷ 10 ∷ 15 ∷ []))
 find-no-other torrent sheet r e k p = (λ x. only.torrent-beside (before torrent) (before sheet) k p (sym e ∙ x), λ x. only.sheet (before torrent) (before sheet) k p (sym e ∙ x))
 
 -- ---- links: "8, then 19 [..]; then 37, reading or writing", and of a torrent whose link is written the torrent's own
@@ -146,21 +146,21 @@ pub link-no-other : (text : Lent (List ℕ)) (r : Linked) (hash name address : L
 link-no-other text r hash name address e k p x = only.link (before text) (before hash) (before name) (before address) k p (links-laws.read-answer e .0 x)
 
 -- of links::write
-pub write-link-no-other : (torrent : Lent (List ℕ)) (r : Put) (out : Lent (List ℕ)) → links.write-ensures torrent r out → (k p : ℕ) → putPaper r ≡ refused k p → In k (37 ∷ 1 ∷ 2 ∷ 3 ∷ 4 ∷ 5 ∷ 6 ∷ 7 ∷ 8 ∷ 10 ∷ 11 ∷ 12 ∷ 13 ∷ [])
+pub write-link-no-other : (torrent : Lent (List ℕ)) (r : Put) (out : Lent (List ℕ)) → links.write-ensures torrent r out → (k p : ℕ) → putPaper r ≡ refused k p → In k (37 ∷ 1 ∷ 2 ∷ 3 ∷ 5 ∷ 6 ∷ 7 ∷ 8 ∷ 10 ∷ 11 ∷ 12 ∷ 13 ∷ [])
 write-link-no-other torrent r out e k p x = only.link-writer (before torrent) (before out) k p (left-answer e .0 x)
 
 -- of links::size
-pub link-size-no-other : (torrent : Lent (List ℕ)) (r : link-size.Sized) → links.size-ensures torrent r → (k p : ℕ) → linkSizePaper r ≡ refused k p → In k (1 ∷ 2 ∷ 3 ∷ 4 ∷ 5 ∷ 6 ∷ 7 ∷ 8 ∷ 10 ∷ 11 ∷ 12 ∷ 13 ∷ [])
+pub link-size-no-other : (torrent : Lent (List ℕ)) (r : link-size.Sized) → links.size-ensures torrent r → (k p : ℕ) → linkSizePaper r ≡ refused k p → In k (1 ∷ 2 ∷ 3 ∷ 5 ∷ 6 ∷ 7 ∷ 8 ∷ 10 ∷ 11 ∷ 12 ∷ 13 ∷ [])
 link-size-no-other torrent r e k p x = only.link-size (before torrent) k p (sym e ∙ x)
 
 -- ---- a week's file: "8; 18 [..]; then, body by body, its own refusals [..]; 37 when writing"
 
 -- of week::read
-pub week-no-other : (file : Lent (List ℕ)) (r : Weekly) → week.read-ensures file r → (k p : ℕ) → weekPaper r ≡ refused k p → In k (18 ∷ 1 ∷ 2 ∷ 3 ∷ 4 ∷ 5 ∷ 6 ∷ 7 ∷ 8 ∷ 10 ∷ 11 ∷ 12 ∷ 13 ∷ [])
+pub week-no-other : (file : Lent (List ℕ)) (r : Weekly) → week.read-ensures file r → (k p : ℕ) → weekPaper r ≡ refused k p → In k (18 ∷ 1 ∷ 2 ∷ 3 ∷ 5 ∷ 6 ∷ 7 ∷ 8 ∷ 10 ∷ 11 ∷ 12 ∷ 13 ∷ [])
 week-no-other file r e k p x = only.week (before file) k p (sym e ∙ x)
 
 -- of week::package
-pub week-package-no-other : (file : Lent (List ℕ)) (index : ℕ) (r : Told) → week.package-ensures file index r → (k p : ℕ) → toldPaper r ≡ refused k p → In k (31 ∷ 18 ∷ 1 ∷ 2 ∷ 3 ∷ 4 ∷ 5 ∷ 6 ∷ 7 ∷ 8 ∷ 10 ∷ 11 ∷ 12 ∷ 13 ∷ [])
+pub week-package-no-other : (file : Lent (List ℕ)) (index : ℕ) (r : Told) → week.package-ensures file index r → (k p : ℕ) → toldPaper r ≡ refused k p → In k (31 ∷ 18 ∷ 1 ∷ 2 ∷ 3 ∷ 5 ∷ 6 ∷ 7 ∷ 8 ∷ 10 ∷ 11 ∷ 12 ∷ 13 ∷ [])
 week-package-no-other file index r e k p x = only.week-package (before file) index k p (sym e ∙ x)
 
 -- of week::table
@@ -168,11 +168,11 @@ pub week-table-no-other : (file : Lent (List ℕ)) (r : Counted) → week.table-
 week-table-no-other file r e k p x = only.week-table (before file) k p (sym e ∙ x)
 
 -- of week::package_at
-pub package-at-no-other : (file : Lent (List ℕ)) (index : ℕ) (r : Told) → week.package-at-ensures file index r → (k p : ℕ) → toldPaper r ≡ refused k p → In k (31 ∷ 18 ∷ 1 ∷ 2 ∷ 3 ∷ 4 ∷ 5 ∷ 6 ∷ 7 ∷ 8 ∷ 10 ∷ 11 ∷ 12 ∷ 13 ∷ [])
+pub package-at-no-other : (file : Lent (List ℕ)) (index : ℕ) (r : Told) → week.package-at-ensures file index r → (k p : ℕ) → toldPaper r ≡ refused k p → In k (31 ∷ 18 ∷ 1 ∷ 2 ∷ 3 ∷ 5 ∷ 6 ∷ 7 ∷ 8 ∷ 10 ∷ 11 ∷ 12 ∷ 13 ∷ [])
 package-at-no-other file index r e k p x = only.week-entry (before file) index k p (sym e ∙ x)
 
 -- of week::write
-pub week-writer-no-other : (bodies lengths : Lent (List ℕ)) (r : Put) (out : Lent (List ℕ)) → week.write-ensures bodies lengths r out → (k p : ℕ) → putPaper r ≡ refused k p → In k (37 ∷ 18 ∷ 1 ∷ 2 ∷ 3 ∷ 4 ∷ 5 ∷ 6 ∷ 7 ∷ 8 ∷ 10 ∷ 11 ∷ 12 ∷ 13 ∷ [])
+pub week-writer-no-other : (bodies lengths : Lent (List ℕ)) (r : Put) (out : Lent (List ℕ)) → week.write-ensures bodies lengths r out → (k p : ℕ) → putPaper r ≡ refused k p → In k (37 ∷ 18 ∷ 1 ∷ 2 ∷ 3 ∷ 5 ∷ 6 ∷ 7 ∷ 8 ∷ 10 ∷ 11 ∷ 12 ∷ 13 ∷ [])
 week-writer-no-other bodies lengths r out e k p x = only.week-writer (before bodies) (before lengths) (before out) k p (left-answer e .0 x)
 
 -- ---- digests: "piece to hash over 16,777,216"

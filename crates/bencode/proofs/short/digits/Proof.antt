@@ -4,31 +4,21 @@ use Prim.Native.Nat.{_-_}
 use native.Mathlib.Omega.{arith}
 use borrow.Author.Needs.{needs}
 use lib.ListN.{length}
-use Rattle.bencode_scalar.proofs.Decimal.{Reading, reading-start, reading-more}
-use Rattle.bencode.proofs.Leaves.{ended-digits}
+use Rattle.bencode.proofs.Leaves.{Passing, passing-more, ended-digits}
 use Rattle.bencode.proofs.short.digits.Statement.{statement}
 use Rattle.bencode.proofs.short.digits.Tie as tie
 
 abbrev Inv-loop : tie.InvT-loop
-Inv-loop text at acc top i₀ value₀ i value = Reading text at acc i value
+Inv-loop text at i₀ i = Passing text at i
 
 abbrev μ-loop : tie.MeasureT-loop
-μ-loop text at acc top i₀ value₀ i value = length text - i
-
-loop-holds : tie.Need-loop-holds Inv-loop μ-loop
-loop-holds c = reading-start _ _ _ (c .before .pre .0) (c .before .pre .1)
-
-units-requires : tie.Need-units-requires Inv-loop μ-loop
-units-requires c κs = sym (c .before .before .digit .ensures) ∙ c .before .if1 .taken
-
-add-value : tie.Need-add-value Inv-loop μ-loop
-add-value c = omega (arith, c .units .ensures .0, c .units .ensures .1)
+μ-loop text at i₀ i = length text - i
 
 loop-again : tie.Need-loop-again Inv-loop μ-loop
-loop-again c = reading-more _ _ _ (c .before .before .before .before .before .before .loop .inv) (omega arith) (sym (c .before .before .before .digit .ensures) ∙ c .before .before .if1 .taken) (λ n e. omega (arith, c .units .ensures .0, c .units .ensures .1))
+loop-again c = passing-more _ _ _ (c .before .before .before .before .loop .inv) (omega arith) (sym (c .before .digit .ensures) ∙ c .if1 .taken)
 
-returns-2 : tie.Need-returns-2 Inv-loop μ-loop
-returns-2 c = λ z k. ended-digits _ _ _ _ _ _ _ (c .before .before .before .before .before .loop .inv) (omega arith) (sym (c .before .before .digit .ensures) ∙ c .before .if1 .left) k (c .closing .ensures z)
+returns : tie.Need-returns Inv-loop μ-loop
+returns c = λ z. ended-digits _ _ _ _ (c .before .before .before .before .before .loop .inv) (omega arith) (sym (c .before .before .digit .ensures) ∙ c .before .if1 .left) (c .closing .ensures z)
 
 pub digits-spec : {M : Type 1} → statement M
 digits-spec =
@@ -36,16 +26,12 @@ digits-spec =
     (tie.spec
     Inv-loop
     μ-loop
-    loop-holds
+    (λ c. (c .before .pre, refl))
     (λ c. omega arith)
     (λ c κs. search needs)
-    (λ c z k. absurd (z refl))
-    (λ c. omega arith)
-    units-requires
-    add-value
     (λ c. omega arith)
     (λ c. omega arith)
     loop-again
     (λ c κs. omega arith)
-    returns-2
-    (λ c z k. absurd (z refl)))
+    returns
+    (λ c z. absurd (z refl)))

@@ -7,16 +7,13 @@ use Rattle.bencode.proofs.short.integer.Statement.{statement}
 use Rattle.bencode.proofs.short.integer.Tie as tie
 
 returns-2 : tie.Need-returns-2
-returns-2 c = λ n z. below-past (c .before .before .before .before .before .args .text .now) (c .before .before .before .before .before .args .at) n _ (omega arith) (c .before .before .before .before .before .pre .1) (c .before .if2 .taken) (c .negative .ensures n (c .before .before .before .before .before .args .at) z)
+returns-2 c = λ n z. below-past (c .before .before .before .before .before .args .text .now) (c .before .before .before .before .before .args .at) n _ (omega arith) (c .before .before .before .before .before .pre .1) (c .before .if2 .taken) (c .negative .ensures n z)
 
 returns-3 : tie.Need-returns-3
 returns-3 c = λ n z. zero-past (c .before .before .before .before .before .before .args .text .now) (c .before .before .before .before .before .before .args .at) n _ (omega arith) (c .before .before .before .before .before .before .pre .1) (c .before .if3 .taken) (c .closing .ensures z)
 
-units-requires : tie.Need-units-requires
-units-requires c κs = sym (c .before .digit .ensures) ∙ c .if4 .taken
-
 returns-4 : tie.Need-returns-4
-returns-4 c = λ n z. plus-past (c .before .before .before .before .before .before .before .before .before .args .text .now) (c .before .before .before .before .before .before .before .before .before .args .at) n _ (omega arith) (c .before .before .before .before .before .before .before .before .before .pre .1) (c .before .before .before .before .if3 .left) (sym (c .before .before .before .digit .ensures) ∙ c .before .before .if4 .taken) _ (c .before .units .ensures .0) (c .digits .ensures z (omega arith))
+returns-4 c = λ n z. plus-past (c .before .before .before .before .before .before .before .before .args .text .now) (c .before .before .before .before .before .before .before .before .args .at) n _ (omega arith) (c .before .before .before .before .before .before .before .before .pre .1) (c .before .before .before .if3 .left) (sym (c .before .before .digit .ensures) ∙ c .before .if4 .taken) (c .digits .ensures z)
 
 pub integer-spec : {M : Type 1} → statement M
 integer-spec =
@@ -34,7 +31,6 @@ integer-spec =
     returns-3
     (λ c κs. search needs)
     (λ c. search needs)
-    units-requires
-    (λ c κs. (omega arith, c .units .ensures .1))
+    (λ c κs. omega arith)
     returns-4
     (λ c n z. absurd (z refl)))
