@@ -1,5 +1,5 @@
 // Times the readers beside libtorrent's on one reply, one torrent, one sheet, two links and a week's file, a link and a week written beside its own, and wardrail_check
-// by the byte on the texts that cost it most. bench/run builds and runs it.
+// by the byte on the texts that cost it most, wardrail_torrent on one. bench/run builds and runs it.
 #include "../host/wardrail.h"
 
 #include <libtorrent/add_torrent_params.hpp>
@@ -489,16 +489,30 @@ string nested(const string &open, const string &inmost, int levels) {
     return s + inmost + bytes(levels - 1, 'e');
 }
 
-// Texts of one kind, by their size, with the number that they are answered.
+// A torrent with one integer under a key that nobody knows.
+string signed_torrent(size_t size) {
+    const string before = "d8:announce15:http://yard/ann4:infod6:lengthi16384e4:name9:route.bin12:piece lengthi16384e6:pieces" + written(bytes(20, 'A')) + "9:signature";
+    return before + integer(bytes(size - before.size() - 4, '9')) + "ee";
+}
+
+Answer read_torrent(const string &text) {
+    struct wardrail_torrent t;
+    return {wardrail_number(wardrail_torrent(start_of(text), text.size(), &t)), 0};
+}
+
+// Texts of one kind, by their size, with the number that they are answered, by the check if nothing else is said.
 struct Kind {
     const char *name;
     uint64_t number;
     string (*of)(size_t size);
+    Answer (*read)(const string &text) = check;
 };
 
 const Kind kinds[] = {
     {"digits of a string's length", 1, [](size_t n) { return bytes(n, '9'); }},
-    {"digits of an integer", 4, [](size_t n) { return integer(bytes(n - 2, '9')); }},
+    {"digits of an integer", 0, [](size_t n) { return integer(bytes(n - 2, '9')); }},
+    {"digits of an integer in a list", 0, [](size_t n) { return "l" + integer(bytes(n - 4, '9')) + "e"; }},
+    {"the same skipped in a torrent", 0, signed_torrent, read_torrent},
     {"two keys, the last byte greater", 0, [](size_t n) { return twins(n, 'a', 'b'); }},
     {"two keys, the last byte equal", 3, [](size_t n) { return twins(n, 'a', 'a'); }},
     {"keys with a prefix of 118 bytes", 0, [](size_t n) { return keyed(n, 122); }},
@@ -514,12 +528,12 @@ const Kind kinds[] = {
     {"one string", 0, [](size_t n) { return written(bytes(n - 8)); }},
 };
 
-// Nanoseconds for a check of each text: the least of many runs, in turn.
-std::vector<double> costs(const std::vector<string> &texts) {
+// Nanoseconds to read each text: the least of many runs, in turn.
+std::vector<double> costs(const std::vector<string> &texts, Answer (*read)(const string &text)) {
     std::vector<std::vector<double>> runs(texts.size());
     for (int k = 0; k < 301; k++) {
         for (size_t t = 0; t < texts.size(); t++) {
-            const auto call = [&] { check(texts[t]); };
+            const auto call = [&] { read(texts[t]); };
             runs[t].push_back(timed(k == 0 ? 1 : std::max(1, int(1e5 / runs[t][0])), call));
         }
     }
@@ -537,13 +551,13 @@ void by_the_byte() {
         const bool reached = most_bytes - large.size() < 200;
         const string small = kind.of((reached ? most_bytes : large.size()) / 16);
         const string cut = large.substr(0, large.size() - 1);
-        expect(check(large).number == kind.number && check(small).number == kind.number, string("another answer: ") + kind.name);
+        expect(kind.read(large).number == kind.number && kind.read(small).number == kind.number, string("another answer: ") + kind.name);
         const string answer = kind.number == 0 ? string("taken") + (reached ? "" : " *") : "refused " + to_string(kind.number);
-        const std::vector<double> ns = costs({large, small, cut});
+        const std::vector<double> ns = costs({large, small, cut}, kind.read);
         const double all = ns[0], x = all / large.size(), y = ns[1] / small.size();
         std::printf("%-32s %-12s %8zu %9.2f %8.4f %8zu %8.4f %6.2f", kind.name, answer.c_str(), large.size(), all / 1e3, x, small.size(), y, std::max(x, y) / std::min(x, y));
         if (kind.number == 0) {
-            expect(check(cut).number == 1, string("not refused without its last byte: ") + kind.name);
+            expect(kind.read(cut).number == 1, string("not refused without its last byte: ") + kind.name);
             std::printf(" %8.4f", ns[2] / cut.size());
         }
         std::printf("\n");

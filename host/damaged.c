@@ -462,6 +462,7 @@ static void any_bytes(void) {
 /* ---- looks at a place: the numbers that the header lists, 2 at an e, where no value stands, and 8 before all */
 
 enum { LOOKS = 5 };
+#define FORTY "1234567890123456789012345678901234567890" /* digits, of a number outside 64 bits */
 
 /* a byte more than a text may have */
 static uint8_t more[1048577];
@@ -480,8 +481,10 @@ static void look_at(const uint8_t *text, size_t count, size_t at, uint64_t said[
 }
 
 static void looks(void) {
-    static const uint8_t text[] = "ld2:ip1:a7:peer id20:AAAAAAAAAAAAAAAAAAAA4:porti1eed6:lengthi1e4:pathl1:a2:..eee";
-    static const unsigned listed[LOOKS] = {1 << 1 | 1 << 2, 1 << 1 | 1 << 2 | 1 << 10 | 1 << 13, 0x7e | 1 << 10 | 1 << 11 | 1 << 13, 0x7e | 1 << 10 | 1 << 11 | 1 << 15, 1 << 1};
+    static const uint8_t text[] = "ld2:ip1:a7:peer id20:AAAAAAAAAAAAAAAAAAAA4:porti1eed6:lengthi1e4:pathl1:a2:..ee"
+                                  "d2:ip1:a7:peer id20:AAAAAAAAAAAAAAAAAAAA4:porti" FORTY "eed6:lengthi-" FORTY "e4:pathl1:ai" FORTY "eeee";
+    enum { CUT = 1 << 1, TOKEN = CUT | 1 << 2, ENTRY_OF_MANY = TOKEN | 1 << 3 | 1 << 5 | 1 << 6 | 1 << 10 | 1 << 11 };
+    static const unsigned listed[LOOKS] = {TOKEN, TOKEN | 1 << 10 | 1 << 13, ENTRY_OF_MANY | 1 << 13, ENTRY_OF_MANY | 1 << 15, CUT};
     uint64_t said[LOOKS];
     for (size_t at = 0; at <= sizeof text; at++) {
         look_at(text, sizeof text - 1, at, said);

@@ -54,13 +54,13 @@ enum wardrail_refusal {
     WARDRAIL_CUT = 1,       /* the text ends where a byte is needed */
     WARDRAIL_BYTE = 2,      /* a byte that cannot stand there */
     WARDRAIL_ORDER = 3,     /* a key not greater than the one before */
-    WARDRAIL_INTEGER = 4,   /* an integer outside 64 bits */
+    WARDRAIL_INTEGER = 4,   /* never given since change request 8; was: an integer outside 64 bits */
     WARDRAIL_DEEP = 5,      /* a list or dictionary at level 33 */
     WARDRAIL_MANY = 6,      /* value number 16,385 begins */
     WARDRAIL_AFTER = 7,     /* bytes after the value */
     WARDRAIL_LONG = 8,      /* a text over 1,048,576 bytes, a piece over 16,777,216 */
     WARDRAIL_KIND = 10,     /* a key missing, a value of the wrong kind */
-    WARDRAIL_RANGE = 11,    /* a number out of range */
+    WARDRAIL_RANGE = 11,    /* a number out of range, as one outside 64 bits is */
     WARDRAIL_PIECES = 12,   /* wrong length of pieces */
     WARDRAIL_NAME = 13,     /* a bad name or path */
     WARDRAIL_PEER = 15,     /* bad length of a peer entry, or of a key of a sheet */
@@ -84,7 +84,7 @@ enum wardrail_refusal {
 
 /* ---- Bencode */
 
-/* Whether a text is one bencoded value within the limits: 1 to 8. On 0 `detail` is its count of values. */
+/* Whether a text is one bencoded value within the limits: 1 to 3, 5 to 8. On 0 `detail` is its count of values. */
 uint64_t wardrail_check(const uint8_t *text, size_t text_count, uint64_t *detail);
 
 /* What stands at a place of a text. */
@@ -120,7 +120,7 @@ struct wardrail_torrent {
 };
 WARDRAIL_ROW(wardrail_torrent, 14, total);
 
-/* Reads a torrent: 1 to 8, 10 to 13. */
+/* Reads a torrent: 1 to 3, 5 to 8, 10 to 13. */
 uint64_t wardrail_torrent(const uint8_t *text, size_t text_count, struct wardrail_torrent *torrent);
 
 /* Writes the info hash, SHA-1 of the bytes of info. Refuses as wardrail_torrent does. */
@@ -145,7 +145,7 @@ struct wardrail_file_at {
 WARDRAIL_ROW(wardrail_file_at, 3, next_at);
 
 /* The file of many at an offset, to walk all files in one pass: first content_at of wardrail_torrent and 1, then next_at of
- * the answer before, as many times as there are files. Any text and offset is answered: 1 to 6, 8, 10, 11, 13. */
+ * the answer before, as many times as there are files. Any text and offset is answered: 1 to 3, 5, 6, 8, 10, 11, 13. */
 uint64_t wardrail_file_at(const uint8_t *text, size_t text_count, size_t at, struct wardrail_file_at *file);
 
 struct wardrail_element_at {
@@ -193,7 +193,7 @@ struct wardrail_reply {
 };
 WARDRAIL_ROW(wardrail_reply, 4, peers);
 
-/* Reads a reply: 1 to 8, 10, 11, 15. */
+/* Reads a reply: 1 to 3, 5 to 8, 10, 11, 15. */
 uint64_t wardrail_reply(const uint8_t *text, size_t text_count, struct wardrail_reply *reply);
 
 struct wardrail_named {
@@ -223,7 +223,7 @@ struct wardrail_listed_at {
 WARDRAIL_ROW(wardrail_listed_at, 6, next_at);
 
 /* The entry of a list at an offset: first first_at of wardrail_reply, then next_at of the answer before, as many times as there
- * are entries. Any text and offset is answered: 1 to 6, 8, 10, 11, 15. */
+ * are entries. Any text and offset is answered: 1 to 3, 5, 6, 8, 10, 11, 15. */
 uint64_t wardrail_listed_at(const uint8_t *text, size_t text_count, size_t at, struct wardrail_listed_at *peer);
 
 struct wardrail_packed_at {
@@ -247,7 +247,7 @@ struct wardrail_address {
 WARDRAIL_ROW(wardrail_address, 3, part);
 
 /* The address for a torrent: what the sheet has under the info hash, or else the torrent's announce. First the torrent's refusals,
- * 1 to 8, 10 to 13, then the sheet's, 1 to 8, 10, 15: all of the sheet is checked, wherever the address stands. */
+ * 1 to 3, 5 to 8, 10 to 13, then the sheet's, 1 to 3, 5 to 8, 10, 15: all of the sheet is checked, wherever the address stands. */
 uint64_t wardrail_address(const uint8_t *torrent, size_t torrent_count, const uint8_t *sheet, size_t sheet_count,
                           struct wardrail_address *address);
 
@@ -283,8 +283,8 @@ struct wardrail_week {
 };
 WARDRAIL_ROW(wardrail_week, 3, total);
 
-/* Reads a week's file: 8, 18 for its table, then body by body the torrent's refusals, 1 to 7 and 10 to 13, each at its place in the
- * file, and 18 at a hash that is not the body's. */
+/* Reads a week's file: 8, 18 for its table, then body by body the torrent's refusals, 1 to 3, 5 to 7 and 10 to 13, each at its place
+ * in the file, and 18 at a hash that is not the body's. */
 uint64_t wardrail_week(const uint8_t *file, size_t file_count, struct wardrail_week *week);
 
 struct wardrail_week_package {

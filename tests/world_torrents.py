@@ -1,4 +1,4 @@
-"""Torrents: made by stock programs and read by us, made by us and read by stock programs; and our tracker replies."""
+"""Torrents: made by stock programs and read by us, made by us and read by stock programs, and with integers of any length; and our tracker replies."""
 
 import hashlib
 import os
@@ -6,9 +6,10 @@ import random
 import re
 import struct
 import subprocess
+import sys
 import time
 import urllib.parse
-from dataclasses import dataclass
+from dataclasses import dataclass, replace
 
 import libtorrent
 
@@ -363,3 +364,64 @@ def replies(replay, folder):
         for i, (address, port) in enumerate(peers[:50]):
             same("a peer", replay.ask("peer", text, i), f"none {address.hex()} {port}")
     return "5 replies of ours decoded and encoded alike by libtorrent"
+
+
+# ---- integers of any length
+
+FORTY = "1234567890123456789012345678901234567890"
+# whether the key stands in info, and its integer; nineteen of these digits are within 64 bits, the next is the first that is not
+SIGNATURES = {
+    "nineteen digits in info": (True, FORTY[:19]),
+    "2^63 in info": (True, str(2**63)),
+    "forty digits in info": (True, FORTY),
+    "forty digits beside it": (False, FORTY),
+}
+# libtorrent by a process of its own, which may end as it likes: the integer as it is decoded, and what is read of the torrent
+DECODED = "import sys, libtorrent; top = libtorrent.bdecode(open(sys.argv[1], 'rb').read()); print(top[b'info'].get(b'signature', top.get(b'signature')))"
+READ = "import sys; sys.path.insert(0, sys.argv[2]); import world_torrents; print(world_torrents.read_by_libtorrent(open(sys.argv[1], 'rb').read()))"
+
+
+def integers(replay, folder):
+    """Torrents with an integer under a key that nobody knows: we read the same as without it, but for the info hash, which is hashlib's. What others make
+    of them is told and not held, since they differ."""
+    name, data = b"route.bin", random.Random(3).randbytes(40_000)
+    plain = written(replay, ANNOUNCE, name, 1 << 14, data)
+    listing, told = read_by_us(replay, plain), []
+    for what, (inside, digits) in SIGNATURES.items():
+        text, info = signed(plain, inside, digits)
+        found = read_by_us(replay, text)
+        same(what, found, replace(listing, info_hash=hashlib.sha1(info).hexdigest()))
+        path = folder / f"{what}.torrent"
+        path.write_bytes(text)
+        told.append(f"{what}: {', '.join(f'{program} {word}' for program, word in said_of(path, digits, found).items())}")
+    return f"{len(told)} torrents read by us as without their integers; {'; '.join(told)}"
+
+
+def signed(plain, inside, digits):
+    """The torrent with a key more, the last of info or the last beside it, and the bytes of its info."""
+    entry = b"9:signaturei%se" % digits.encode()
+    start = plain.index(b"4:info") + len(b"4:info")
+    info = plain[start:-2] + entry + b"e" if inside else plain[start:-1]
+    return plain[:start] + info + (b"" if inside else entry) + b"e", info
+
+
+def said_of(path, digits, found):
+    """What each stock program makes of a torrent, in a word."""
+    return {
+        "bdecode": word_of(lambda: output([sys.executable, "-B", "-c", DECODED, path]).decode().strip(), digits),
+        "torrent_info": word_of(lambda: output([sys.executable, "-B", "-c", READ, path, os.path.dirname(__file__)]).decode().strip(), str(found)),
+        "aria2": word_of(lambda: read_by_aria2(path), found),
+        "Transmission": word_of(lambda: read_by_transmission(path), (found.name, [found.name], found.pieces, found.info_hash)),
+    }
+
+
+def word_of(read, wanted):
+    """Whether a program takes a text, or tells another thing of it, or nothing; it may end in any way."""
+    try:
+        return "takes" if read() == wanted else "changes"
+    except subprocess.TimeoutExpired:
+        return "hangs"
+    except subprocess.CalledProcessError as fault:
+        return "crashes" if fault.returncode < 0 else "refuses"
+    except (AttributeError, IndexError, KeyError, ValueError):  # what it printed has not the form
+        return "refuses"
