@@ -54,13 +54,13 @@ enum wardrail_refusal {
     WARDRAIL_CUT = 1,       /* the text ends where a byte is needed */
     WARDRAIL_BYTE = 2,      /* a byte that cannot stand there */
     WARDRAIL_ORDER = 3,     /* a key not greater than the one before */
-    WARDRAIL_INTEGER = 4,   /* never given since change request 8; was: an integer outside 64 bits */
+    WARDRAIL_INTEGER = 4,   /* never given: an integer may have any length */
     WARDRAIL_DEEP = 5,      /* a list or dictionary at level 33 */
     WARDRAIL_MANY = 6,      /* value number 16,385 begins */
     WARDRAIL_AFTER = 7,     /* bytes after the value */
     WARDRAIL_LONG = 8,      /* a text over 1,048,576 bytes, a piece over 16,777,216 */
     WARDRAIL_KIND = 10,     /* a key missing, a value of the wrong kind */
-    WARDRAIL_RANGE = 11,    /* a number out of range, as one outside 64 bits is */
+    WARDRAIL_RANGE = 11,    /* a number out of range, as every integer outside 64 bits is */
     WARDRAIL_PIECES = 12,   /* wrong length of pieces */
     WARDRAIL_NAME = 13,     /* a bad name or path */
     WARDRAIL_PEER = 15,     /* bad length of a peer entry, or of a key of a sheet */

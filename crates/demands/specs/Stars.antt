@@ -148,6 +148,9 @@ stars =
     -- The listing program
     ∷ prints "d8:announce15:http://yard/ann4:infod5:filesld6:lengthi20000e4:pathl3:rte1:aeed6:lengthi0e4:pathl1:beed6:lengthi12769e4:pathl1:ceee4:name3:pkg12:piece lengthi16384e6:pieces60:AAAAAAAAAAAAAAAAAAAAAAAAAAAAAAAAAAAAAAAAAAAAAAAAAAAAAAAAAAAAee"
     "pkg 3 files 32769 bytes 3 pieces of 16384\n0 20000 rte/a\n20000 0 b\n20000 12769 c\n"
+    -- Ticket 8: a torrent with a signature of forty digits
+    ∷ prints "d8:announce15:http://yard/ann4:infod6:lengthi5e4:name3:pkg12:piece lengthi16384e6:pieces20:AAAAAAAAAAAAAAAAAAAA9:signaturei1234567890123456789012345678901234567890eee"
+    "pkg 1 files 5 bytes 1 pieces of 16384\n0 5 pkg\n"
     ∷ []
 
 -- ---- what the definitions give
