@@ -11,7 +11,7 @@ use borrow.Author.Tests.{ne-eqb, eqb-true}
 use Rattle.bencode_scalar.specs.Reading.{isDigit, numVal, numLen, digitsVal, digitsLen, stringAt, closedOf, minusAt, integerAt}
 use Rattle.bencode_scalar.specs.Answers.{textOf}
 use Rattle.bencode_scalar.specs.declared.Text.the-variants.{Whole}
-use Rattle.bencode_scalar.proofs.Decimal.{cap, Reading, digit-range, val-more, val-stop, len-more, len-stop, reading-stop}
+use Rattle.bencode_scalar.proofs.Decimal.{cap, Passing, passing-stop, Reading, digit-range, val-more, val-stop, len-more, len-stop, reading-stop}
 use Rattle.bencode_scalar.proofs.Forms.{string-whole, closed-whole, minus-here, int-plus, int-minus}
 use Rattle.bencode.specs.Answers.{stepOf, Held, Ended}
 use Rattle.bencode.specs.declared.Step.the-variants.{Past}
@@ -83,18 +83,9 @@ module _ (s : List ℕ) (p n r : ℕ) (l : p < length s) (m : length s < cap) (d
       let o = ne-eqb (getD s p 0) 48 z in
       held-by (p + 1 + digitsLen (drop (p + 1) s)) (digitsVal a (drop (p + 1) s)) (rw o) (rw (o, y)) e
 
--- a run of digits from `at` on, of which those before i are passed
-abbrev pub Passing : List ℕ → ℕ → ℕ → Type 0
-Passing s at i = (i ≤ length s) × (at + digitsLen (drop at s) ≡ i + digitsLen (drop i s))
-
-pub passing-more : (s : List ℕ) (at i : ℕ) → Passing s at i → i < length s → isDigit (getD s i 0) ≡ true → Passing s at (i + 1)
-passing-more s at i w l d = (omega arith, omega (arith, w .1, len-more s i l d))
-
 -- the digits of an integer, by what `closing` answers
 pub ended-digits : (s : List ℕ) (at i r : ℕ) → Passing s at i → i < length s → isDigit (getD s i 0) ≡ false → Ended s i r → Ended s (at + digitsLen (drop at s)) r
-ended-digits s at i r w l x e =
-    let u : at + digitsLen (drop at s) ≡ i = omega (arith, w .1, len-stop s i l x) in
-    rw u e
+ended-digits s at i r w l x e = rw (← (passing-stop s at w l x)) e
 
 -- an integer whose i stands at p
 module _ (s : List ℕ) (p n r : ℕ) (h : p + 2 < length s) (x : getD s p 0 ≡ 105) where

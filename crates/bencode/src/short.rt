@@ -25,7 +25,7 @@ pub fn plain(text: &[u8], at: usize) -> bool
     b < 58
 }
 
-// The place past the string or integer at `at`, after `count` values, where it is whole; 0 where `value` is to tell.
+// The place past the string or integer at `at`, after `count` values, where it is whole and no integer of more than 19 digits; 0 where `value` is to tell.
 pub fn leaf(text: &[u8], at: usize, count: usize) -> usize
     requires { ⌜ at < length (now text) ⌝ }
     ensures { λ r. ⌜ ((r ≡ 0 → ⊥) → (count < 16384) × ((levels : ℕ) → Past (record { at = r; count = count + 1 }) ≡ stepOf (valueFrom levels (length (now (text .entry))) (drop at (now (text .entry))) at count))) ⌝ }
@@ -159,7 +159,7 @@ fn held(text: &[u8], at: usize, size: usize) -> usize
     0
 }
 
-// The place past the integer whose i stands at `at`, where it is whole; 0 where not.
+// The place past the integer whose i stands at `at`, where it is whole and has at most 19 digits; 0 where not.
 fn integer(text: &[u8], at: usize) -> usize
     requires { ⌜ (at < length (now text)) × (getD (now text) at 0 ≡ 105) ⌝ }
     ensures { λ r. ⌜ ((n : ℕ) → (r ≡ 0 → ⊥) → Past (record { at = r; count = n }) ≡ stepOf (integerAt (length (now (text .entry))) (drop at (now (text .entry))) at n)) ⌝ }
@@ -180,7 +180,7 @@ fn integer(text: &[u8], at: usize) -> usize
     0
 }
 
-// The place past the integer whose minus stands before `at`, where it is whole; 0 where not.
+// The place past the integer whose minus stands before `at`, where it is whole and has at most 19 digits; 0 where not.
 fn negative(text: &[u8], at: usize) -> usize
     requires { ⌜ at < length (now text) ⌝ }
     ensures { λ r. ⌜ ((n : ℕ) → (r ≡ 0 → ⊥) → Past (record { at = r; count = n }) ≡ stepOf (minusAt (length (now (text .entry))) (drop at (now (text .entry))) at n)) ⌝ }
@@ -195,7 +195,7 @@ fn negative(text: &[u8], at: usize) -> usize
     0
 }
 
-// The place past the digits from `at` on and their e, however many they are; 0 where there is no e.
+// The place past the digits from `at` on and their e; 0 where there is none, or where they are more than eighteen.
 fn digits(text: &[u8], at: usize) -> usize
     requires { ⌜ at ≤ length (now text) ⌝ }
     ensures { λ r. ⌜ ((r ≡ 0 → ⊥) → Ended (now (text .entry)) (at + digitsLen (drop at (now (text .entry)))) r) ⌝ }
@@ -203,6 +203,10 @@ fn digits(text: &[u8], at: usize) -> usize
     let mut i = at;
     while i < text.len() {
         if bencode_scalar::digit(text[i]) {
+            // past these `value` goes in one go, and a run that has no end is not read twice
+            if 18 <= i - at {
+                return 0;
+            }
             i += 1;
         } else {
             return closing(text, i);

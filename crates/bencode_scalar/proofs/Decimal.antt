@@ -1,7 +1,7 @@
 -- The laws of the digits at a place of a text. Assumes nothing.
 use mathlib.Core.Path.{_≡_, refl, _∙_}
 use mathlib.Core.Bool.{Bool, true, false, cond}
-use mathlib.Core.List.{List}
+use mathlib.Core.List.{List, [], _∷_}
 use Prim.Native.Nat.{ℕ, suc, _+_, _*_, _-_, _<_, _≤_, min}
 use native.Mathlib.Omega.{arith}
 use native.Mathlib.Numerals.{add-one}
@@ -9,6 +9,7 @@ use lib.Dec.{ltb}
 use lib.ListN.{length, getD, drop, drop-of-length-le}
 use lib.Seq.{drop-cons}
 use borrow.Author.Tests.{lt-ltb, le-ltb, ltb-true, ltb-false}
+use Rattle.refusal.proofs.Cases.{by-test}
 use Rattle.bencode_scalar.specs.Reading.{isDigit, digitsVal, digitsLen}
 
 abbrev pub cap : ℕ
@@ -49,6 +50,31 @@ module _ (s : List ℕ) (i : ℕ) where
   unfolding digitsLen
   len-end h = rw (drop-of-length-le s h)
 
+-- a run of digits from `at` on, of which those before i are passed
+pub record Passing (s : List ℕ) (at i : ℕ) : Type 0 where
+  pub begun : at ≤ i
+  pub within : i ≤ length s
+  pub place : at + digitsLen (drop at s) ≡ i + digitsLen (drop i s)
+
+module _ (s : List ℕ) (at : ℕ) where
+  pub passing-start : at ≤ length s → Passing s at at
+  passing-start h = record { begun = omega arith; within = h; place = refl }
+
+  pub passing-more : {i : ℕ} → Passing s at i → i < length s → isDigit (getD s i 0) ≡ true → Passing s at (i + 1)
+  passing-more {i} w h d = record { begun = omega (arith, w .begun); within = omega arith; place = omega (arith, w .place, len-more s i h d) }
+
+  pub passing-stop : {i : ℕ} → Passing s at i → i < length s → isDigit (getD s i 0) ≡ false → i ≡ at + digitsLen (drop at s)
+  passing-stop {i} w h d = omega (arith, w .place, len-stop s i h d)
+
+  pub passing-end : {i : ℕ} → Passing s at i → length s ≤ i → i ≡ at + digitsLen (drop at s)
+  passing-end {i} w h = omega (arith, w .place, len-end s i h)
+
+-- digits that follow make no number less
+digits-least : (n : ℕ) (l : List ℕ) → n ≤ digitsVal n l
+unfolding digitsVal
+digits-least n [] = omega arith
+digits-least n (b ∷ t) = by-test (λ (m : ℕ). n ≤ m) (isDigit b) (λ e. omega (arith, digits-least (n * 10 + (b - 48)) t)) (λ e. omega arith)
+
 pub record Reading (s : List ℕ) (at acc i value : ℕ) : Type 0 where
   pub within : i ≤ length s
   pub true-value : ℕ
@@ -60,12 +86,12 @@ module _ (s : List ℕ) (at acc : ℕ) where
   pub reading-start : at ≤ length s → acc < 10 → Reading s at acc at acc
   reading-start h k = record { within = h; true-value = acc; capped = omega arith; same = refl; place = refl }
 
-  pub reading-more : {i v w : ℕ} → Reading s at acc i v → i < length s → isDigit (getD s i 0) ≡ true
-      → ((n : ℕ) → v ≡ min n cap → w ≡ min (n * 10 + (getD s i 0 - 48)) cap) → Reading s at acc (i + 1) w
-  reading-more {i} {v} {w} r h d f = record {
+  pub reading-more : {i v w : ℕ} → Reading s at acc i v → i < length s → isDigit (getD s i 0) ≡ true → v < 1000000000000000000 → w ≡ v * 10 + (getD s i 0 - 48)
+      → Reading s at acc (i + 1) w
+  reading-more {i} {v} {w} r h d l e = record {
     within = omega arith;
     true-value = r .true-value * 10 + (getD s i 0 - 48);
-    capped = f (r .true-value) (r .capped);
+    capped = omega (arith, r .capped, digit-range (getD s i 0) d, e);
     same = r .same ∙ val-more s i (r .true-value) h d;
     place = omega (arith, r .place, len-more s i h d);
   }
@@ -73,6 +99,15 @@ module _ (s : List ℕ) (at acc : ℕ) where
   pub reading-stop : {i v : ℕ} → Reading s at acc i v → i < length s → isDigit (getD s i 0) ≡ false
       → (v ≡ min (digitsVal acc (drop at s)) cap) × (i ≡ at + digitsLen (drop at s))
   reading-stop {i} {v} r h d = (omega (arith, r .capped, r .same, val-stop s i (r .true-value) h d), omega (arith, r .place, len-stop s i h d))
+
+  -- what is read is enough, and the run goes on
+  pub reading-enough : {i v r : ℕ} → Reading s at acc i v → i < length s → isDigit (getD s i 0) ≡ true → 1000000000000000000 ≤ v → r ≡ i + digitsLen (drop i s)
+      → (cap ≡ min (digitsVal acc (drop at s)) cap) × (r ≡ at + digitsLen (drop at s))
+  reading-enough {i} {v} {r} w h d l e =
+      let n : ℕ = w .true-value * 10 + (getD s i 0 - 48) in (
+        omega (arith, w .capped, w .same, val-more s i (w .true-value) h d, digits-least n (drop (i + 1) s)),
+        omega (arith, w .place, e),
+      )
 
   pub reading-end : {i v : ℕ} → Reading s at acc i v → length s ≤ i
       → (v ≡ min (digitsVal acc (drop at s)) cap) × (i ≡ at + digitsLen (drop at s))

@@ -205,7 +205,7 @@ fn number_from(text: &[u8], b: u8, at: usize) -> Run
     }
 }
 
-// The run of digits from `at` on, whose first digits stand for `acc`.
+// The run of digits from `at` on, whose first digits stand for `acc`. Those past ten to the 19th are only passed.
 fn digits(text: &[u8], at: usize, acc: u64) -> Run
     requires { ⌜ (at ≤ length (now text)) × (acc < 10) ⌝ }
     ensures { λ r. ⌜ (r .value ≡ min (digitsVal acc (drop at (now (text .entry)))) 10000000000000000000) × (r .next ≡ at + digitsLen (drop at (now (text .entry)))) ⌝ }
@@ -215,6 +215,12 @@ fn digits(text: &[u8], at: usize, acc: u64) -> Run
     while i < text.len() {
         let b = text[i];
         if digit(b) {
+            if 1000000000000000000 <= value {
+                return Run {
+                    value: 10000000000000000000,
+                    next: run_end(text, i),
+                };
+            }
             value = push(value, b);
             i += 1;
         } else {
@@ -230,14 +236,26 @@ fn digits(text: &[u8], at: usize, acc: u64) -> Run
     }
 }
 
-// One digit more, up to ten to the 19th.
+// One digit more.
 fn push(acc: u64, b: u8) -> u64
-    requires { ⌜ (48 ≤ b) × (b < 58) ⌝ }
-    ensures { λ r. ⌜ ((n : ℕ) → acc ≡ min n 10000000000000000000 → r ≡ min (n * 10 + (b - 48)) 10000000000000000000) ⌝ }
+    requires { ⌜ (acc < 1000000000000000000) × (48 ≤ b) × (b < 58) ⌝ }
+    ensures { λ r. ⌜ r ≡ acc * 10 + (b - 48) ⌝ }
 {
-    if acc < 1000000000000000000 {
-        acc * 10 + (b as u64 - 48)
-    } else {
-        10000000000000000000
+    acc * 10 + (b as u64 - 48)
+}
+
+// Where the run of digits from `at` on ends.
+fn run_end(text: &[u8], at: usize) -> usize
+    requires { ⌜ at ≤ length (now text) ⌝ }
+    ensures { λ r. ⌜ r ≡ at + digitsLen (drop at (now (text .entry))) ⌝ }
+{
+    let mut i = at;
+    while i < text.len() {
+        if digit(text[i]) {
+            i += 1;
+        } else {
+            return i;
+        }
     }
+    i
 }

@@ -4,7 +4,8 @@ use Prim.Native.Nat.{_-_}
 use native.Mathlib.Omega.{arith}
 use borrow.Author.Needs.{needs}
 use lib.ListN.{length}
-use Rattle.bencode.proofs.Leaves.{Passing, passing-more, ended-digits}
+use Rattle.bencode_scalar.proofs.Decimal.{Passing, passing-start, passing-more}
+use Rattle.bencode.proofs.Leaves.{ended-digits}
 use Rattle.bencode.proofs.short.digits.Statement.{statement}
 use Rattle.bencode.proofs.short.digits.Tie as tie
 
@@ -15,10 +16,10 @@ abbrev μ-loop : tie.MeasureT-loop
 μ-loop text at i₀ i = length text - i
 
 loop-again : tie.Need-loop-again Inv-loop μ-loop
-loop-again c = passing-more _ _ _ (c .before .before .before .before .loop .inv) (omega arith) (sym (c .before .digit .ensures) ∙ c .if1 .taken)
+loop-again c = passing-more _ _ (c .before .before .before .before .before .loop .inv) (omega arith) (sym (c .before .before .digit .ensures) ∙ c .before .if1 .taken)
 
-returns : tie.Need-returns Inv-loop μ-loop
-returns c = λ z. ended-digits _ _ _ _ (c .before .before .before .before .before .loop .inv) (omega arith) (sym (c .before .before .digit .ensures) ∙ c .before .if1 .left) (c .closing .ensures z)
+returns-2 : tie.Need-returns-2 Inv-loop μ-loop
+returns-2 c = λ z. ended-digits _ _ _ _ (c .before .before .before .before .before .loop .inv) (omega arith) (sym (c .before .before .digit .ensures) ∙ c .before .if1 .left) (c .closing .ensures z)
 
 pub digits-spec : {M : Type 1} → statement M
 digits-spec =
@@ -26,12 +27,14 @@ digits-spec =
     (tie.spec
     Inv-loop
     μ-loop
-    (λ c. (c .before .pre, refl))
+    (λ c. passing-start _ _ (c .before .pre))
     (λ c. omega arith)
     (λ c κs. search needs)
+    (λ c. c .before .before .before .before .loop .inv .begun)
+    (λ c z. absurd (z refl))
     (λ c. omega arith)
     (λ c. omega arith)
     loop-again
     (λ c κs. omega arith)
-    returns
+    returns-2
     (λ c z. absurd (z refl)))

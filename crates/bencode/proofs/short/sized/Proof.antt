@@ -25,7 +25,7 @@ add-size : tie.Need-add-size Inv-loop μ-loop
 add-size c = omega (arith, c .units .ensures .0, c .units .ensures .1)
 
 loop-again : tie.Need-loop-again Inv-loop μ-loop
-loop-again c = reading-more _ _ _ (c .before .before .before .before .before .before .loop .inv) (omega arith) (sym (c .before .before .before .digit .ensures) ∙ c .before .before .if1 .taken) (λ n e. omega (arith, c .units .ensures .0, c .units .ensures .1))
+loop-again c = reading-more _ _ _ (c .before .before .before .before .before .before .loop .inv) (omega arith) (sym (c .before .before .before .digit .ensures) ∙ c .before .before .if1 .taken) (omega arith) (omega (arith, c .units .ensures .0))
 
 returns-2 : tie.Need-returns-2 Inv-loop μ-loop
 returns-2 c = λ z. held-digits _ _ _ _ _ _ (omega arith) (c .before .before .before .before .before .loop .inv) (omega arith) (sym (c .before .before .digit .ensures) ∙ c .before .if1 .left) (c .held .ensures z)
