@@ -75,30 +75,29 @@ unfolding digitsVal
 digits-least n [] = omega arith
 digits-least n (b ∷ t) = by-test (λ (m : ℕ). n ≤ m) (isDigit b) (λ e. omega (arith, digits-least (n * 10 + (b - 48)) t)) (λ e. omega arith)
 
+-- the same, added up as far as the cap
 pub record Reading (s : List ℕ) (at acc i value : ℕ) : Type 0 where
-  pub within : i ≤ length s
+  pub passed : Passing s at i
   pub true-value : ℕ
   pub capped : value ≡ min true-value cap
   pub same : digitsVal acc (drop at s) ≡ digitsVal true-value (drop i s)
-  pub place : at + digitsLen (drop at s) ≡ i + digitsLen (drop i s)
 
 module _ (s : List ℕ) (at acc : ℕ) where
   pub reading-start : at ≤ length s → acc < 10 → Reading s at acc at acc
-  reading-start h k = record { within = h; true-value = acc; capped = omega arith; same = refl; place = refl }
+  reading-start h k = record { passed = passing-start s at h; true-value = acc; capped = omega arith; same = refl }
 
   pub reading-more : {i v w : ℕ} → Reading s at acc i v → i < length s → isDigit (getD s i 0) ≡ true → v < 1000000000000000000 → w ≡ v * 10 + (getD s i 0 - 48)
       → Reading s at acc (i + 1) w
   reading-more {i} {v} {w} r h d l e = record {
-    within = omega arith;
+    passed = passing-more s at (r .passed) h d;
     true-value = r .true-value * 10 + (getD s i 0 - 48);
     capped = omega (arith, r .capped, digit-range (getD s i 0) d, e);
     same = r .same ∙ val-more s i (r .true-value) h d;
-    place = omega (arith, r .place, len-more s i h d);
   }
 
   pub reading-stop : {i v : ℕ} → Reading s at acc i v → i < length s → isDigit (getD s i 0) ≡ false
       → (v ≡ min (digitsVal acc (drop at s)) cap) × (i ≡ at + digitsLen (drop at s))
-  reading-stop {i} {v} r h d = (omega (arith, r .capped, r .same, val-stop s i (r .true-value) h d), omega (arith, r .place, len-stop s i h d))
+  reading-stop {i} {v} r h d = (omega (arith, r .capped, r .same, val-stop s i (r .true-value) h d), passing-stop s at (r .passed) h d)
 
   -- what is read is enough, and the run goes on
   pub reading-enough : {i v r : ℕ} → Reading s at acc i v → i < length s → isDigit (getD s i 0) ≡ true → 1000000000000000000 ≤ v → r ≡ i + digitsLen (drop i s)
@@ -106,9 +105,9 @@ module _ (s : List ℕ) (at acc : ℕ) where
   reading-enough {i} {v} {r} w h d l e =
       let n : ℕ = w .true-value * 10 + (getD s i 0 - 48) in (
         omega (arith, w .capped, w .same, val-more s i (w .true-value) h d, digits-least n (drop (i + 1) s)),
-        omega (arith, w .place, e),
+        omega (arith, w .passed .place, e),
       )
 
   pub reading-end : {i v : ℕ} → Reading s at acc i v → length s ≤ i
       → (v ≡ min (digitsVal acc (drop at s)) cap) × (i ≡ at + digitsLen (drop at s))
-  reading-end {i} {v} r h = (omega (arith, r .capped, r .same, val-end s i (r .true-value) h), omega (arith, r .place, len-end s i h))
+  reading-end {i} {v} r h = (omega (arith, r .capped, r .same, val-end s i (r .true-value) h), passing-end s at (r .passed) h)

@@ -32,10 +32,11 @@ use Rattle.bencode_walk.proofs.Telling as telling
 use Rattle.bencode_walk.proofs.Standing.{fine-stands}
 use Rattle.bencode_walk.specs.Has.{Has}
 use Rattle.bencode_walk.specs.Lookup.{under, lookup}
-use Rattle.bencode_fields.specs.Looks.{stringPaper, naturalPaper, insidePaper, ranged}
+use Rattle.bencode_fields.specs.Looks.{endingAt, stringPaper, naturalPaper, numberPaper, insidePaper, ranged}
 use Rattle.bencode_fields.specs.declared.Bytes as bytes
 use Rattle.bencode_fields.specs.declared.Inside.{Inside}
 use Rattle.bencode_fields.specs.declared.Natural.{Natural}
+use Rattle.bencode_fields.specs.declared.Number.{Number}
 use Rattle.bencode_fields.proofs.Standing as known
 use Rattle.bencode_writer.specs.Put.{Left as Putting, left, putOf, Ran, paper as putPaper}
 use Rattle.bencode_writer.specs.declared.Put.{Put}
@@ -209,6 +210,11 @@ module _ (text : Lent (List ℕ)) (at : ℕ) (r : Seen) (c : walk.look-ensures t
 -- of bencode_fields::natural_at: it is the number from 0 to `most`, or else 11 at its place, whatever integer it is
 pub known-number : (text : Lent (List ℕ)) (at most : ℕ) (r : Natural) → fields.natural-at-ensures text at most r → (d : ℕ) (z : ℤ) → most < 2 ^ 63 → Stands (before text) d at (int z) → naturalPaper r ≡ ranged most at z
 known-number text at most r c d z h t = c ∙ known.natural-is (before text) d at most h (int z) t
+
+-- of bencode_fields::number_at: the same, and the place past it
+pub known-past : (text : Lent (List ℕ)) (at most : ℕ) (r : Number) → fields.number-at-ensures text at most r → (d : ℕ) (z : ℤ) → most < 2 ^ 63 → Stands (before text) d at (int z)
+    → numberPaper r ≡ map (endingAt (at + length (encode (int z)))) (ranged most at z)
+known-past text at most r c d z h t = c ∙ known.number-is (before text) d at most h (int z) t
 
 -- of bencode_fields::string_at: 10 at its place
 pub known-string : (text : Lent (List ℕ)) (at : ℕ) (r : bytes.Bytes) → fields.string-at-ensures text at r → (d : ℕ) (z : ℤ) → Stands (before text) d at (int z) → stringPaper r ≡ refused 10 at

@@ -18,7 +18,7 @@ loop-holds : tie.Need-loop-holds Inv-loop μ-loop
 loop-holds c = reading-start _ _ _ (c .before .pre .0) (c .before .pre .1)
 
 returns : tie.Need-returns Inv-loop μ-loop
-returns c = reading-enough _ _ _ (c .before .before .before .before .before .before .loop .inv) (omega arith) (sym (c .before .before .before .digit .ensures) ∙ c .before .before .if1 .taken) (c .before .if2 .taken) (c .run-end .ensures)
+returns c = reading-enough _ _ _ (c .before .before .before .before .before .before .loop .inv) (omega arith) (sym (c .before .before .before .digit .ensures) ∙ c .before .before .if1 .taken) (omega arith) (c .run-end .ensures)
 
 push-requires : tie.Need-push-requires Inv-loop μ-loop
 push-requires c κs = let r = digit-range _ (sym (c .before .before .digit .ensures) ∙ c .before .if1 .taken) in (omega arith, r .0, r .1)
