@@ -439,7 +439,7 @@ def weeks_written():
         found.append(write_week([a], 1000, lengths))
     found += [write_week([], 1000, [0] * count) for count in (0, 1, 256, 257)]
     found += [write_week(packages, 1000) for packages in ([a, a], [b, a, b], [a, a._replace(body=b"x")], [a._replace(body=b""), a, a], [a, a, b._replace(body=b"x")])]
-    found += [write_week([b, week_texts.marked(body)[0]], 0) for _, body in week_texts.BAD_TORRENTS[::3]]
+    found += [write_week([b, week_texts.marked(body)[0]], 0) for _, body in week_texts.BAD_TORRENTS]
     for size in (1_048_576, 1_048_577):
         found += [write_week(week_texts.filled([a], size), room, brief=True) for room in (2_000_000, 0)]
     return found + [write_week(week_texts.numbered(256), 1_000_000, brief=True)]
