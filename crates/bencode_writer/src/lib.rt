@@ -1,6 +1,7 @@
 // Writers' parts: bytes, as they are and as hex digits, decimal numbers, strings and integers, put at a place of lent output;
 // and a byte's escape.
 // Where one does not fit, nothing is written; what stands before the place and past the part stays.
+#![tactic(auto)]
 ghost use Rattle.std.specs.Prelude.{◌≡◌, true, false, [], ◌∷◌, ◌++◌, ◌+◌, ◌/◌, ◌%◌, ◌<◌, ◌≤◌, nat_abs, length};
 ghost use Rattle.refusal.specs.Numbers.{room};
 ghost use Rattle.bencode_scalar.specs.Written.{decimal, written_string, written_int};

@@ -1,5 +1,6 @@
 // Answers a replay script (docs/REPLAY.md), the file stdin, for every call that needs no yard, a line each, held to the file stdout.
 // tests/scripts/case_table.py makes the script; the second program and the C host answer it too.
+#![tactic(auto)]
 use libc::STDIN_FILENO;
 
 mod addresses;

@@ -1,4 +1,5 @@
 // The program for a torrent's link: reads standard input, and prints the line that `links::line` decides.
+#![tactic(auto)]
 ghost use Rattle.std.specs.Prelude.{◌≤◌, length};
 
 use libc::{STDIN_FILENO, STDOUT_FILENO};

@@ -1,4 +1,5 @@
 // The listing program of document 01: reads standard input, and prints what `torrent_lines::listing` decides.
+#![tactic(auto)]
 ghost use Rattle.std.specs.Prelude.{◌≤◌, length};
 
 use bencode_writer::Put;

@@ -1,5 +1,6 @@
 // The published messages of FIPS 180-4 and the lengths around a block's end, whole and in parts, a line each, held to the file stdout.
 // tests/sha1_vectors.sh makes the same messages and has sha1sum print the same lines.
+#![tactic(auto)]
 mod message;
 mod report;
 

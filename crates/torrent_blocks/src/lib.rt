@@ -1,5 +1,6 @@
 // Where a block falls: from a piece and an offset there to parts of files, and back.
 // Files lie one after the other in the joined content, by their lengths.
+#![tactic(auto)]
 pub mod rules;
 
 ghost use Rattle.std.specs.Prelude.{◌≡◌, ◌&&◌, [], ◌∷◌, ℕ, ◌+◌, ◌-◌, ◌*◌, ◌^◌, ◌<◌, ◌≤◌, max, min, length, take};

@@ -1,5 +1,6 @@
 // Texts, frames and hashes for C: each call answers 0 where it is taken, and leaves what else it says in what is lent; or else the word of
 // its refusal, number and place, and then leaves all that is lent as it was.
+#![tactic(auto)]
 ghost use Rattle.bencode.specs.Answers.{check_of};
 ghost use Rattle.hash_sha1.specs.Digest.{digest_of};
 ghost use Rattle.wardrail.specs.Said.{Tells};

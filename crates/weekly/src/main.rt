@@ -1,4 +1,5 @@
 // The program for a week's file: reads standard input, and prints the lines that `week::listing` decides.
+#![tactic(auto)]
 ghost use Rattle.std.specs.Prelude.{◌≤◌, length};
 
 use libc::{STDIN_FILENO, STDOUT_FILENO};

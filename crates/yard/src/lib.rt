@@ -1,6 +1,7 @@
 // The yard's calls over the tables that C lends. Each takes one seat out, runs a covered step on it and the head, and puts both back;
 // a start, a page and a round go over all seats. What it leaves is `step` of the definitions, for any tables, and what it tells is
 // `step`'s answer in numbers: 0, the refusal's, or 255 where more bytes are needed. A refusal and a wait leave all that is lent as it was.
+#![tactic(auto)]
 ghost use Rattle.std.specs.Prelude.{◌≡◌, length};
 ghost use Rattle.std.proofs.lemmas.List.Edits.{sets};
 ghost use Rattle.yard_tables.specs.Tables.{yard_of};
