@@ -1,5 +1,6 @@
 // Strings and integers of BEP 3: read at a place of a text, and ordered as keys.
 #![tactic(auto)]
+
 ghost use Rattle.std.specs.Prelude.{◌≡◌, true, false, ℕ, ◌+◌, ◌*◌, ◌-◌, ◌<◌, ◌≤◌, min, pred, [], pos, negsuc, length, get_or, drop};
 ghost use Rattle.bencode_scalar.specs.Written.{key_lt};
 ghost use Rattle.bencode_scalar.specs.Reading.{got, is_digit, digits_val, digits_len, num_val, num_len, string_at, closed_of, minus_at, integer_at};
