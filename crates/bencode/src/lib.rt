@@ -13,21 +13,21 @@ use bencode_scalar::{Int, Text};
 use refusal::{Refusal, limit, number};
 
 // What `check` answers: how many values the text has, each key counted, or why and where it is refused.
-#[derive(Drop)]
+#[derive(Clone, Copy)]
 pub enum Checked {
     Taken(usize),
     Refused(Refusal),
 }
 
 // A place of the text, and how many values have begun before it.
-#[derive(Drop)]
+#[derive(Clone, Copy)]
 pub struct Cursor {
     pub at: usize,
     pub count: usize,
 }
 
 // What reading one value comes to: the cursor past it, or the refusal.
-#[derive(Drop)]
+#[derive(Clone, Copy)]
 pub enum Step {
     Past(Cursor),
     Refused(Refusal),
@@ -168,7 +168,7 @@ fn dictionary(text: &[u8], from: usize, others: usize, levels: usize, cell: &mut
 }
 
 // The key before in a dictionary, by its bytes in the text; `some` is false where there is none.
-#[derive(Drop)]
+#[derive(Clone, Copy)]
 struct Key {
     some: bool,
     from: usize,
@@ -176,7 +176,7 @@ struct Key {
 }
 
 // A key by its bytes in the text.
-#[derive(Drop)]
+#[derive(Clone, Copy)]
 enum Found {
     At(usize, usize),
     Refused(Refusal),

@@ -12,28 +12,28 @@ use bencode_walk::{Seen, Sought};
 use refusal::{Part, Refusal, limit, number};
 
 // A string's bytes.
-#[derive(Drop)]
+#[derive(Clone, Copy)]
 pub enum Bytes {
     Are(Part),
     Refused(Refusal),
 }
 
 // A number from 0 on, or the refusal.
-#[derive(Drop)]
+#[derive(Clone, Copy)]
 pub enum Natural {
     Is(u64),
     Refused(Refusal),
 }
 
 // A number and the place past it.
-#[derive(Drop)]
+#[derive(Clone, Copy)]
 pub enum Number {
     Is(u64, usize),
     Refused(Refusal),
 }
 
 // The place of the first item of a list, or of the first key of a dictionary; or of the e.
-#[derive(Drop)]
+#[derive(Clone, Copy)]
 pub enum Inside {
     At(usize),
     Refused(Refusal),

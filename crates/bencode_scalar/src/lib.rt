@@ -9,14 +9,14 @@ ghost use Rattle.bencode_scalar.specs.Answers.{text_of, integer_is};
 use refusal::{Refusal, number};
 
 // A string: the place of its first byte and how many they are.
-#[derive(Drop)]
+#[derive(Clone, Copy)]
 pub enum Text {
     Whole(usize, usize),
     Refused(Refusal),
 }
 
 // An integer and the place past it; one outside 64 bits has only that place.
-#[derive(Drop)]
+#[derive(Clone, Copy)]
 pub enum Int {
     Is(i64, usize),
     Large(usize),
@@ -187,7 +187,7 @@ fn below_zero(v: u64, next: usize) -> Int
 }
 
 // The number that a run of digits stands for, as far as ten to the 19th, and where the run ends.
-#[derive(Drop)]
+#[derive(Clone, Copy)]
 struct Run {
     value: u64,
     next: usize,

@@ -12,7 +12,7 @@ use refusal::{Part, Refusal, limit, number};
 
 // What stands at a place. The last number is the place past it; of a list or dictionary it is the place of the first
 // item or key, or of the e.
-#[derive(Drop)]
+#[derive(Clone, Copy)]
 pub enum Seen {
     String(Part, usize),
     Integer(i64, usize),
@@ -25,7 +25,7 @@ pub enum Seen {
 }
 
 // What stands where a dictionary's next entry may begin: a key's bytes and the place of its value, or the e and the place past it.
-#[derive(Drop)]
+#[derive(Clone, Copy)]
 pub enum Next {
     Key(Part, usize),
     Close(usize),
@@ -33,7 +33,7 @@ pub enum Next {
 }
 
 // Where a key was found, by the places of its entry and its value, or where it would stand.
-#[derive(Drop)]
+#[derive(Clone, Copy)]
 pub enum Sought {
     Found(usize, usize),
     Missing(usize),
@@ -41,14 +41,14 @@ pub enum Sought {
 }
 
 // The place past a value.
-#[derive(Drop)]
+#[derive(Clone, Copy)]
 pub enum Past {
     To(usize),
     Refused(Refusal),
 }
 
 // How one key stands to another.
-#[derive(Drop)]
+#[derive(Clone, Copy)]
 enum Order {
     Before,
     Same,

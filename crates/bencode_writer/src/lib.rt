@@ -2,6 +2,7 @@
 // and a byte's escape.
 // Where one does not fit, nothing is written; what stands before the place and past the part stays.
 #![tactic(auto)]
+
 ghost use Rattle.std.specs.Prelude.{◌≡◌, true, false, [], ◌∷◌, ◌++◌, ◌+◌, ◌/◌, ◌%◌, ◌<◌, ◌≤◌, nat_abs, length};
 ghost use Rattle.refusal.specs.Numbers.{room};
 ghost use Rattle.bencode_scalar.specs.Written.{decimal, written_string, written_int};
@@ -11,7 +12,7 @@ ghost use Rattle.bencode_writer.specs.Put.{paper, left, put_of, place_past, Ran}
 use refusal::{Refusal, number};
 
 // The place past what was written, or why nothing was.
-#[derive(Drop)]
+#[derive(Clone, Copy)]
 pub enum Put {
     To(usize),
     Refused(Refusal),

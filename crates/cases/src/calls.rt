@@ -67,7 +67,7 @@ fn ask(line: &[u8], space: &mut [u8], brief: bool) {
 }
 
 // Where each of the words of bytes ends in the space.
-#[derive(Drop)]
+#[derive(Clone, Copy)]
 struct Ends {
     first: usize,
     second: usize,

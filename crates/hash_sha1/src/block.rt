@@ -12,7 +12,7 @@ use hash_digest::word::{add, byte0, byte1, byte2, byte3, choose, most, odd, rotl
 use refusal::big_endian::joined;
 
 // A hash value, and the working variables of the rounds.
-#[derive(Drop)]
+#[derive(Clone, Copy)]
 pub struct Hash {
     pub a: u32,
     pub b: u32,
@@ -22,7 +22,7 @@ pub struct Hash {
 }
 
 // 4.2.1: the constants of each twenty rounds.
-#[derive(Drop)]
+#[derive(Clone, Copy)]
 struct Constants {
     first: u32,
     second: u32,

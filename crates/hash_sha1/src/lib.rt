@@ -12,14 +12,14 @@ pub use block::Hash;
 use refusal::{Refusal, limit, number};
 
 // Whether the digest was written, or why not.
-#[derive(Drop)]
+#[derive(Clone, Copy)]
 pub enum Hashed {
     Written,
     Refused(Refusal),
 }
 
 // Whether the digest is the expected one, or why there is none.
-#[derive(Drop)]
+#[derive(Clone, Copy)]
 pub enum Agreement {
     Same,
     Other,

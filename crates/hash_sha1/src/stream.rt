@@ -17,7 +17,7 @@ const TOO_LONG: u32 = limit::PIECE as u32 + 1;
 
 // A message so far: the hash value after its whole blocks, the bytes after them with zeros up to a block,
 // and how many bytes it has. One of more than 16,777,216 bytes is kept as one of 16,777,217, and refused when finished.
-#[derive(Drop)]
+#[derive(Clone, Copy)]
 pub struct Stream {
     pub hash: Hash,
     pub tail: [u8; 64],

@@ -24,21 +24,21 @@ use scan::{Scanned, Spelt};
 use torrent_metainfo::{Reading, Torrent};
 
 // What a link says of a thing: nothing, or some bytes, of which there may be none.
-#[derive(Drop)]
+#[derive(Clone, Copy)]
 pub enum Given {
     Absent,
     Bytes(usize),
 }
 
 // What a link says of name and address, whose bytes are in the outputs that were lent for them; or the refusal.
-#[derive(Drop)]
+#[derive(Clone, Copy)]
 pub enum Linked {
     Is(Given, Given),
     Refused(Refusal),
 }
 
 // How many bytes a link has.
-#[derive(Drop)]
+#[derive(Clone, Copy)]
 pub enum Sized {
     Bytes(usize),
     Refused(Refusal),

@@ -7,7 +7,7 @@ use crate::{kinds, values};
 use values::Value;
 
 // What a name is the name of.
-#[derive(Drop)]
+#[derive(Clone, Copy)]
 pub enum Field {
     Hash,
     Name,
@@ -16,14 +16,14 @@ pub enum Field {
 }
 
 // Where a value stands, and how many bytes it spells. No value stands at 0, which says that there is none.
-#[derive(Drop)]
+#[derive(Clone, Copy)]
 pub struct Spelt {
     pub from: usize,
     pub size: usize,
 }
 
 // What the pairs so far have said; the hash by its first digit.
-#[derive(Drop)]
+#[derive(Clone, Copy)]
 pub struct Pass {
     pub hash: Spelt,
     pub name: Spelt,
@@ -31,14 +31,14 @@ pub struct Pass {
 }
 
 // The place of the hash's first digit, dn and tr; or the place of the first fault.
-#[derive(Drop)]
+#[derive(Clone, Copy)]
 pub enum Scanned {
     Found(usize, Spelt, Spelt),
     Broken(usize),
 }
 
 // After a pair: another begins at a place, or the text ends, or there is a fault.
-#[derive(Drop)]
+#[derive(Clone, Copy)]
 pub enum Turn {
     More(Pass, usize),
     Last(Pass),

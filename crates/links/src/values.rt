@@ -9,7 +9,7 @@ use crate::kinds;
 use crate::scan::Spelt;
 
 // The place where a value ends, and how many bytes it spells; or the place where an escape is broken off.
-#[derive(Drop)]
+#[derive(Clone, Copy)]
 pub enum Value {
     To(usize, usize),
     Broken(usize),

@@ -13,7 +13,7 @@ use torrent_blocks::{PieceNumber, PieceOffset};
 pub mod write;
 
 // What a frame says, by its id from 0 to 8; numbers in BEP 3's order.
-#[derive(Drop)]
+#[derive(Clone, Copy)]
 pub enum Frame {
     Choke,
     Unchoke,
@@ -31,7 +31,7 @@ pub enum Frame {
 }
 
 // What the bytes begin with. The last number is how many of them it used.
-#[derive(Drop)]
+#[derive(Clone, Copy)]
 pub enum Read {
     Wait,
     Keepalive(usize),
@@ -40,7 +40,7 @@ pub enum Read {
 }
 
 // What a handshake comes to: where the free bytes and the peer id lie, and how many bytes it used.
-#[derive(Drop)]
+#[derive(Clone, Copy)]
 pub enum Greeting {
     Await,
     Hello(Part, Part, usize),

@@ -17,14 +17,14 @@ use rows::Row;
 use torrent_metainfo::Reading;
 
 // Which of the two texts.
-#[derive(Drop)]
+#[derive(Clone, Copy)]
 pub enum Source {
     Torrent,
     Sheet,
 }
 
 // In which text the address stands, and its bytes there; or which text is refused, and why.
-#[derive(Drop)]
+#[derive(Clone, Copy)]
 pub enum Found {
     At(Source, Part),
     Refused(Source, Refusal),

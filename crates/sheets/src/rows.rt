@@ -17,7 +17,7 @@ use bencode_scalar::Text;
 use refusal::{Part, Refusal, limit, number};
 
 // Where the address for an info hash stands, or that the sheet has none for it; or why the text is no sheet.
-#[derive(Drop)]
+#[derive(Clone, Copy)]
 pub enum Row {
     Listed(Part),
     Unlisted,
@@ -25,14 +25,14 @@ pub enum Row {
 }
 
 // The key before, if there is one, by its bytes in the text.
-#[derive(Drop)]
+#[derive(Clone, Copy)]
 enum Before {
     Nothing,
     Key(Part),
 }
 
 // How far the pass has come: the place of the next row, how many values have begun, the key before, and what the rows so far come to.
-#[derive(Drop)]
+#[derive(Clone, Copy)]
 struct Stage {
     at: usize,
     count: usize,
@@ -41,21 +41,21 @@ struct Stage {
 }
 
 // The pass after one more row, or why the bytes there are none.
-#[derive(Drop)]
+#[derive(Clone, Copy)]
 enum Turn {
     On(Stage),
     Refused(Refusal),
 }
 
 // A key by its bytes in the text.
-#[derive(Drop)]
+#[derive(Clone, Copy)]
 enum Keyed {
     At(Part),
     Refused(Refusal),
 }
 
 // What stands under a key: a string, by its bytes, or another value, by the place past it and how many values have begun.
-#[derive(Drop)]
+#[derive(Clone, Copy)]
 enum Held {
     String(Part),
     Other(usize, usize),

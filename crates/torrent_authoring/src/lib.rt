@@ -14,7 +14,7 @@ use torrent_blocks::rules;
 use torrent_blocks::rules::Total;
 
 // How many bytes a torrent's text has.
-#[derive(Drop)]
+#[derive(Clone, Copy)]
 pub enum Sized {
     Bytes(usize),
     Refused(Refusal),

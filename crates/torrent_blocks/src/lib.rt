@@ -1,6 +1,7 @@
 // Where a block falls: from a piece and an offset there to parts of files, and back.
 // Files lie one after the other in the joined content, by their lengths.
 #![tactic(auto)]
+
 pub mod rules;
 
 ghost use Rattle.std.specs.Prelude.{◌≡◌, ◌&&◌, [], ◌∷◌, ℕ, ◌+◌, ◌-◌, ◌*◌, ◌^◌, ◌<◌, ◌≤◌, max, min, length, take};
@@ -16,31 +17,31 @@ use rules::Total;
 
 // The three numberings. None can be passed for another.
 // The number of a piece.
-#[derive(Drop)]
+#[derive(Clone, Copy)]
 pub struct PieceNumber(pub u32);
 // An offset inside a piece.
-#[derive(Drop)]
+#[derive(Clone, Copy)]
 pub struct PieceOffset(pub u32);
 // An offset in the joined content of all files.
-#[derive(Drop)]
+#[derive(Clone, Copy)]
 pub struct ContentOffset(pub u64);
 
 // How many parts of files were written, or why none.
-#[derive(Drop)]
+#[derive(Clone, Copy)]
 pub enum Parts {
     Written(usize),
     Refused(Refusal),
 }
 
 // Where a byte of a file falls, or why nowhere.
-#[derive(Drop)]
+#[derive(Clone, Copy)]
 pub enum Place {
     At(PieceNumber, PieceOffset),
     Refused(Refusal),
 }
 
 // How many bytes a piece has, or why that is not known.
-#[derive(Drop)]
+#[derive(Clone, Copy)]
 pub enum Size {
     Bytes(u64),
     Refused(Refusal),
@@ -180,14 +181,14 @@ pub fn piece_bytes(total: Total, piece_length: u64, piece: PieceNumber) -> u64
 }
 
 // A file's number and the total of the files before it, where it starts in the content.
-#[derive(Drop)]
+#[derive(Clone, Copy)]
 struct File {
     number: usize,
     start: Total,
 }
 
 // How many files have bytes of a block, and the file past them.
-#[derive(Drop)]
+#[derive(Clone, Copy)]
 struct Run {
     parts: usize,
     next: File,

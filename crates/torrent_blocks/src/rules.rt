@@ -5,7 +5,7 @@ ghost use Rattle.torrent_blocks.specs.Rules.{piece_length_of, file_length, file_
 use refusal::limit;
 
 // A running total of file lengths. It stops at the largest u64, which is far above every legal total.
-#[derive(Drop)]
+#[derive(Clone, Copy)]
 pub struct Total(pub u64);
 
 // Whether n is a power of two from 16,384 to 16,777,216.

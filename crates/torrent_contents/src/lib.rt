@@ -16,7 +16,7 @@ use torrent_metainfo::Reading;
 
 // A file: where it starts in the joined content, its length, and the place of its path's first element.
 // A single file has no path but its name, whose bytes begin at `path`.
-#[derive(Drop)]
+#[derive(Clone, Copy)]
 pub struct Entry {
     pub offset: ContentOffset,
     pub length: u64,
@@ -25,14 +25,14 @@ pub struct Entry {
 }
 
 // A file by its number, or the refusal.
-#[derive(Drop)]
+#[derive(Clone, Copy)]
 pub enum Found {
     Is(Entry),
     Refused(Refusal),
 }
 
 // An element of a path and the place of the next, or the place past the path.
-#[derive(Drop)]
+#[derive(Clone, Copy)]
 pub enum Element {
     Is(Part, usize),
     End(usize),
@@ -40,14 +40,14 @@ pub enum Element {
 }
 
 // Where the 20 bytes of a piece's hash stand.
-#[derive(Drop)]
+#[derive(Clone, Copy)]
 pub enum Hash {
     Stands(Part),
     Refused(Refusal),
 }
 
 // Whether a piece's digest is the torrent's, or why that is not known.
-#[derive(Drop)]
+#[derive(Clone, Copy)]
 pub enum Checked {
     Yes,
     No,

@@ -23,7 +23,7 @@ use hash_sha1::Hashed;
 use refusal::{Part, Refusal};
 
 // What a torrent says. Parts and places are of its text.
-#[derive(Drop)]
+#[derive(Clone, Copy)]
 pub struct Torrent {
     pub announce: Part,
     pub info: Part,
@@ -35,7 +35,7 @@ pub struct Torrent {
 }
 
 // One file, whose length stands at `place`, or a list of files there: the first of them stands one past it.
-#[derive(Drop)]
+#[derive(Clone, Copy)]
 pub struct Content {
     pub single: bool,
     pub place: usize,
@@ -44,7 +44,7 @@ pub struct Content {
 }
 
 // One file of many: its length, the place of its path's first element, and the place past the file.
-#[derive(Drop)]
+#[derive(Clone, Copy)]
 pub struct File {
     pub length: u64,
     pub path: usize,
@@ -52,41 +52,41 @@ pub struct File {
 }
 
 // A torrent that was read, or the refusal.
-#[derive(Drop)]
+#[derive(Clone, Copy)]
 pub enum Reading {
     Read(Torrent),
     Refused(Refusal),
 }
 
 // A file that was read, or the refusal.
-#[derive(Drop)]
+#[derive(Clone, Copy)]
 pub enum Filed {
     Is(File),
     Refused(Refusal),
 }
 
-#[derive(Drop)]
+#[derive(Clone, Copy)]
 enum Contents {
     Are(Content),
     Refused(Refusal),
 }
 
 // The content by its files, and the place past their list.
-#[derive(Drop)]
+#[derive(Clone, Copy)]
 enum Listing {
     Are(Content, usize),
     Refused(Refusal),
 }
 
 // The place of a path's first element, and the place past the path.
-#[derive(Drop)]
+#[derive(Clone, Copy)]
 enum Path {
     Is(usize, usize),
     Refused(Refusal),
 }
 
 // What was found of info's keys; `listed` is what the files are.
-#[derive(Drop)]
+#[derive(Clone, Copy)]
 struct Known {
     files: Sought,
     listed: Listing,

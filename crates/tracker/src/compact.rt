@@ -5,18 +5,18 @@ ghost use Rattle.tracker.specs.Entries.{six_at, packed_paper, packed_at};
 use refusal::{Refusal, limit, number};
 
 // The four bytes of an address.
-#[derive(Drop)]
+#[derive(Clone, Copy)]
 pub struct Address(pub u8, pub u8, pub u8, pub u8);
 
 // An entry of six bytes.
-#[derive(Drop)]
+#[derive(Clone, Copy)]
 pub struct Packed {
     pub address: Address,
     pub port: u64,
 }
 
 // An entry and the place past it.
-#[derive(Drop)]
+#[derive(Clone, Copy)]
 pub enum Packing {
     Is(Packed, usize),
     Refused(Refusal),

@@ -18,7 +18,7 @@ pub mod listed;
 pub mod writing;
 
 // What a reply that is no failure says: the seconds to wait, how many entries there are, and where the first stands.
-#[derive(Drop)]
+#[derive(Clone, Copy)]
 pub struct Peers {
     pub interval: u64,
     pub count: usize,
@@ -26,7 +26,7 @@ pub struct Peers {
 }
 
 // What a reply is: why it failed, its entries in one form or the other, or the refusal.
-#[derive(Drop)]
+#[derive(Clone, Copy)]
 pub enum Reply {
     // The bytes of the failure reason.
     Failure(Part),
@@ -38,7 +38,7 @@ pub enum Reply {
 }
 
 // One entry of a reply in its form, or the refusal.
-#[derive(Drop)]
+#[derive(Clone, Copy)]
 pub enum Found {
     Packed(Packed),
     Listed(Listed),

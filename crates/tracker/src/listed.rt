@@ -14,7 +14,7 @@ use bencode_walk::{Past, Sought};
 use refusal::{Part, Refusal, limit, number};
 
 // An entry of a list: where its peer id and its ip stand, and the port.
-#[derive(Drop)]
+#[derive(Clone, Copy)]
 pub struct Listed {
     pub id: Part,
     pub ip: Part,
@@ -22,14 +22,14 @@ pub struct Listed {
 }
 
 // An entry and the place past it.
-#[derive(Drop)]
+#[derive(Clone, Copy)]
 pub enum Listing {
     Is(Listed, usize),
     Refused(Refusal),
 }
 
 // How many entries a list has.
-#[derive(Drop)]
+#[derive(Clone, Copy)]
 pub enum Counted {
     Of(usize),
     Refused(Refusal),
@@ -46,14 +46,14 @@ pub fn listed_at(text: &[u8], at: usize) -> Listing
 }
 
 // An entry of just three keys and the place past it: keys ascend, so it has one form, d2:ip..7:peer id20:..4:porti..ee.
-#[derive(Drop)]
+#[derive(Clone, Copy)]
 enum Form {
     Usual(Listed, usize),
     Other,
 }
 
 // What stands after the ip of such an entry: the port, and the place past the entry.
-#[derive(Drop)]
+#[derive(Clone, Copy)]
 enum Rest {
     Is(u64, usize),
     Other,

@@ -15,7 +15,7 @@ use refusal::big_endian::{Number, read4};
 use refusal::{Refusal, limit, number};
 
 // The place past the body of an entry that is right, or the refusal.
-#[derive(Drop)]
+#[derive(Clone, Copy)]
 enum Ended {
     At(usize),
     Refused(Refusal),

@@ -18,7 +18,7 @@ use bencode_writer::Put;
 use refusal::{Part, Refusal, limit, number};
 
 // What is told of a package: where in the file its hash and its body stand, how many files the body is of, and their bytes.
-#[derive(Drop)]
+#[derive(Clone, Copy)]
 pub struct Entry {
     pub hash: Part,
     pub body: Part,
@@ -27,7 +27,7 @@ pub struct Entry {
 }
 
 // How many packages there are, and the sums over all of their files and of their bytes.
-#[derive(Drop)]
+#[derive(Clone, Copy)]
 pub struct Week {
     pub count: usize,
     pub files: u64,
@@ -35,21 +35,21 @@ pub struct Week {
 }
 
 // How many packages a table has.
-#[derive(Drop)]
+#[derive(Clone, Copy)]
 pub enum Counted {
     Are(usize),
     Refused(Refusal),
 }
 
 // A package, or the refusal.
-#[derive(Drop)]
+#[derive(Clone, Copy)]
 pub enum Told {
     Is(Entry),
     Refused(Refusal),
 }
 
 // What a week's file comes to, or the refusal.
-#[derive(Drop)]
+#[derive(Clone, Copy)]
 pub enum Weekly {
     Is(Week),
     Refused(Refusal),

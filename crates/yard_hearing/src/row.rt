@@ -6,7 +6,7 @@ ghost use Rattle.yard_hearing.specs.Passes.{noted, checked, up, raised, merged};
 use yard_tables::bits;
 
 // How many pieces are new, and whether one of them has as many holders as it may.
-#[derive(Drop)]
+#[derive(Clone, Copy)]
 pub struct News {
     pub added: usize,
     pub over: bool,

@@ -126,7 +126,7 @@ fn unchoke_seat(seats: &mut [Seat], wanted: bool, i: usize)
 
 // Which page of the missing list is asked for: the trucks that lack one of so many pieces, from a first seat on, on at
 // most so many lines.
-#[derive(Drop)]
+#[derive(Clone, Copy)]
 pub struct Asked {
     pub pieces: u32,
     pub first: usize,

@@ -23,7 +23,7 @@ pub mod looks;
 mod row;
 
 // What starting makes of the head, and whether the seats are to be cleared.
-#[derive(Drop)]
+#[derive(Clone, Copy)]
 pub struct Begun {
     pub head: Head,
     pub clear: bool,

@@ -19,7 +19,7 @@ pub const NOBODY: u32 = 4294967295;
 // The yard's head record: its sizes, how many of its seats are taken and how many hold every piece, the number of the next
 // round modulo 3, and the free place, a seat's or NOBODY's, with the seat that it last was.
 #[repr(C)]
-#[derive(Drop)]
+#[derive(Clone, Copy)]
 pub struct Head {
     pub pieces: u32,
     pub piece_length: u32,
@@ -35,7 +35,7 @@ pub struct Head {
 // truck's. The flags and `held` are one word of 64 bits, and `bytes`, those of its blocks since the last round, another, so
 // that no byte is padding.
 #[repr(C)]
-#[derive(Drop)]
+#[derive(Clone, Copy)]
 pub struct Seat {
     pub taken: u8,
     pub fresh: u8,
@@ -49,7 +49,7 @@ pub struct Seat {
 
 // A page of the missing list: how many lines were written, how many trucks of the whole yard lack a piece, and the
 // next missing seat that is not listed, or the number of seats.
-#[derive(Drop)]
+#[derive(Clone, Copy)]
 pub struct Page {
     pub written: usize,
     pub total: usize,
@@ -57,7 +57,7 @@ pub struct Page {
 }
 
 // What a call answers.
-#[derive(Drop)]
+#[derive(Clone, Copy)]
 pub enum Answer {
     Refused(Refusal),
     // More bytes are needed, and nothing was used.
@@ -83,7 +83,7 @@ pub enum Answer {
 }
 
 // What a call at one seat makes of the head and the seat, and its answer.
-#[derive(Drop)]
+#[derive(Clone, Copy)]
 pub struct Stepped {
     pub head: Head,
     pub seat: Seat,

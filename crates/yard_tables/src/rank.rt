@@ -10,7 +10,7 @@ use crate::{Head, Seat, on};
 pub const NONE: usize = 4294967295;
 
 // A seat and the bytes that it sent, or NONE.
-#[derive(Drop)]
+#[derive(Clone, Copy)]
 pub struct Place {
     pub seat: usize,
     pub bytes: u64,
@@ -18,7 +18,7 @@ pub struct Place {
 
 // The four so far, the best first; the lowest seat that wants the uplink, and the lowest after the one that last had the
 // free place.
-#[derive(Drop)]
+#[derive(Clone, Copy)]
 pub struct Ranking {
     pub first: Place,
     pub second: Place,

@@ -9,7 +9,7 @@ use crate::{Answer, Head, NOBODY, Seat, on};
 use refusal::number;
 
 // The seats that a round unchokes, the free place's among them, or NONE; a refused round sets no marks.
-#[derive(Drop)]
+#[derive(Clone, Copy)]
 pub struct Marks {
     pub wanted: bool,
     pub first: usize,
@@ -20,7 +20,7 @@ pub struct Marks {
 }
 
 // What a round leaves of the head, the marks that it sets, and its answer.
-#[derive(Drop)]
+#[derive(Clone, Copy)]
 pub struct Turned {
     pub head: Head,
     pub marks: Marks,

@@ -8,7 +8,7 @@ use yard_tables::{Answer, Page, Seat};
 
 // What a call says beside its number.
 #[repr(C)]
-#[derive(Drop)]
+#[derive(Clone, Copy)]
 pub struct Told {
     pub value: u64,
     // Of a frame: 1 for a request to be served, 2 for one to be dropped.
