@@ -1,5 +1,6 @@
 // Bencode read by BEP 3 and document 01: whether a text is the encoding of a value that keeps the limits.
 #![tactic(auto)]
+
 mod short;
 
 ghost use Rattle.std.specs.Prelude.{◌≡◌, suc, ◌+◌, ◌^◌, ◌<◌, ◌≤◌, length, take, drop};

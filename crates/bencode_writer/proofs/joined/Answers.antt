@@ -10,31 +10,28 @@ use lib.Seq.{sets, length-sets}
 use Rattle.bencode_scalar.specs.Written.{decimal}
 use Rattle.bencode_writer.proofs.Laws.{put-done, put-nothing}
 use Rattle.bencode_writer.proofs.Stores.{length-joined, joined-stores}
+use mathlib.Core.Bool.{not}
 use Rattle.bencode_writer.proofs.joined.Goals as goal
 use Rattle.bencode_writer.proofs.joined.Goals.{After-slice_known-4-1, Else-not-has_room-2}
 
 pub returns-then-not-has_room : goal.returns-then-not-has_room
 returns-then-not-has_room c =
     let a = c.args in
-    let short = c.has_room.ensures.1 (not-true _ c.if-not-has_room.true) in
-    put-nothing _ _ _ (omega (arith, length-joined a.now (decimal a.n) a.mark a.after.now)) c.no_room.ensures
+    let short = c.has_room.ensures.1 (not-true _ (ap not c.if-not-has_room.true)) in
+    put-nothing _ _ _ (omega (arith, length-joined a.before.now (decimal a.n) a.mark a.after.now)) c.no_room.ensures
 
 pub overflow_add-at : goal.overflow_add-at
-overflow_add-at c = omega (arith, c.has_room.ensures.0 (not-false _ c.if-not-has_room.false))
+overflow_add-at c = omega (arith, c.has_room.ensures.0 (not-false _ (ap not c.if-not-has_room.false)))
 
 pub returns-then-not-has_room-2 : goal.returns-then-not-has_room-2
 returns-then-not-has_room-2 c =
     let a = c.args in
-    let short = c.has_room-2.ensures.1 (not-true _ c.if-not-has_room-2.true) in
-    put-nothing _ _ _ (omega (arith, length-joined a.now (decimal a.n) a.mark a.after.now)) c.no_room-then-not-has_room-2.ensures
-
--- after both tests: the entry, and the room that they found
-abbrev entry : Else-not-has_room-2 → Start
-entry c = c
+    let short = c.has_room-2.ensures.1 (not-true _ (ap not c.if-not-has_room-2.true)) in
+    put-nothing _ _ _ (omega (arith, length-joined a.before.now (decimal a.n) a.mark a.after.now)) c.no_room-then-not-has_room-2.ensures
 
 room : (c : Else-not-has_room-2)
-    → (entry c).args.at + (length (entry c).args.now + c.digits-count.result + 1) + length (entry c).args.after.now ≤ length (entry c).args.out.now
-room c = omega (arith, c.has_room-2.ensures.0 (not-false _ c.if-not-has_room-2.false))
+    → c.args.at + (length c.args.before.now + c.digits-count.result + 1) + length c.args.after.now ≤ length c.args.out.now
+room c = omega (arith, c.has_room-2.ensures.0 (not-false _ (ap not c.if-not-has_room-2.false)))
 
 pub store-start-requires : goal.store-start-requires
 store-start-requires c = omega (arith, room (goal.at.store-start-requires c).Else-not-has_room-2)
@@ -51,26 +48,22 @@ overflow_add-end c = omega (arith, room (goal.at.overflow_add-end c).Else-not-ha
 pub store-requires : goal.store-requires
 store-requires c = simp length-set (omega (arith, room (goal.at.store-requires c).Else-not-has_room-2))
 
--- at the end: the same from there
-abbrev tested : After-slice_known-4-1 → Else-not-has_room-2
-tested c = c
-
 abbrev whole : Else-not-has_room-2 → List ℕ
-whole c = let a = (entry c).args in a.now ++ (decimal a.n ++ (a.mark ∷ a.after.now))
+whole c = let a = c.args in a.before.now ++ (decimal a.n ++ (a.mark ∷ a.after.now))
 
-stored : (c : After-slice_known-4-1) → c.store.new.0 ≡ sets (entry (tested c)).args.out.now (entry (tested c)).args.at (whole (tested c))
+stored : (c : After-slice_known-4-1) → c.store.new.out ≡ sets (entry c).args.out.now (entry c).args.at (whole c)
 stored c =
-    let a = (entry (tested c)).args in
+    let a = (entry c).args in
     let first = c.store-start.ensures in
     let second = c.store_decimal-end.ensures in
     c.store.ensures.out
-    ∙ joined-stores a.now (decimal a.n) a.mark a.after.now a.out.now a.at first.place first.out second.place second.out
+    ∙ joined-stores a.before.now (decimal a.n) a.mark a.after.now a.out.now a.at first.place first.out second.place second.out
 
 pub shape_of-out : goal.shape_of-out
 shape_of-out c = ap length (stored (goal.at.shape_of-out c).After-slice_known-4-1) ∙ simp length-sets
 
 pub returns : goal.returns
 returns c =
-    let a = (entry (tested c)).args in
-    let l = length-joined a.now (decimal a.n) a.mark a.after.now in
-    put-done _ _ _ (omega (arith, room (tested c))) (omega (arith, room (tested c))) (stored (goal.at.returns c).After-slice_known-4-1)
+    let a = (entry c).args in
+    let l = length-joined a.before.now (decimal a.n) a.mark a.after.now in
+    put-done _ _ _ (omega (arith, room (goal.at.returns c).Else-not-has_room-2)) (omega (arith, room (goal.at.returns c).Else-not-has_room-2)) (stored (goal.at.returns c).After-slice_known-4-1)

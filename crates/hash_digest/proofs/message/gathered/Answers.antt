@@ -1,5 +1,5 @@
 -- `gathered` meets its contract: a law over the two runs of stores. Assumes nothing.
-use Rattle.std.proofs.Common.{length, take, replicate, refl, ap, arith, length-take, rules}
+use Rattle.std.proofs.Common.{length, take, replicate, refl, ap, arith, length-take}
 use Rattle.hash_digest.proofs.Stores.{gathers}
 use lib.Seq.{length-sets}
 use Rattle.hash_digest.proofs.message.gathered.Goals as goal
@@ -17,4 +17,4 @@ pub store-requires-2 : goal.store-requires-2
 store-requires-2 c = omega (arith, length-take c.least-second.result c.args.part.now, ap length c.store.ensures, length-sets (replicate 64 0) 0 (take c.least-first.result c.args.held.now))
 
 pub returns : goal.returns
-returns c = gathers 64 c.args.held.now c.args.part.now _ _ c.store.new.0 c.store-2.new.0 c.least-first.ensures c.least-second.ensures refl refl c.store.ensures c.store-2.ensures
+returns c = gathers 64 c.args.held.now c.args.part.now _ _ c.store.new.out c.store-2.new.out c.least-first.ensures c.least-second.ensures refl refl c.store.ensures c.store-2.ensures

@@ -1,0 +1,7 @@
+-- `bencode::value` meets its contract. Assumes nothing.
+use borrow.Author.Rules.{rules}
+use mathlib.Core.Path.{◌∙◌}
+use Rattle.bencode.proofs.value.Goals as goal
+
+pub returns : goal.returns
+returns c = c.step_told.ensures ∙ c.inner-end.ensures
