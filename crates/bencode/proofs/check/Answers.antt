@@ -1,5 +1,4 @@
 -- `bencode::check` meets its contract. Assumes nothing.
-use borrow.Author.Rules.{rules}
 use Rattle.bencode.proofs.Exact.{exactly-as, check-long, check-bad, check-more, check-taken}
 use Rattle.bencode.specs.Answers.{paper}
 use native.Mathlib.Omega.{arith}

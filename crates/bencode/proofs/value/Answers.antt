@@ -1,5 +1,4 @@
 -- `bencode::value` meets its contract. Assumes nothing.
-use borrow.Author.Rules.{rules}
 use mathlib.Core.Path.{◌∙◌}
 use Rattle.bencode.proofs.value.Goals as goal
 
