@@ -26,6 +26,7 @@ use Rattle.demands.specs.One.Doors.Metainfo as metainfo
 use Rattle.demands.specs.One.Doors.Contents as contents
 use Rattle.demands.specs.One.Doors.Tracker as tracker
 
+
 -- of bencode_walk::look
 pub look-8 : (text : Lent (List ℕ)) (at : ℕ) (r : Seen) → walk.look-ensures text at r → (p : ℕ) → look_paper r ≡ refused 8 p ↔ ((most_text < length (now text.entry)) × (p ≡ 0))
 look-8 text at r e p = Iff·trans (same_answer e) (looks.look-8 (now text.entry) at p)

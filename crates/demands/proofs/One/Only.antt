@@ -62,9 +62,11 @@ use Rattle.demands_laws.proofs.Digests as digests
 use Rattle.demands_laws.proofs.Links as links-laws
 use Rattle.demands_laws.proofs.Only as only
 use Rattle.demands_laws.proofs.Runs as runs
-use Rattle.demands.specs.Program.{Tables, found, Permits, Made, permits-step, made-run}
+use Rattle.demands.specs.Program.{Tables, found, Permits, Made}
+use Rattle.demands.proofs.Program.{permits-step, made-run}
 use Rattle.demands.specs.One.{Lent, before}
-use Rattle.demands.specs.One.Alike.{asked, Frames, as-framed, Puts, as-put}
+use Rattle.demands.specs.One.Alike.{asked, Frames, Puts}
+use Rattle.demands.proofs.One.Alike.{as-framed, as-put}
 use Rattle.demands.specs.One.Doors.Bencode as bencode
 use Rattle.demands.specs.One.Doors.Metainfo as metainfo
 use Rattle.demands.specs.One.Doors.Contents as contents
@@ -77,6 +79,7 @@ use Rattle.demands.specs.One.Doors.Week as week
 use Rattle.demands.specs.One.Doors.Blocks as blocks
 use Rattle.demands.specs.One.Doors.Wire as wire
 use Rattle.demands.specs.One.Doors.Sha1 as sha1
+
 
 -- ---- texts: "1" to "8" of the table
 

@@ -23,7 +23,9 @@ use Rattle.demands_laws.proofs.Tables.{on-tables, no-wait}
 use Rattle.demands_laws.proofs.Rounds as after-round
 use Rattle.demands.specs.One.{Lent, before, after}
 use Rattle.demands.specs.One.Doors.Yard as yard
-use Rattle.demands.specs.Program.{Tables, found, Permits, permits-step, Asks, asks-paged}
+use Rattle.demands.specs.Program.{Tables, found, Permits, Asks}
+use Rattle.demands.proofs.Program.{permits-step, asks-paged}
+
 
 module _ (t : Tables) (c : Call) (r : ℕ) (z : Yard) (e : Permits t c r z) where
   pub tables-refuse : (number : ℕ) → 1 ≤ number → number < 38 → r ≡ number ↔ (Fit (found t) × CauseBy (by_tables (found t)) c number)

@@ -108,11 +108,13 @@ use Rattle.demands_laws.proofs.Writers as writers
 use Rattle.demands_laws.proofs.Tables.{no-wait}
 use Rattle.demands_laws.proofs.Only as only
 use Rattle.demands_laws.proofs.Runs as runs
-use Rattle.demands.specs.Program.{Tables, found, Permits, Made, permits-step, made-run}
+use Rattle.demands.specs.Program.{Tables, found, Permits, Made}
+use Rattle.demands.proofs.Program.{permits-step, made-run}
 use Rattle.demands.specs.One.{Lent, before}
-use Rattle.demands.specs.One.Alike.{asked, Reader, answer_of, as-decoded, Refuses, a-look, an-entry, a-search, a-skip, file-at, element-at, packed-at, listed-at, a-week, a-package, a-table, package-at, a-week-written, a-link, Frames, as-framed, Puts, as-put}
-use Rattle.demands.specs.One.Only as calls
-use Rattle.demands.specs.One.Looks as looks
+use Rattle.demands.specs.One.Alike.{asked, Reader, answer_of, Refuses, a-look, an-entry, a-search, a-skip, file-at, element-at, packed-at, listed-at, a-week, a-package, a-table, package-at, a-week-written, a-link, Frames, Puts}
+use Rattle.demands.proofs.One.Alike.{as-decoded, as-framed, as-put}
+use Rattle.demands.proofs.One.Only as calls
+use Rattle.demands.proofs.One.Looks as looks
 use Rattle.demands.specs.One.Doors.Bencode as bencode
 use Rattle.demands.specs.One.Doors.Metainfo as metainfo
 use Rattle.demands.specs.One.Doors.Contents as contents
@@ -125,6 +127,7 @@ use Rattle.demands.specs.One.Doors.Week as week
 use Rattle.demands.specs.One.Doors.Blocks as blocks
 use Rattle.demands.specs.One.Doors.Wire as wire
 use Rattle.demands.specs.One.Doors.Sha1 as sha1
+
 
 -- what C gets of a yard, after an accepted start and any calls
 yard-given : (lent : Yard) (h : History) (t : Tables) → Made lent h (found t) → (c : Call) (r : ℕ) (z : Yard) → Permits t c r z
