@@ -1,5 +1,5 @@
 -- A `match` on what was seen: the arm of one kind, and `_` for the rest. Assumes nothing.
-use mathlib.Core.Path.{◌≡◌, sym, ap, ◌∙◌}
+use mathlib.Core.Path.{◌≡◌, refl, sym, ap, ◌∙◌}
 use mathlib.Core.Bool.{Bool, true, false, not}
 use mathlib.Core.List.{List}
 use Prim.Native.Nat.{ℕ}
@@ -9,6 +9,8 @@ use mir.Val.{has_key}
 use types.Run.{OneOf, miss}
 use denote.Enum.Declared.{tag_of}
 use Rattle.refusal.specs.Paper.{Outcome, then}
+use Rattle.refusal.specs.declared.Part.{Part}
+use Rattle.refusal.specs.declared.Refusal.{Refusal}
 use Rattle.bencode_walk.specs.Walk.{Head, string, integer, long, list, dictionary, end, paper}
 use Rattle.bencode_walk.specs.declared.Seen.{Seen}
 use Rattle.bencode_walk.specs.declared.Seen.TheVariants.{String, Integer, Long, List as ListSeen, Dictionary, End, Refused}
@@ -53,3 +55,36 @@ module _ {A : Type 0} (ks : List ℕ) (f : Head → Outcome A) (y : Outcome A) (
 
   pub rest-seen : (r : Seen) (o : Outcome Head) → paper r ≡ o → OneOf ks (tag_of the_type r) → y ≡ then o f
   rest-seen r o e t = rest_of r t ∙ ap (λ (x : Outcome Head). then x f) e
+
+abbrev Unless : Bool → Type 0 → Type 0
+Unless true X = Unit {0}
+Unless false X = X
+
+-- r is of no kind but those of ks, in the order of Seen, as the arm `_` says
+abbrev pub But : List ℕ → Seen → Type 0
+But ks r =
+    Unless (has_key ks 0) ((p : Part) (q : ℕ) → r ≡ String p q → ⊥)
+    × Unless (has_key ks 1) ((z : ℤ) (q : ℕ) → r ≡ Integer z q → ⊥)
+    × Unless (has_key ks 2) ((p : Part) (q : ℕ) → r ≡ Long p q → ⊥)
+    × Unless (has_key ks 3) ((q : ℕ) → r ≡ ListSeen q → ⊥)
+    × Unless (has_key ks 4) ((q : ℕ) → r ≡ Dictionary q → ⊥)
+    × Unless (has_key ks 5) ((q : ℕ) → r ≡ End q → ⊥)
+    × Unless (has_key ks 6) ((w : Refusal) → r ≡ Refused w → ⊥)
+
+-- the rest, by what it is not
+module _ {A : Type 0} (ks : List ℕ) (f : Head → Outcome A) (y : Outcome A) (h : Rest ks f y) where
+  kept : {X N : Type 0} (b : Bool) → Unless b N → If b X → (N → ⊥) → X
+  kept true o x n = x
+  kept false o x n = absurd (n o)
+
+  but-of : (r : Seen) → But ks r → y ≡ then (paper r) f
+  but-of (String p q) o = kept (has_key ks 0) o.0 h.0 (λ n. n p q refl) p.from p.len q
+  but-of (Integer z q) o = kept (has_key ks 1) o.1 h.1 (λ n. n z q refl) z q
+  but-of (Long p q) o = kept (has_key ks 2) o.2 h.2 (λ n. n p q refl) p.from p.len q
+  but-of (ListSeen q) o = kept (has_key ks 3) o.3 h.3 (λ n. n q refl) q
+  but-of (Dictionary q) o = kept (has_key ks 4) o.4 h.4 (λ n. n q refl) q
+  but-of (End q) o = kept (has_key ks 5) o.5 h.5 (λ n. n q refl) q
+  but-of (Refused r) o = absurd (kept (has_key ks 6) o.6 h.6 (λ n. n r refl))
+
+  pub rest-but : (r : Seen) (o : Outcome Head) → paper r ≡ o → But ks r → y ≡ then o f
+  rest-but r o e t = but-of r t ∙ ap (λ (x : Outcome Head). then x f) e

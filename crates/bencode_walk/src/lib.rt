@@ -2,6 +2,7 @@
 // and any place, for a text that is too long by 8; on one that `bencode::check` has taken, what it tells is the text's
 // value, part by part.
 #![tactic(auto)]
+
 ghost use Rattle.std.specs.Prelude.{◌≡◌, suc, ◌+◌, ◌-◌, ◌≤◌, min, length};
 ghost use Rattle.refusal.specs.Parts.{bytes_at};
 ghost use Rattle.bencode_walk.specs.Walk.{paper, string_seen, integer_seen, look_of, entry_paper, entry_of, past_paper, skip_of, seek_paper, seek_of, order_of};
