@@ -2,18 +2,14 @@
 -- 1. No public function has a `requires`: tests/determined looks. Each is proved safe and ending: `rt check` does.
 -- 2, 3. The words of these statements are below. The functions stand under their paths, those that a user calls in One/Doors and those that only crates
 -- need in One/Inner: a function's contract as `src/` has it (-ensures), that it permits one outcome (-determined), and that a refusal leaves what is
--- lent (-keeps). None is left out: tests/determined. Calls that statements speak of at once are in One/Alike.antt.
--- 4. One/Numbers.antt, and One/Only.antt: no other number is given, nor by a look at a place: One/Looks.antt. One/AnyTables.antt: the yard's numbers on tables that no start made.
+-- lent (-keeps): the contract here, the laws in proofs/, in a file of the same path. None is left out: tests/determined. Calls that statements speak of at once are in One/Alike.antt.
+-- 4. In proofs/: One/Numbers.antt, and One/Only.antt: no other number is given, nor by a look at a place: One/Looks.antt. One/AnyTables.antt: the yard's numbers on tables that no start made.
 use Rattle.std.specs.Prelude.{◌≡◌, ◌⊎◌, ℕ}
 use Rattle.refusal.specs.Paper.{Outcome, taken, refused}
 use Rattle.yard_tables.specs.Tables.{Said, wait}
 pub mod Doors
 pub mod Inner
 pub mod Alike
-pub mod Numbers
-pub mod Only
-pub mod Looks
-pub mod AnyTables
 
 -- ---- what is lent
 

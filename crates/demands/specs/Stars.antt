@@ -233,8 +233,3 @@ lent = record {
   yard = record { head = record { pieces = 3; piece_length = 1; last_length = 9; taken = 7; complete = 7; round = 9; free = 9; last = 9 }; seats = cleared ∷ cleared ∷ []; rows = replicate 4 255; holders = replicate 10 77 };
   past = [];
 }
-
--- every row gives its answer
-pub stars-hold : given stars lent lent ≡ asked stars
-unfolding given asked stars block_of byte_of lawful power_from sum file_lengths joined_from lengths end_from parts_from sizes_in step start_of sizes_fit lowest_free sit_of seated_at leave_of at_zero_of left feed_of message_of have_of bitfield_of over_top announced each_from or_bytes read_of sized_of least most message_by big_endian_of number_bytes event phase misplaced round_of block_frame four_from lowest_without decode value_from items_of entries_of kind_of string_of closed_of integer_of key_of digits_val digits_len key_lt count_in listing_of file_lines slashed escaped_by files_in elements_in lookup same_key torrent_of top_of info_of torrent_sized lengths_of file_of elements_of good_name clean decimal_in encode
-stars-hold = refl

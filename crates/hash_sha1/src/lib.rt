@@ -1,5 +1,6 @@
 // SHA-1 (FIPS 180-4) of a lent slice, or of a message that comes in parts (`stream`).
 #![tactic(auto)]
+
 mod block;
 mod once;
 pub mod stream;

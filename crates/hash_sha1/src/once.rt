@@ -28,7 +28,7 @@ fn last(h: Hash, held: &[u8], count: u32) -> Hash
     let bits = (count as u64) * 8;
     // Made here and lent to each step: an array that a call hands back is there twice.
     let mut end = [0u8; 64];
-    bytes::copy(held, &mut end);
+    end[..held.len()].copy_from_slice(held);
     end[held.len()] = 128;
     if held.len() < 56 {
         refusal::big_endian::write8(&mut end, 56, bits);

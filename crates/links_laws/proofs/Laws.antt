@@ -169,8 +169,8 @@ module _ (s h d t : List ℕ) (r : Linked) {h₁ d₁ t₁ : List ℕ} (e : left
       let g = e ∙ sym f in
       (sym (again r) ∙ ap (λ (x : Left). linked_as x.answer) g ∙ again q, ap (λ (x : Left). x.hash) g, ap (λ (x : Left). x.name) g, ap (λ (x : Left). x.address) g)
 
-  pub read_keeps : (n p : ℕ) → paper r ≡ refused n p → (h₁ ≡ h) × (d₁ ≡ d) × (t₁ ≡ t)
-  read_keeps n p k =
+  pub read-keeps : (n p : ℕ) → paper r ≡ refused n p → (h₁ ≡ h) × (d₁ ≡ d) × (t₁ ≡ t)
+  read-keeps n p k =
       let (x, y, z) = reading-keeps s h d t n p (sym (ap (λ (l : Left). l.answer) e) ∙ k) in
       (ap (λ (l : Left). l.hash) e ∙ x, ap (λ (l : Left). l.name) e ∙ y, ap (λ (l : Left). l.address) e ∙ z)
 

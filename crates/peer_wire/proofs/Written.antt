@@ -78,9 +78,9 @@ module _ (rest o : List ℕ) where
   pub write-exactly : (a : Outcome ℕ) → ((write_of rest o).answer ≡ a → WriteCause rest o a) × (WriteCause rest o a → (write_of rest o).answer ≡ a)
   write-exactly a = (λ e. rw e at write-decided, write-decides a)
 
-  pub write_keeps : (n p : ℕ) → (write_of rest o).answer ≡ refused n p → (write_of rest o).out ≡ o
+  pub write-keeps : (n p : ℕ) → (write_of rest o).answer ≡ refused n p → (write_of rest o).out ≡ o
   unfolding write_of put_of
-  write_keeps n p =
+  write-keeps n p =
       by-test (λ (l : Left). l.answer ≡ refused n p → l.out ≡ o) (ltb longest_frame (length rest)) (λ e k. refl)
       (λ e. by-test (λ (l : Left). l.answer ≡ refused n p → l.out ≡ o) (allowed (get_or rest 0 0) (length rest))
       (λ f. by-test (λ (l : Left). l.answer ≡ refused n p → l.out ≡ o) (leb (0 + length (framed rest)) (length o))
@@ -93,7 +93,7 @@ module _ (rest o : List ℕ) where
     pub refusal-keeps : {n p : ℕ} → paper r ≡ refused n p → WriteCause rest o (refused n p) × (out ≡ o)
     refusal-keeps {n} {p} k =
         let a : (write_of rest o).answer ≡ refused n p = ap (λ (l : Left). l.answer) (sym e) ∙ k in
-        (rw a at write-decided, ap (λ (l : Left). l.out) e ∙ write_keeps n p a)
+        (rw a at write-decided, ap (λ (l : Left). l.out) e ∙ write-keeps n p a)
 
     pub write-taken : {q : ℕ} → paper r ≡ taken q → Lengths rest × (left (paper r) out ≡ put_of (framed rest) 0 o)
     unfolding write_of

@@ -1,6 +1,7 @@
 // The wire between peers: frames and the handshake, read from the start of lent bytes. `write` has the writers.
 // Each reader uses only the first frame or handshake that the bytes hold; a wait uses nothing.
 #![tactic(auto)]
+
 ghost use Rattle.std.specs.Prelude.{◌≡◌, true, ◌&&◌, ◌+◌, ◌-◌, ◌≤◌, ◌<◌, leb, length, get_or};
 ghost use Rattle.peer_wire.specs.Frames.{allowed, number_in, message_in, sized_of, read_of, message, paper};
 ghost use Rattle.peer_wire.specs.Handshake.{agree, shake_of};

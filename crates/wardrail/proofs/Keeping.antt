@@ -12,7 +12,7 @@ use Rattle.bencode_writer.specs.Put.{put_of}
 use Rattle.bencode_writer.specs.declared.Put.TheVariants.{Refused}
 use Rattle.bencode_writer.proofs.Laws.{refusal-keeps}
 use Rattle.peer_wire.specs.Frames.{write_of}
-use Rattle.peer_wire.proofs.Written.{write_keeps}
+use Rattle.peer_wire.proofs.Written.{write-keeps}
 use Rattle.tracker.specs.Writing.{write_of as reply_text_of}
 use Rattle.tracker.proofs.Rewriting.{refusal-keeps as reply-keeps}
 use Rattle.torrent_authoring.specs.Writing.{Fields, write_of as torrent_text_of}
@@ -24,7 +24,7 @@ use Rattle.links.specs.Reading.{Sizes, left_of as read_to}
 use Rattle.links.specs.Writing.{write_of as link_text_of}
 use Rattle.links.proofs.Answers.{link-keeps, reading-keeps}
 use Rattle.week.specs.Writing.{write_of as week_text_of}
-use Rattle.week.proofs.Answers.{write_keeps as week-keeps}
+use Rattle.week.proofs.Answers.{write-keeps as week-keeps}
 use Rattle.wardrail.specs.Said.{word_of, left_of, Tells}
 use Rattle.wardrail.specs.Addresses.{word_from, address_detail, TellsOf}
 use Rattle.wardrail.specs.Magnets.{link_detail, ReadTo}
@@ -66,7 +66,7 @@ same_left : (l : Left ℕ) (n p : ℕ) → l.answer ≡ refused n p → left (re
 same_left l n p e = ap (λ (a : Outcome ℕ). left a l.out) (sym e)
 
 pub write-frame-keeps : (body o : List ℕ) → Keeps (write_of body o) o
-write-frame-keeps body o = keeps (write_of body o) o (write_keeps body o)
+write-frame-keeps body o = keeps (write_of body o) o (write-keeps body o)
 
 -- of a keepalive and a handshake, which are put as they are
 pub put_keeps : (w o : List ℕ) → Keeps (put_of w 0 o) o

@@ -58,5 +58,5 @@ told-determined r t e f = sym (told-again r) ∙ ap told_as (e ∙ sym f) ∙ to
 pub write-determined : (bs ns o : List ℕ) (r t : Put) {out out₁ : List ℕ} → left (put_paper r) out ≡ write_of bs ns o → left (put_paper t) out₁ ≡ write_of bs ns o → (r ≡ t) × (out ≡ out₁)
 write-determined bs ns o r t e f = (paper-apart r t (ap (λ (x : Left). x.answer) (e ∙ sym f)), ap (λ (x : Left). x.out) (e ∙ sym f))
 
-pub write_keeps : (bs ns o : List ℕ) (r : Put) {out : List ℕ} → left (put_paper r) out ≡ write_of bs ns o → (n p : ℕ) → put_paper r ≡ refused n p → out ≡ o
-write_keeps bs ns o r e n p h = puts-keeps (written_of bs ns) o r e n p h
+pub write-keeps : (bs ns o : List ℕ) (r : Put) {out : List ℕ} → left (put_paper r) out ≡ write_of bs ns o → (n p : ℕ) → put_paper r ≡ refused n p → out ≡ o
+write-keeps bs ns o r e n p h = puts-keeps (written_of bs ns) o r e n p h

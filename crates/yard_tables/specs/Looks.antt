@@ -1,6 +1,5 @@
 -- The missing list, the scarcest piece, and single looks. Assumes nothing: these are definitions.
 use Rattle.std.specs.Prelude.{Bool, not, cond, ◌&&◌, List, [], ◌∷◌, ℕ, suc, min, eqb, ltb, leb, length, get_or, take, drop}
-use Rattle.refusal.specs.Paper.{taken}
 use Rattle.refusal.specs.Numbers.{seat, beyond}
 use Rattle.yard_tables.specs.Rows.{width, has_in}
 use Rattle.yard_tables.specs.Seats.{on}

@@ -1,5 +1,6 @@
 // The yard's tables, and what a call answers. The definitions (specs/) say what each call makes of them.
 #![tactic(auto)]
+
 ghost use Rattle.std.specs.Prelude.{◌≡◌};
 ghost use Rattle.yard_tables.specs.Seats.{on, cleared, arrived};
 

@@ -1,5 +1,4 @@
 -- `bencode_writer::integer` meets its contract, by the sign. Assumes nothing.
-use borrow.Author.Rules.{rules}
 use mir.Syntax.{w64}
 use mir.ValLaws.{to_z-of_z}
 use Rattle.bencode_writer.proofs.Signs.{written_below, written_from}

@@ -1,9 +1,8 @@
 -- `bencode_writer::joined` meets its contract: where both tests find room, the four stores are one run of stores. Assumes nothing.
 use mathlib.Core.Path.{◌≡◌, ap, ◌∙◌}
-use mathlib.Core.List.{List, ◌∷◌, ◌++◌}
-use Prim.Native.Nat.{ℕ, ◌+◌, ◌≤◌}
+use mathlib.Core.List.{◌∷◌, ◌++◌}
+use Prim.Native.Nat.{◌+◌, ◌≤◌}
 use native.Mathlib.Omega.{arith}
-use borrow.Author.Rules.{rules}
 use borrow.Author.Tests.{not-true, not-false}
 use lib.ListN.{length, length-set}
 use lib.Seq.{sets, length-sets}
@@ -48,12 +47,9 @@ overflow_add-end c = omega (arith, room (goal.at.overflow_add-end c).Else-not-ha
 pub store-requires : goal.store-requires
 store-requires c = simp length-set (omega (arith, room (goal.at.store-requires c).Else-not-has_room-2))
 
-abbrev whole : Else-not-has_room-2 → List ℕ
-whole c = let a = c.args in a.before.now ++ (decimal a.n ++ (a.mark ∷ a.after.now))
-
-stored : (c : After-slice_known-4-1) → c.store.new.out ≡ sets (entry c).args.out.now (entry c).args.at (whole c)
+stored : (c : After-slice_known-4-1) → c.store.new.out ≡ sets c.args.out.now c.args.at (c.args.before.now ++ (decimal c.args.n ++ (c.args.mark ∷ c.args.after.now)))
 stored c =
-    let a = (entry c).args in
+    let a = c.args in
     let first = c.store-start.ensures in
     let second = c.store_decimal-end.ensures in
     c.store.ensures.out
@@ -64,6 +60,6 @@ shape_of-out c = ap length (stored (goal.at.shape_of-out c).After-slice_known-4-
 
 pub returns : goal.returns
 returns c =
-    let a = (entry c).args in
+    let a = c.args in
     let l = length-joined a.before.now (decimal a.n) a.mark a.after.now in
     put-done _ _ _ (omega (arith, room (goal.at.returns c).Else-not-has_room-2)) (omega (arith, room (goal.at.returns c).Else-not-has_room-2)) (stored (goal.at.returns c).After-slice_known-4-1)

@@ -125,21 +125,6 @@ answer_of (a-sheet other q t d e r c) = about OfSheet (told r)
 answer_of (a-link-written r out c) = put_paper r
 answer_of (a-link-sized r c) = link_size_paper r
 
--- they refuse by 1 to 7 as bencode does
-pub as-decoded : (text : Lent (List ℕ)) (r : Reader text) (k p : ℕ) → k ≤ 7 → answer_of r ≡ refused k p ↔ decode (before text) ≡ refused k p
-as-decoded text (check r c) k p l = Iff·trans (same_answer c.0) (readers.check (before text) k p l)
-as-decoded text (torrent r c) k p l = Iff·trans (same_answer c) (readers.torrent (before text) k p l)
-as-decoded text (info-hash r out c) k p l = Iff·trans (left-answer c) (readers.info-hash (before out) (before text) k p l)
-as-decoded text (a-file n r c) k p l = Iff·trans (same_answer c) (readers.file n (before text) k p l)
-as-decoded text (piece-hash n r c) k p l = Iff·trans (same_answer c) (readers.piece-hash n.0 (before text) k p l)
-as-decoded text (piece-check n bytes r c) k p l = Iff·trans (same_answer c) (readers.piece-check n.0 (before bytes) (before text) k p l)
-as-decoded text (reply r c) k p l = Iff·trans (same_answer c) (readers.reply (before text) k p l)
-as-decoded text (a-peer n r c) k p l = Iff·trans (same_answer c) (readers.peer n (before text) k p l)
-as-decoded text (beside-a-sheet other r c) k p l = Iff·trans (same_answer (ap (about OfTorrent) c)) (sheets-laws.torrent-read (before text) (before other) k p l)
-as-decoded text (a-sheet other q t d e r c) k p l = Iff·trans (same_answer (ap (about OfSheet) c)) (sheets-laws.sheet-read (before other) (before text) t (sym d ∙ e) k p l)
-as-decoded text (a-link-written r out c) k p l = Iff·trans (left-answer c) (links-laws.write_read (before text) (before out) k p l)
-as-decoded text (a-link-sized r c) k p l = Iff·trans (same_answer c) (links-laws.size-read (before text) k p l)
-
 -- ---- the other calls that read a text: a look at a place of one, a week's file, a link
 
 -- such a call, by its contract, refuses by k at p
@@ -171,16 +156,6 @@ pub data Frames (r : Put) (out : Lent (List ℕ)) : List ℕ → Type 0 where
   a_piece : (index : PieceNumber) (begin : PieceOffset) (block : Lent (List ℕ)) → writing.piece-ensures index begin block r out → Frames r out (body (piece index.0 begin.0 (before block)))
   a-cancel : (index : PieceNumber) (begin : PieceOffset) (len : ℕ) → writing.cancel-ensures index begin len r out → Frames r out (body (cancel index.0 begin.0 len))
 
--- what they answer and leave goes by the rest alone
-pub as-framed : (r : Put) (out : Lent (List ℕ)) (rest : List ℕ) → Frames r out rest → left (put_paper r) (after out) ≡ write_of rest (before out)
-as-framed r out rest (raw id payload c) = c
-as-framed r out rest (plain id c) = c
-as-framed r out rest (a-have index c) = c
-as-framed r out rest (a-bitfield bits c) = c
-as-framed r out rest (a-request index begin len c) = c
-as-framed r out rest (a_piece index begin block c) = c
-as-framed r out rest (a-cancel index begin len c) = c
-
 -- ---- calls that put bytes at a place of the output
 
 -- such a call, with an answer and an output that its contract permits; w are the bytes, and `at` is the place
@@ -193,13 +168,3 @@ pub data Puts (r : Put) (out : Lent (List ℕ)) : List ℕ → ℕ → Type 0 wh
   a-keepalive : writing.keepalive-ensures r out → Puts r out (encode keepalive) 0
   a-handshake : (info peer : Lent (List ℕ)) → writing.handshake-ensures info peer r out → Puts r out (handshake zeros (before info) (before peer)) 0
   a-listing : (text : Lent (List ℕ)) → lines.listing-ensures text r out → Puts r out (listing_of (before text)) 0
-
-pub as-put : (r : Put) (out : Lent (List ℕ)) (w : List ℕ) (at : ℕ) → Puts r out w at → left (put_paper r) (after out) ≡ put_of w at (before out)
-as-put r out w at (literal i bytes c) = c
-as-put r out w at (small-hex i bytes c) = c
-as-put r out w at (a-decimal i n c) = c
-as-put r out w at (string i bytes c) = c
-as-put r out w at (integer i z c) = c
-as-put r out w at (a-keepalive c) = c
-as-put r out w at (a-handshake info id c) = c
-as-put r out w at (a-listing text c) = c.0

@@ -1,5 +1,4 @@
 -- `torrent_blocks::block` meets its contract: each end is a law of `Ends`, from what the tests before it have shown. Assumes nothing.
-use borrow.Author.Rules.{rules}
 use Rattle.torrent_blocks.specs.Answers.{lies}
 use Rattle.torrent_blocks.specs.Steps.{files_from}
 use Rattle.torrent_blocks.specs.Spans.{parts_from}

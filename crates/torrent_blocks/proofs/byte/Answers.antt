@@ -1,5 +1,4 @@
 -- `torrent_blocks::byte` meets its contract: each end is a law of `Ends`, from what the tests before it have shown. Assumes nothing.
-use borrow.Author.Rules.{rules}
 use Rattle.torrent_blocks.proofs.Ends.{Known, test-fails, test-holds, reached-all, byte-11, byte-31, byte-34, byte-done, place_inside, place-number}
 use borrow.Author.Tests.{not-true, not-false}
 use mathlib.Core.Path.{◌≡◌}

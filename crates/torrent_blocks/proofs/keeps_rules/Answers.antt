@@ -1,5 +1,4 @@
 -- `torrent_blocks::keeps_rules` meets its contract: the rules are tested in the order of the definition. Assumes nothing.
-use borrow.Author.Rules.{rules}
 use borrow.Author.Tests.{not-true, not-false}
 use mathlib.Core.Path.{sym, ◌∙◌}
 use mathlib.Core.Path.{ap}

@@ -1,11 +1,8 @@
 -- `torrent_blocks::overlaps` meets its contract. The invariant: the parts counted and those of the files left are all. The measure is what is left of the lengths. Assumes nothing.
-use mathlib.Core.Logic.{⊎_elim}
-use Rattle.torrent_blocks.proofs.Steps.{Counting, counting-start, counting-some, counting-none, counting-past, counting-end}
-use lib.ListN.{length}
-use borrow.Author.Rules.{rules}
+use Rattle.torrent_blocks.proofs.Steps.{counting-start, counting-some, counting-none, counting-past, counting-end}
 use native.Mathlib.Omega.{arith}
-use Prim.Native.Nat.{◌-◌}
 use Rattle.torrent_blocks.proofs.overlaps.Goals as goal
+use Rattle.torrent_blocks.proofs.overlaps.Goals.{then-larger-smaller, else-larger-smaller}
 
 pub loop-i-init : goal.loop-i-init
 loop-i-init c =
@@ -22,7 +19,7 @@ pub loop-i-preserved : goal.loop-i-preserved
 loop-i-preserved c =
     let a = c.args in
     let l = c.loop-i in
-    ⊎_elim (λ w. rw w.1 (counting-some a.lengths.now a.first.number a.first.start.0 a.from.0 a.to.0 l.parts l.start.0 l.i c.with_file-end.result.0 l.invariant (omega arith) c.with_file-end.ensures (omega arith) (omega arith))) (λ w. rw w.1 (counting-none a.lengths.now a.first.number a.first.start.0 a.from.0 a.to.0 l.parts l.start.0 l.i c.with_file-end.result.0 l.invariant (omega arith) c.with_file-end.ensures (omega arith) (omega arith))) c.if-larger-smaller.branch
+    elim c.if-larger-smaller.branch [ then-larger-smaller w ↦ rw w.parts-is (counting-some a.lengths.now a.first.number a.first.start.0 a.from.0 a.to.0 l.parts l.start.0 l.i c.with_file-end.result.0 l.invariant (omega arith) c.with_file-end.ensures (omega arith) (omega arith)) | else-larger-smaller w ↦ rw w.parts-is (counting-none a.lengths.now a.first.number a.first.start.0 a.from.0 a.to.0 l.parts l.start.0 l.i c.with_file-end.result.0 l.invariant (omega arith) c.with_file-end.ensures (omega arith) (omega arith)) ]
 
 pub returns : goal.returns
 returns c =

@@ -1,9 +1,6 @@
 -- `torrent_blocks::overlaps` meets its contract. The invariant: the parts counted and those of the files left are all. The measure is what is left of the lengths. Assumes nothing.
-use mathlib.Core.Logic.{⊎_elim}
-use Rattle.torrent_blocks.proofs.Steps.{Counting, counting-start, counting-some, counting-none, counting-past, counting-end}
+use Rattle.torrent_blocks.proofs.Steps.{Counting}
 use lib.ListN.{length}
-use borrow.Author.Rules.{rules}
-use native.Mathlib.Omega.{arith}
 use Prim.Native.Nat.{◌-◌}
 use Rattle.torrent_blocks.proofs.overlaps.Given as goal
 

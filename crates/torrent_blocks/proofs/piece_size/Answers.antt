@@ -1,5 +1,4 @@
 -- `torrent_blocks::piece_size` meets its contract: each end is a law of `Ends`, from what the tests before it have shown. Assumes nothing.
-use borrow.Author.Rules.{rules}
 use Rattle.torrent_blocks.proofs.Ends.{Known, total-all, test-fails, test-holds, size-11, size-31, size-done}
 use borrow.Author.Tests.{not-true, not-false}
 use mathlib.Core.Path.{◌∙◌}

@@ -1,12 +1,9 @@
 -- `torrent_blocks::write` meets its contract. The invariant: the parts of the files left, written from here on, give what is to be given. The measure is what is left of the lengths. Assumes nothing.
-use mathlib.Core.Logic.{⊎_elim}
-use Rattle.torrent_blocks.proofs.Steps.{Writing, writing_start, writing-room, writing-some, writing-none, writing-past, writing-end}
-use lib.ListN.{length}
+use Rattle.torrent_blocks.proofs.Steps.{writing_start, writing-room, writing-some, writing-none, writing-past, writing-end}
 use mathlib.Core.Path.{◌∙◌}
-use borrow.Author.Rules.{rules}
 use native.Mathlib.Omega.{arith}
-use Prim.Native.Nat.{◌-◌}
 use Rattle.torrent_blocks.proofs.write.Goals as goal
+use Rattle.torrent_blocks.proofs.write.Goals.{then-low-high, else-low-high}
 
 pub loop-i-init : goal.loop-i-init
 loop-i-init c =
@@ -31,7 +28,7 @@ overflow_add-at c =
 pub loop-i-preserved : goal.loop-i-preserved
 loop-i-preserved c =
     let a = c.args in
-    ⊎_elim (λ w. writing-some a.lengths.now a.first.number a.first.start.0 a.from.0 a.to.0 a.out.now c.loop-i.out c.loop-i.at c.loop-i.start.0 c.loop-i.i c.with_file-end.result.0 c.loop-i.invariant (omega arith) c.with_file-end.ensures (omega arith) c.larger-low.result c.smaller-high.result c.larger-low.ensures c.smaller-high.ensures w.0.taken (w.5 ∙ w.2.ensures) w.6) (λ w. writing-none a.lengths.now a.first.number a.first.start.0 a.from.0 a.to.0 a.out.now c.loop-i.out c.loop-i.at c.loop-i.start.0 c.loop-i.i c.with_file-end.result.0 c.loop-i.invariant (omega arith) c.with_file-end.ensures (omega arith) (omega arith) w.1 w.2) c.if-low-high.branch
+    elim c.if-low-high.branch [ then-low-high w ↦ writing-some a.lengths.now a.first.number a.first.start.0 a.from.0 a.to.0 a.out.now c.loop-i.out c.loop-i.at c.loop-i.start.0 c.loop-i.i c.with_file-end.result.0 c.loop-i.invariant (omega arith) c.with_file-end.ensures (omega arith) c.larger-low.result c.smaller-high.result c.larger-low.ensures c.smaller-high.ensures w.if-low-high.true (w.out-is ∙ w.put.ensures) w.at-is | else-low-high w ↦ writing-none a.lengths.now a.first.number a.first.start.0 a.from.0 a.to.0 a.out.now c.loop-i.out c.loop-i.at c.loop-i.start.0 c.loop-i.i c.with_file-end.result.0 c.loop-i.invariant (omega arith) c.with_file-end.ensures (omega arith) (omega arith) w.out-is w.at-is ]
 
 pub returns : goal.returns
 returns c =

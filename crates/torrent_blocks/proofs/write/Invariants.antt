@@ -1,10 +1,6 @@
 -- `torrent_blocks::write` meets its contract. The invariant: the parts of the files left, written from here on, give what is to be given. The measure is what is left of the lengths. Assumes nothing.
-use mathlib.Core.Logic.{⊎_elim}
-use Rattle.torrent_blocks.proofs.Steps.{Writing, writing_start, writing-room, writing-some, writing-none, writing-past, writing-end}
+use Rattle.torrent_blocks.proofs.Steps.{Writing}
 use lib.ListN.{length}
-use mathlib.Core.Path.{◌∙◌}
-use borrow.Author.Rules.{rules}
-use native.Mathlib.Omega.{arith}
 use Prim.Native.Nat.{◌-◌}
 use Rattle.torrent_blocks.proofs.write.Given as goal
 

@@ -12,16 +12,7 @@ abbrev pub write-ensures : (announce name : Lent (List ℕ)) (piece_length : ℕ
 write-ensures announce name piece_length pieces length r out =
     left (put_paper r) (now out.exit) ≡ write_of (fields (now announce.entry) (now name.entry) piece_length (now pieces.entry) length) (now out.entry)
 
-pub write-determined : (announce name : Lent (List ℕ)) (piece_length : ℕ) (pieces : Lent (List ℕ)) (length : ℕ) → Determined1 (write-ensures announce name piece_length pieces length)
-write-determined announce name piece_length pieces length out r r' out₁ out₂ e f = laws.write-determined _ _ r e r' f
-
-pub write_keeps : (announce name : Lent (List ℕ)) (piece_length : ℕ) (pieces : Lent (List ℕ)) (length : ℕ) → Keeps1 (write-ensures announce name piece_length pieces length) (λ r. Refused (put_paper r))
-write_keeps announce name piece_length pieces length r out e k = (laws.refusal-keeps _ _ r e k.0 k.1 k.2).2
-
 -- torrent_authoring::size
 abbrev pub size-ensures : (announce name : Lent (List ℕ)) (piece_length : ℕ) (pieces : Lent (List ℕ)) (length : ℕ) → Sized → Type 0
 size-ensures announce name piece_length pieces length r =
     paper r ≡ size_of (fields (now announce.entry) (now name.entry) piece_length (now pieces.entry) length)
-
-pub size-determined : (announce name : Lent (List ℕ)) (piece_length : ℕ) (pieces : Lent (List ℕ)) (length : ℕ) → Determined (size-ensures announce name piece_length pieces length)
-size-determined announce name piece_length pieces length r r' e f = laws.size-determined _ r r' e f

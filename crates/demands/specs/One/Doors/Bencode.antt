@@ -9,6 +9,3 @@ use Rattle.demands.specs.One.{Lent, now, Determined}
 -- bencode::check
 abbrev pub check-ensures : (text : Lent (List ℕ)) → Checked → Type 0
 check-ensures text r = (paper r ≡ check_of (now text.entry)) × (Exactly (now text.entry) (paper r))
-
-pub check-determined : (text : Lent (List ℕ)) → Determined (check-ensures text)
-check-determined text r r' e f = laws.check-determined _ r r' e.0 f.0

@@ -15,22 +15,10 @@ abbrev pub block-ensures : (lengths : Lent (List ℕ)) (piece_length : ℕ) (pie
 block-ensures lengths piece_length piece offset count r out =
     left (parts_paper r) (now out.exit) ≡ parts_written (block_of (joined_files (now lengths.entry)) piece_length (spot piece.0 offset.0) count) (now out.entry)
 
-pub block-determined : (lengths : Lent (List ℕ)) (piece_length : ℕ) (piece : PieceNumber) (offset : PieceOffset) (count : ℕ) → Determined1 (block-ensures lengths piece_length piece offset count)
-block-determined lengths piece_length piece offset count out r r' out₁ out₂ e f = laws.block-determined _ _ _ _ _ _ r _ e r' _ f
-
-pub block-keeps : (lengths : Lent (List ℕ)) (piece_length : ℕ) (piece : PieceNumber) (offset : PieceOffset) (count : ℕ) → Keeps1 (block-ensures lengths piece_length piece offset count) (λ r. Refused (parts_paper r))
-block-keeps lengths piece_length piece offset count r out e k = laws.block-refusal-keeps _ _ _ _ _ _ r _ e k.0 k.1 k.2
-
 -- torrent_blocks::byte
 abbrev pub byte-ensures : (lengths : Lent (List ℕ)) (piece_length file offset : ℕ) → Place → Type 0
 byte-ensures lengths piece_length file offset r = place_paper r ≡ byte_of (joined_files (now lengths.entry)) piece_length file offset
 
-pub byte-determined : (lengths : Lent (List ℕ)) (piece_length file offset : ℕ) → Determined (byte-ensures lengths piece_length file offset)
-byte-determined lengths piece_length file offset r r' e f = laws.byte-determined _ _ _ _ r r' e f
-
 -- torrent_blocks::piece_size
 abbrev pub piece_size-ensures : (lengths : Lent (List ℕ)) (piece_length : ℕ) (piece : PieceNumber) → Size → Type 0
 piece_size-ensures lengths piece_length piece r = size_paper r ≡ size_of (joined_files (now lengths.entry)) piece_length piece.0
-
-pub piece_size-determined : (lengths : Lent (List ℕ)) (piece_length : ℕ) (piece : PieceNumber) → Determined (piece_size-ensures lengths piece_length piece)
-piece_size-determined lengths piece_length piece r r' e f = laws.size-determined _ _ _ r r' e f

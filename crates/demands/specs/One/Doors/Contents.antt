@@ -15,26 +15,14 @@ use Rattle.demands.specs.One.{Lent, now, Determined}
 abbrev pub file-ensures : (text : Lent (List ℕ)) (number : ℕ) → Found → Type 0
 file-ensures text number r = found_paper r ≡ entry_of (now text.entry) number
 
-pub file-determined : (text : Lent (List ℕ)) (number : ℕ) → Determined (file-ensures text number)
-file-determined text number r r' e f = laws.file-determined _ _ r r' e f
-
 -- torrent_contents::element_at
 abbrev pub element_at-ensures : (text : Lent (List ℕ)) (at : ℕ) → Element → Type 0
 element_at-ensures text at r = element_paper r ≡ element_of (now text.entry) at
-
-pub element_at-determined : (text : Lent (List ℕ)) (at : ℕ) → Determined (element_at-ensures text at)
-element_at-determined text at r r' e f = laws.element-determined _ _ r r' e f
 
 -- torrent_contents::piece_hash
 abbrev pub piece_hash-ensures : (text : Lent (List ℕ)) (piece : PieceNumber) → Hash → Type 0
 piece_hash-ensures text piece r = hash_paper r ≡ hash_of (now text.entry) piece.0
 
-pub piece_hash-determined : (text : Lent (List ℕ)) (piece : PieceNumber) → Determined (piece_hash-ensures text piece)
-piece_hash-determined text piece r r' e f = laws.hash-determined _ _ r r' e f
-
 -- torrent_contents::check_piece
 abbrev pub check_piece-ensures : (text : Lent (List ℕ)) (piece : PieceNumber) (bytes : Lent (List ℕ)) → Checked → Type 0
 check_piece-ensures text piece bytes r = check_paper r ≡ check_of (now text.entry) piece.0 (now bytes.entry)
-
-pub check_piece-determined : (text : Lent (List ℕ)) (piece : PieceNumber) (bytes : Lent (List ℕ)) → Determined (check_piece-ensures text piece bytes)
-check_piece-determined text piece bytes r r' e f = laws.check-determined (now text.entry) piece.0 (now bytes.entry) r r' e f

@@ -23,107 +23,47 @@ abbrev pub file-ensures : (text : Lent (List ℕ)) (number : ℕ) → ℕ → Le
 file-ensures text number r detail =
     Tells (map file_detail (entry_of (now text.entry) number)) (now detail.entry) r (now detail.exit)
 
-pub file-determined : (text : Lent (List ℕ)) (number : ℕ) → Determined1 (file-ensures text number)
-file-determined text number detail r r' detail₁ detail₂ e f = said.tells-determined e f
-
-pub file-keeps : (text : Lent (List ℕ)) (number : ℕ) → Keeps1 (file-ensures text number) (λ (r : ℕ). r ≡ 0 → ⊥)
-file-keeps text number r detail e k = kept.tells-keeps e k
-
 -- wardrail::files::wardrail_file_at
 abbrev pub file_at-ensures : (text : Lent (List ℕ)) (at : ℕ) → ℕ → Lent (List ℕ) → Type 0
 file_at-ensures text at r detail =
     Tells (map walked_detail (file_at (now text.entry) at)) (now detail.entry) r (now detail.exit)
-
-pub file_at-determined : (text : Lent (List ℕ)) (at : ℕ) → Determined1 (file_at-ensures text at)
-file_at-determined text at detail r r' detail₁ detail₂ e f = said.tells-determined e f
-
-pub file_at-keeps : (text : Lent (List ℕ)) (at : ℕ) → Keeps1 (file_at-ensures text at) (λ (r : ℕ). r ≡ 0 → ⊥)
-file_at-keeps text at r detail e k = kept.tells-keeps e k
 
 -- wardrail::files::wardrail_element_at
 abbrev pub element_at-ensures : (text : Lent (List ℕ)) (at : ℕ) → ℕ → Lent (List ℕ) → Type 0
 element_at-ensures text at r detail =
     Tells (map element_detail (element_of (now text.entry) at)) (now detail.entry) r (now detail.exit)
 
-pub element_at-determined : (text : Lent (List ℕ)) (at : ℕ) → Determined1 (element_at-ensures text at)
-element_at-determined text at detail r r' detail₁ detail₂ e f = said.tells-determined e f
-
-pub element_at-keeps : (text : Lent (List ℕ)) (at : ℕ) → Keeps1 (element_at-ensures text at) (λ (r : ℕ). r ≡ 0 → ⊥)
-element_at-keeps text at r detail e k = kept.tells-keeps e k
-
 -- wardrail::files::wardrail_piece_hash
 abbrev pub piece_hash-ensures : (text : Lent (List ℕ)) (piece : ℕ) → ℕ → Lent (List ℕ) → Type 0
 piece_hash-ensures text piece r detail =
     Tells (map part_detail (hash_of (now text.entry) piece)) (now detail.entry) r (now detail.exit)
-
-pub piece_hash-determined : (text : Lent (List ℕ)) (piece : ℕ) → Determined1 (piece_hash-ensures text piece)
-piece_hash-determined text piece detail r r' detail₁ detail₂ e f = said.tells-determined e f
-
-pub piece_hash-keeps : (text : Lent (List ℕ)) (piece : ℕ) → Keeps1 (piece_hash-ensures text piece) (λ (r : ℕ). r ≡ 0 → ⊥)
-piece_hash-keeps text piece r detail e k = kept.tells-keeps e k
 
 -- wardrail::files::wardrail_piece_check
 abbrev pub piece-check-ensures : (text : Lent (List ℕ)) (piece : ℕ) (bytes : Lent (List ℕ)) → ℕ → Lent ℕ → Type 0
 piece-check-ensures text piece bytes r detail =
     Tells (map yes_detail (check_of (now text.entry) piece (now bytes.entry))) (now detail.entry) r (now detail.exit)
 
-pub piece-check-determined : (text : Lent (List ℕ)) (piece : ℕ) (bytes : Lent (List ℕ)) → Determined1 (piece-check-ensures text piece bytes)
-piece-check-determined text piece bytes detail r r' detail₁ detail₂ e f = said.tells-determined e f
-
-pub piece-check-keeps : (text : Lent (List ℕ)) (piece : ℕ) (bytes : Lent (List ℕ)) → Keeps1 (piece-check-ensures text piece bytes) (λ (r : ℕ). r ≡ 0 → ⊥)
-piece-check-keeps text piece bytes r detail e k = kept.tells-keeps e k
-
 -- wardrail::frames::wardrail_frame
 abbrev pub frame-ensures : (bytes : Lent (List ℕ)) → ℕ → Lent (List ℕ) → Type 0
 frame-ensures bytes r detail =
     Tells (frame_told (read_of (now bytes.entry))) (now detail.entry) r (now detail.exit)
-
-pub frame-determined : (bytes : Lent (List ℕ)) → Determined1 (frame-ensures bytes)
-frame-determined bytes detail r r' detail₁ detail₂ e f = said.tells-determined e f
-
-pub frame-keeps : (bytes : Lent (List ℕ)) → Keeps1 (frame-ensures bytes) (λ (r : ℕ). r ≡ 0 → ⊥)
-frame-keeps bytes r detail e k = kept.tells-keeps e k
 
 -- wardrail::frames::wardrail_handshake
 abbrev pub handshake-ensures : (bytes info : Lent (List ℕ)) → ℕ → Lent (List ℕ) → Type 0
 handshake-ensures bytes info r detail =
     Tells (shake_told (shake_of (now info.entry) (now bytes.entry))) (now detail.entry) r (now detail.exit)
 
-pub handshake-determined : (bytes info : Lent (List ℕ)) → Determined1 (handshake-ensures bytes info)
-handshake-determined bytes info detail r r' detail₁ detail₂ e f = said.tells-determined e f
-
-pub handshake-keeps : (bytes info : Lent (List ℕ)) → Keeps1 (handshake-ensures bytes info) (λ (r : ℕ). r ≡ 0 → ⊥)
-handshake-keeps bytes info r detail e k = kept.tells-keeps e k
-
 -- wardrail::mapping::wardrail_block
 abbrev pub block-ensures : (lengths : Lent (List ℕ)) (piece_length piece offset count : ℕ) → ℕ → Lent (List ℕ) → Lent ℕ → Type 0
 block-ensures lengths piece_length piece offset count r out detail =
     Wrote (parts_written (block_of (joined_files (now lengths.entry)) piece_length (spot piece offset) count) (now out.entry)) (now detail.entry) r (now detail.exit) (now out.exit)
-
-pub block-determined : (lengths : Lent (List ℕ)) (piece_length piece offset count : ℕ) → Determined2 (block-ensures lengths piece_length piece offset count)
-block-determined lengths piece_length piece offset count out detail r r' out₁ out₂ detail₁ detail₂ e f = said.wrote-determined e f
-
-pub block-keeps : (lengths : Lent (List ℕ)) (piece_length piece offset count : ℕ) → Keeps2 (block-ensures lengths piece_length piece offset count) (λ (r : ℕ). r ≡ 0 → ⊥)
-block-keeps lengths piece_length piece offset count r out detail e k = kept.block-keeps (now lengths.entry) piece_length piece offset count (now out.entry) _ _ _ _ e k
 
 -- wardrail::mapping::wardrail_byte
 abbrev pub byte-ensures : (lengths : Lent (List ℕ)) (piece_length file offset : ℕ) → ℕ → Lent (List ℕ) → Type 0
 byte-ensures lengths piece_length file offset r detail =
     Tells (map spot_detail (byte_of (joined_files (now lengths.entry)) piece_length file offset)) (now detail.entry) r (now detail.exit)
 
-pub byte-determined : (lengths : Lent (List ℕ)) (piece_length file offset : ℕ) → Determined1 (byte-ensures lengths piece_length file offset)
-byte-determined lengths piece_length file offset detail r r' detail₁ detail₂ e f = said.tells-determined e f
-
-pub byte-keeps : (lengths : Lent (List ℕ)) (piece_length file offset : ℕ) → Keeps1 (byte-ensures lengths piece_length file offset) (λ (r : ℕ). r ≡ 0 → ⊥)
-byte-keeps lengths piece_length file offset r detail e k = kept.tells-keeps e k
-
 -- wardrail::mapping::wardrail_piece_size
 abbrev pub piece_size-ensures : (lengths : Lent (List ℕ)) (piece_length piece : ℕ) → ℕ → Lent ℕ → Type 0
 piece_size-ensures lengths piece_length piece r detail =
     Tells (size_of (joined_files (now lengths.entry)) piece_length piece) (now detail.entry) r (now detail.exit)
-
-pub piece_size-determined : (lengths : Lent (List ℕ)) (piece_length piece : ℕ) → Determined1 (piece_size-ensures lengths piece_length piece)
-piece_size-determined lengths piece_length piece detail r r' detail₁ detail₂ e f = said.tells-determined e f
-
-pub piece_size-keeps : (lengths : Lent (List ℕ)) (piece_length piece : ℕ) → Keeps1 (piece_size-ensures lengths piece_length piece) (λ (r : ℕ). r ≡ 0 → ⊥)
-piece_size-keeps lengths piece_length piece r detail e k = kept.tells-keeps e k

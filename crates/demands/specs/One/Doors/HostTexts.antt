@@ -30,25 +30,6 @@ use Rattle.wardrail.proofs.Said as told
 use Rattle.demands_laws.proofs.Digests as digests
 use Rattle.demands.specs.One.{Lent, now, Determined1, Keeps1, Determined2, Determined4, Keeps4}
 
--- ---- the word of a refusal gives its number back, and its place below 2^55
-
-pub word_number : {A : Type 0} (x : Outcome A) (n p : ℕ) → x ≡ refused n p → n < 256 → number_in (word_of x) ≡ n
-word_number x n p e h = told.number-told x n p e h
-
-pub word-place : {A : Type 0} (x : Outcome A) (n p : ℕ) → x ≡ refused n p → n < 256 → p < 2 ^ 55 → place_in (word_of x) ≡ p
-word-place x n p e h k = told.place-told x n p e h k
-
--- and so does that of a refusal of one of two texts, which tells the text too: 1 for the torrent, 2 for the sheet
-
-pub word-of-number : (c : Source) (x : Outcome Part) (n p : ℕ) → x ≡ refused n p → n < 256 → number_in (word_from c x) ≡ n
-word-of-number c x n p e h = told.number-from c x n p e h
-
-pub word-of-place : (c : Source) (x : Outcome Part) (n p : ℕ) → x ≡ refused n p → n < 256 → p < 2 ^ 55 → place_in (word_from c x) ≡ p
-word-of-place c x n p e h k = told.place-from c x n p e h k
-
-pub word-of-text : (c : Source) (x : Outcome Part) (n p : ℕ) → x ≡ refused n p → n < 256 → p < 2 ^ 55 → text_in (word_from c x) ≡ text_number c
-word-of-text c x n p e h k = told.text-from c x n p e h k
-
 -- ---- the calls
 
 -- wardrail::wardrail_check
@@ -56,103 +37,46 @@ abbrev pub check-ensures : (text : Lent (List ℕ)) → ℕ → Lent ℕ → Typ
 check-ensures text r detail =
     Tells (check_of (now text.entry)) (now detail.entry) r (now detail.exit)
 
-pub check-determined : (text : Lent (List ℕ)) → Determined1 (check-ensures text)
-check-determined text detail r r' detail₁ detail₂ e f = said.tells-determined e f
-
-pub check-keeps : (text : Lent (List ℕ)) → Keeps1 (check-ensures text) (λ (r : ℕ). r ≡ 0 → ⊥)
-check-keeps text r detail e k = kept.tells-keeps e k
-
 -- wardrail::looks::wardrail_look
 abbrev pub look-ensures : (text : Lent (List ℕ)) (at : ℕ) → ℕ → Lent (List ℕ) → Type 0
 look-ensures text at r detail =
     Tells (map look_detail (look_of (now text.entry) at)) (now detail.entry) r (now detail.exit)
-
-pub look-determined : (text : Lent (List ℕ)) (at : ℕ) → Determined1 (look-ensures text at)
-look-determined text at detail r r' detail₁ detail₂ e f = said.tells-determined e f
-
-pub look-keeps : (text : Lent (List ℕ)) (at : ℕ) → Keeps1 (look-ensures text at) (λ (r : ℕ). r ≡ 0 → ⊥)
-look-keeps text at r detail e k = kept.tells-keeps e k
 
 -- wardrail::addresses::wardrail_address
 abbrev pub address-ensures : (torrent sheet : Lent (List ℕ)) → ℕ → Lent (List ℕ) → Type 0
 address-ensures torrent sheet r detail =
     TellsOf (find_of (now torrent.entry) (now sheet.entry)) (now detail.entry) r (now detail.exit)
 
-pub address-determined : (torrent sheet : Lent (List ℕ)) → Determined1 (address-ensures torrent sheet)
-address-determined torrent sheet detail r r' detail₁ detail₂ e f = said.tells-of-determined e f
-
-pub address-keeps : (torrent sheet : Lent (List ℕ)) → Keeps1 (address-ensures torrent sheet) (λ (r : ℕ). r ≡ 0 → ⊥)
-address-keeps torrent sheet r detail e k = kept.tells-of-keeps e k
-
 -- wardrail::magnets::wardrail_link
 abbrev pub link-ensures : (text : Lent (List ℕ)) → ℕ → Lent (List ℕ) → Lent (List ℕ) → Lent (List ℕ) → Lent (List ℕ) → Type 0
 link-ensures text r hash name address detail =
     ReadTo (left_of (now text.entry) (now hash.entry) (now name.entry) (now address.entry)) (now detail.entry) r (now detail.exit) (now hash.exit) (now name.exit) (now address.exit)
 
-pub link-determined : (text : Lent (List ℕ)) → Determined4 (link-ensures text)
-link-determined text hash name address detail r r' hash₁ name₁ address₁ detail₁ hash₂ name₂ address₂ detail₂ e f = said.read-to-determined e f
-
-pub link-keeps : (text : Lent (List ℕ)) → Keeps4 (link-ensures text) (λ (r : ℕ). r ≡ 0 → ⊥)
-link-keeps text r hash name address detail e k = kept.read-to-keeps _ _ _ _ _ _ _ _ _ _ e k
-
 -- wardrail::weeks::wardrail_week
 abbrev pub week-ensures : (file : Lent (List ℕ)) → ℕ → Lent (List ℕ) → Type 0
 week-ensures file r detail = Tells (map week_detail (week_of (now file.entry))) (now detail.entry) r (now detail.exit)
-
-pub week-determined : (file : Lent (List ℕ)) → Determined1 (week-ensures file)
-week-determined file detail r r' detail₁ detail₂ e f = said.tells-determined e f
-
-pub week-keeps : (file : Lent (List ℕ)) → Keeps1 (week-ensures file) (λ (r : ℕ). r ≡ 0 → ⊥)
-week-keeps file r detail e k = kept.tells-keeps e k
 
 -- wardrail::weeks::wardrail_week_package
 abbrev pub week-package-ensures : (file : Lent (List ℕ)) (number : ℕ) → ℕ → Lent (List ℕ) → Type 0
 week-package-ensures file number r detail = Tells (map package_detail (package_of (now file.entry) number)) (now detail.entry) r (now detail.exit)
 
-pub week-package-determined : (file : Lent (List ℕ)) (number : ℕ) → Determined1 (week-package-ensures file number)
-week-package-determined file number detail r r' detail₁ detail₂ e f = said.tells-determined e f
-
-pub week-package-keeps : (file : Lent (List ℕ)) (number : ℕ) → Keeps1 (week-package-ensures file number) (λ (r : ℕ). r ≡ 0 → ⊥)
-week-package-keeps file number r detail e k = kept.tells-keeps e k
-
 -- wardrail::weeks::wardrail_week_table
 abbrev pub week-table-ensures : (file : Lent (List ℕ)) → ℕ → Lent ℕ → Type 0
 week-table-ensures file r detail = Tells (table_of (now file.entry)) (now detail.entry) r (now detail.exit)
 
-pub week-table-determined : (file : Lent (List ℕ)) → Determined1 (week-table-ensures file)
-week-table-determined file detail r r' detail₁ detail₂ e f = said.tells-determined e f
-
-pub week-table-keeps : (file : Lent (List ℕ)) → Keeps1 (week-table-ensures file) (λ (r : ℕ). r ≡ 0 → ⊥)
-week-table-keeps file r detail e k = kept.tells-keeps e k
-
 -- wardrail::weeks::wardrail_week_package_at
 abbrev pub week-package-at-ensures : (file : Lent (List ℕ)) (number : ℕ) → ℕ → Lent (List ℕ) → Type 0
 week-package-at-ensures file number r detail = Tells (map package_detail (package_at (now file.entry) number)) (now detail.entry) r (now detail.exit)
-
-pub week-package-at-determined : (file : Lent (List ℕ)) (number : ℕ) → Determined1 (week-package-at-ensures file number)
-week-package-at-determined file number detail r r' detail₁ detail₂ e f = said.tells-determined e f
-
-pub week-package-at-keeps : (file : Lent (List ℕ)) (number : ℕ) → Keeps1 (week-package-at-ensures file number) (λ (r : ℕ). r ≡ 0 → ⊥)
-week-package-at-keeps file number r detail e k = kept.tells-keeps e k
 
 -- wardrail::wardrail_sha1
 abbrev pub sha1-ensures : (message : Lent (List ℕ)) → ℕ → Lent (List ℕ) → Type 0
 sha1-ensures message r digest =
     Digested (digest_of (now message.entry) (now digest.entry)) r (now digest.exit)
 
-pub sha1-determined : (message : Lent (List ℕ)) → Determined1 (sha1-ensures message)
-sha1-determined message digest r r' digest₁ digest₂ e f = said.digested-determined e f
-
-pub sha1-keeps : (message : Lent (List ℕ)) → Keeps1 (sha1-ensures message) (λ (r : ℕ). r ≡ 0 → ⊥)
-sha1-keeps message r digest e k = e.out ∙ digests.digest-kept k (now message.entry) (now digest.entry) e.word
-
 -- wardrail::hashing::wardrail_sha1_start
 abbrev pub sha1-start-ensures : Unit {0} → Lent (List ℕ) → Lent (List ℕ) → Type 0
 sha1-start-ensures r words tail =
     Holds begun (now words.exit) (now tail.exit)
-
-pub sha1-start-determined : Determined2 sha1-start-ensures
-sha1-start-determined words tail r r' words₁ words₂ tail₁ tail₂ e f = (refl, e.0 ∙ sym f.0, e.1 ∙ sym f.1)
 
 -- it refuses nothing
 
@@ -161,9 +85,6 @@ abbrev pub sha1-add-ensures : (part : Lent (List ℕ)) → Unit {0} → Lent (Li
 sha1-add-ensures part r words tail =
     Holds (add_of (state_of (now words.entry) (now tail.entry)) (now part.entry)) (now words.exit) (now tail.exit)
 
-pub sha1-add-determined : (part : Lent (List ℕ)) → Determined2 (sha1-add-ensures part)
-sha1-add-determined part words tail r r' words₁ words₂ tail₁ tail₂ e f = (refl, e.0 ∙ sym f.0, e.1 ∙ sym f.1)
-
 -- it refuses nothing
 
 -- wardrail::hashing::wardrail_sha1_finish
@@ -171,74 +92,32 @@ abbrev pub sha1-finish-ensures : (words tail : Lent (List ℕ)) → ℕ → Lent
 sha1-finish-ensures words tail r digest =
     Digested (finish_of (state_of (now words.entry) (now tail.entry)) (now digest.entry)) r (now digest.exit)
 
-pub sha1-finish-determined : (words tail : Lent (List ℕ)) → Determined1 (sha1-finish-ensures words tail)
-sha1-finish-determined words tail digest r r' digest₁ digest₂ e f = said.digested-determined e f
-
-pub sha1-finish-keeps : (words tail : Lent (List ℕ)) → Keeps1 (sha1-finish-ensures words tail) (λ (r : ℕ). r ≡ 0 → ⊥)
-sha1-finish-keeps words tail r digest e k = e.out ∙ digests.finish-kept k (state_of (now words.entry) (now tail.entry)) (now digest.entry) e.word
-
 -- wardrail::peers::wardrail_peer
 abbrev pub peer-ensures : (text : Lent (List ℕ)) (number : ℕ) → ℕ → Lent (List ℕ) → Type 0
 peer-ensures text number r detail =
     Tells (map peer_detail (then (reply_of (now text.entry)) (nth_of number))) (now detail.entry) r (now detail.exit)
-
-pub peer-determined : (text : Lent (List ℕ)) (number : ℕ) → Determined1 (peer-ensures text number)
-peer-determined text number detail r r' detail₁ detail₂ e f = said.tells-determined e f
-
-pub peer-keeps : (text : Lent (List ℕ)) (number : ℕ) → Keeps1 (peer-ensures text number) (λ (r : ℕ). r ≡ 0 → ⊥)
-peer-keeps text number r detail e k = kept.tells-keeps e k
 
 -- wardrail::replies::wardrail_reply
 abbrev pub reply-ensures : (text : Lent (List ℕ)) → ℕ → Lent (List ℕ) → Type 0
 reply-ensures text r detail =
     Tells (map reply_detail (map counted (reply_of (now text.entry)))) (now detail.entry) r (now detail.exit)
 
-pub reply-determined : (text : Lent (List ℕ)) → Determined1 (reply-ensures text)
-reply-determined text detail r r' detail₁ detail₂ e f = said.tells-determined e f
-
-pub reply-keeps : (text : Lent (List ℕ)) → Keeps1 (reply-ensures text) (λ (r : ℕ). r ≡ 0 → ⊥)
-reply-keeps text r detail e k = kept.tells-keeps e k
-
 -- wardrail::replies::wardrail_listed_at
 abbrev pub listed_at-ensures : (text : Lent (List ℕ)) (at : ℕ) → ℕ → Lent (List ℕ) → Type 0
 listed_at-ensures text at r detail =
     Tells (map entry_detail (listed_at (now text.entry) at)) (now detail.entry) r (now detail.exit)
-
-pub listed_at-determined : (text : Lent (List ℕ)) (at : ℕ) → Determined1 (listed_at-ensures text at)
-listed_at-determined text at detail r r' detail₁ detail₂ e f = said.tells-determined e f
-
-pub listed_at-keeps : (text : Lent (List ℕ)) (at : ℕ) → Keeps1 (listed_at-ensures text at) (λ (r : ℕ). r ≡ 0 → ⊥)
-listed_at-keeps text at r detail e k = kept.tells-keeps e k
 
 -- wardrail::replies::wardrail_packed_at
 abbrev pub packed_at-ensures : (text : Lent (List ℕ)) (at : ℕ) → ℕ → Lent (List ℕ) → Type 0
 packed_at-ensures text at r detail =
     Tells (map entry_detail (packed_at (now text.entry) at)) (now detail.entry) r (now detail.exit)
 
-pub packed_at-determined : (text : Lent (List ℕ)) (at : ℕ) → Determined1 (packed_at-ensures text at)
-packed_at-determined text at detail r r' detail₁ detail₂ e f = said.tells-determined e f
-
-pub packed_at-keeps : (text : Lent (List ℕ)) (at : ℕ) → Keeps1 (packed_at-ensures text at) (λ (r : ℕ). r ≡ 0 → ⊥)
-packed_at-keeps text at r detail e k = kept.tells-keeps e k
-
 -- wardrail::torrents::wardrail_torrent
 abbrev pub torrent-ensures : (text : Lent (List ℕ)) → ℕ → Lent (List ℕ) → Type 0
 torrent-ensures text r detail =
     Tells (map torrent_detail (read_of (now text.entry))) (now detail.entry) r (now detail.exit)
 
-pub torrent-determined : (text : Lent (List ℕ)) → Determined1 (torrent-ensures text)
-torrent-determined text detail r r' detail₁ detail₂ e f = said.tells-determined e f
-
-pub torrent-keeps : (text : Lent (List ℕ)) → Keeps1 (torrent-ensures text) (λ (r : ℕ). r ≡ 0 → ⊥)
-torrent-keeps text r detail e k = kept.tells-keeps e k
-
 -- wardrail::torrents::wardrail_info_hash
 abbrev pub info_hash-ensures : (text : Lent (List ℕ)) → ℕ → Lent (List ℕ) → Type 0
 info_hash-ensures text r digest =
     Digested (info_hash_of (now text.entry) (now digest.entry)) r (now digest.exit)
-
-pub info_hash-determined : (text : Lent (List ℕ)) → Determined1 (info_hash-ensures text)
-info_hash-determined text digest r r' digest₁ digest₂ e f = said.digested-determined e f
-
-pub info_hash-keeps : (text : Lent (List ℕ)) → Keeps1 (info_hash-ensures text) (λ (r : ℕ). r ≡ 0 → ⊥)
-info_hash-keeps text r digest e k = e.out ∙ digests.info_hash-kept k (now text.entry) (now digest.entry) e.word

@@ -20,95 +20,41 @@ abbrev pub write-frame-ensures : (id : ℕ) (payload : Lent (List ℕ)) → ℕ 
 write-frame-ensures id payload r out detail =
     Wrote (frame_of (id ∷ now payload.entry) (now out.entry)) (now detail.entry) r (now detail.exit) (now out.exit)
 
-pub write-frame-determined : (id : ℕ) (payload : Lent (List ℕ)) → Determined2 (write-frame-ensures id payload)
-write-frame-determined id payload out detail r r' out₁ out₂ detail₁ detail₂ e f = said.wrote-determined e f
-
-pub write-frame-keeps : (id : ℕ) (payload : Lent (List ℕ)) → Keeps2 (write-frame-ensures id payload) (λ (r : ℕ). r ≡ 0 → ⊥)
-write-frame-keeps id payload r out detail e k = kept.write-frame-keeps _ _ _ _ _ _ e k
-
 -- wardrail::writers::wardrail_write_keepalive
 abbrev pub write-keepalive-ensures : ℕ → Lent (List ℕ) → Lent ℕ → Type 0
 write-keepalive-ensures r out detail =
     Wrote (put_of (encode keepalive) 0 (now out.entry)) (now detail.entry) r (now detail.exit) (now out.exit)
-
-pub write-keepalive-determined : Determined2 write-keepalive-ensures
-write-keepalive-determined out detail r r' out₁ out₂ detail₁ detail₂ e f = said.wrote-determined e f
-
-pub write-keepalive-keeps : Keeps2 write-keepalive-ensures (λ (r : ℕ). r ≡ 0 → ⊥)
-write-keepalive-keeps r out detail e k = kept.put_keeps _ _ _ _ _ _ e k
 
 -- wardrail::writers::wardrail_write_handshake
 abbrev pub write-handshake-ensures : (info peer : Lent (List ℕ)) → ℕ → Lent (List ℕ) → Lent ℕ → Type 0
 write-handshake-ensures info peer r out detail =
     Wrote (put_of (handshake zeros (now info.entry) (now peer.entry)) 0 (now out.entry)) (now detail.entry) r (now detail.exit) (now out.exit)
 
-pub write-handshake-determined : (info peer : Lent (List ℕ)) → Determined2 (write-handshake-ensures info peer)
-write-handshake-determined info peer out detail r r' out₁ out₂ detail₁ detail₂ e f = said.wrote-determined e f
-
-pub write-handshake-keeps : (info peer : Lent (List ℕ)) → Keeps2 (write-handshake-ensures info peer) (λ (r : ℕ). r ≡ 0 → ⊥)
-write-handshake-keeps info peer r out detail e k = kept.put_keeps _ _ _ _ _ _ e k
-
 -- wardrail::writers::wardrail_write_torrent
 abbrev pub write-torrent-ensures : (announce name : Lent (List ℕ)) (piece_length : ℕ) (pieces : Lent (List ℕ)) (length : ℕ) → ℕ → Lent (List ℕ) → Lent ℕ → Type 0
 write-torrent-ensures announce name piece_length pieces length r out detail =
     Wrote (torrent_text_of (fields (now announce.entry) (now name.entry) piece_length (now pieces.entry) length) (now out.entry)) (now detail.entry) r (now detail.exit) (now out.exit)
-
-pub write-torrent-determined : (announce name : Lent (List ℕ)) (piece_length : ℕ) (pieces : Lent (List ℕ)) (length : ℕ) → Determined2 (write-torrent-ensures announce name piece_length pieces length)
-write-torrent-determined announce name piece_length pieces length out detail r r' out₁ out₂ detail₁ detail₂ e f = said.wrote-determined e f
-
-pub write-torrent-keeps : (announce name : Lent (List ℕ)) (piece_length : ℕ) (pieces : Lent (List ℕ)) (length : ℕ) → Keeps2 (write-torrent-ensures announce name piece_length pieces length) (λ (r : ℕ). r ≡ 0 → ⊥)
-write-torrent-keeps announce name piece_length pieces length r out detail e k = kept.write-torrent-keeps _ _ _ _ _ _ e k
 
 -- wardrail::writers::wardrail_torrent_size
 abbrev pub torrent-size-ensures : (announce name : Lent (List ℕ)) (piece_length : ℕ) (pieces : Lent (List ℕ)) (length : ℕ) → ℕ → Lent ℕ → Type 0
 torrent-size-ensures announce name piece_length pieces length r detail =
     Tells (size_of (fields (now announce.entry) (now name.entry) piece_length (now pieces.entry) length)) (now detail.entry) r (now detail.exit)
 
-pub torrent-size-determined : (announce name : Lent (List ℕ)) (piece_length : ℕ) (pieces : Lent (List ℕ)) (length : ℕ) → Determined1 (torrent-size-ensures announce name piece_length pieces length)
-torrent-size-determined announce name piece_length pieces length detail r r' detail₁ detail₂ e f = said.tells-determined e f
-
-pub torrent-size-keeps : (announce name : Lent (List ℕ)) (piece_length : ℕ) (pieces : Lent (List ℕ)) (length : ℕ) → Keeps1 (torrent-size-ensures announce name piece_length pieces length) (λ (r : ℕ). r ≡ 0 → ⊥)
-torrent-size-keeps announce name piece_length pieces length r detail e k = kept.tells-keeps e k
-
 -- wardrail::writers::wardrail_write_link
 abbrev pub write-link-ensures : (torrent : Lent (List ℕ)) → ℕ → Lent (List ℕ) → Lent ℕ → Type 0
 write-link-ensures torrent r out detail =
     Wrote (link_text_of (now torrent.entry) (now out.entry)) (now detail.entry) r (now detail.exit) (now out.exit)
-
-pub write-link-determined : (torrent : Lent (List ℕ)) → Determined2 (write-link-ensures torrent)
-write-link-determined torrent out detail r r' out₁ out₂ detail₁ detail₂ e f = said.wrote-determined e f
-
-pub write-link-keeps : (torrent : Lent (List ℕ)) → Keeps2 (write-link-ensures torrent) (λ (r : ℕ). r ≡ 0 → ⊥)
-write-link-keeps torrent r out detail e k = kept.write-link-keeps _ _ _ _ _ _ e k
 
 -- wardrail::writers::wardrail_write_week
 abbrev pub write-week-ensures : (bodies lengths : Lent (List ℕ)) → ℕ → Lent (List ℕ) → Lent ℕ → Type 0
 write-week-ensures bodies lengths r out detail =
     Wrote (week_text_of (now bodies.entry) (now lengths.entry) (now out.entry)) (now detail.entry) r (now detail.exit) (now out.exit)
 
-pub write-week-determined : (bodies lengths : Lent (List ℕ)) → Determined2 (write-week-ensures bodies lengths)
-write-week-determined bodies lengths out detail r r' out₁ out₂ detail₁ detail₂ e f = said.wrote-determined e f
-
-pub write-week-keeps : (bodies lengths : Lent (List ℕ)) → Keeps2 (write-week-ensures bodies lengths) (λ (r : ℕ). r ≡ 0 → ⊥)
-write-week-keeps bodies lengths r out detail e k = kept.write-week-keeps _ _ _ _ _ _ _ e k
-
 -- wardrail::writers::wardrail_link_size
 abbrev pub link-size-ensures : (torrent : Lent (List ℕ)) → ℕ → Lent ℕ → Type 0
 link-size-ensures torrent r detail = Tells (map length (written_of (now torrent.entry))) (now detail.entry) r (now detail.exit)
-
-pub link-size-determined : (torrent : Lent (List ℕ)) → Determined1 (link-size-ensures torrent)
-link-size-determined torrent detail r r' detail₁ detail₂ e f = said.tells-determined e f
-
-pub link-size-keeps : (torrent : Lent (List ℕ)) → Keeps1 (link-size-ensures torrent) (λ (r : ℕ). r ≡ 0 → ⊥)
-link-size-keeps torrent r detail e k = kept.tells-keeps e k
 
 -- wardrail::writers::wardrail_write_reply
 abbrev pub write-reply-ensures : (interval : ℕ) (peers : Lent (List ℕ)) → ℕ → Lent (List ℕ) → Lent ℕ → Type 0
 write-reply-ensures interval peers r out detail =
     Wrote (reply_text_of interval (now peers.entry) (now out.entry)) (now detail.entry) r (now detail.exit) (now out.exit)
-
-pub write-reply-determined : (interval : ℕ) (peers : Lent (List ℕ)) → Determined2 (write-reply-ensures interval peers)
-write-reply-determined interval peers out detail r r' out₁ out₂ detail₁ detail₂ e f = said.wrote-determined e f
-
-pub write-reply-keeps : (interval : ℕ) (peers : Lent (List ℕ)) → Keeps2 (write-reply-ensures interval peers) (λ (r : ℕ). r ≡ 0 → ⊥)
-write-reply-keeps interval peers r out detail e k = kept.write-reply-keeps _ _ _ _ _ _ _ e k

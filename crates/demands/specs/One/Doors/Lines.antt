@@ -15,25 +15,10 @@ listing-ensures text r out =
     (left (put_paper r) (now out.exit) ≡ put_of (listing_of (now text.entry)) 0 (now out.entry))
     × (most_printed ≤ length (now out.entry) → put_paper r ≡ taken (length (listing_of (now text.entry))))
 
-pub listing-determined : (text : Lent (List ℕ)) → Determined1 (listing-ensures text)
-listing-determined text out r r' out₁ out₂ e f = laws.listing-determined _ _ r e.0 r' f.0
-
-pub listing-keeps : (text : Lent (List ℕ)) → Keeps1 (listing-ensures text) (λ r. Refused (put_paper r))
-listing-keeps text r out e k = (laws.listing-refusal-keeps _ _ r e.0 k.2).1
-
 -- torrent_lines::size
 abbrev pub size-ensures : (text : Lent (List ℕ)) → ℕ → Type 0
 size-ensures text r = r ≡ length (listing_of (now text.entry))
 
-pub size-determined : (text : Lent (List ℕ)) → Determined (size-ensures text)
-size-determined text r r' e f = e ∙ sym f
-
 -- torrent_lines::refused
 abbrev pub refused-ensures : (number place : ℕ) → ℕ → Lent (List ℕ) → Type 0
 refused-ensures number place r out = (Ran (refused_line number place) 0 (now out.entry) r (now out.exit)) × (r ≤ most_printed)
-
-pub refused-determined : (number place : ℕ) → Determined1 (refused-ensures number place)
-refused-determined number place out r r' out₁ out₂ e f = laws.ran-determined _ 0 _ e.0 f.0
-
-pub refused-takes : (number place : ℕ) → Takes1 (refused-ensures number place) (λ (r : ℕ). taken r)
-refused-takes number place r out e k = not-refused k.2

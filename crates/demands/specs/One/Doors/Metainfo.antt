@@ -18,17 +18,11 @@ use Rattle.demands.specs.One.{Lent, now, Determined, Ref, ref, Determined1, Keep
 abbrev pub read-ensures : (text : Lent (List ℕ)) → Reading → Type 0
 read-ensures text r = paper r ≡ read_of (now text.entry)
 
-pub read-determined : (text : Lent (List ℕ)) → Determined (read-ensures text)
-read-determined text r r' e f = laws.read-determined _ r r' e f
-
 -- torrent_metainfo::announce
 abbrev pub announce-ensures : (text : Lent (List ℕ)) → Ref (List ℕ) → Type 0
 announce-ensures text r =
     (now r ≡ bytes_at (now text.entry) (announce_in (read_of (now text.entry))))
     × ((r.ptr.0 ≡ text.entry.ptr.0) × (r.ptr.1 ≡ text.entry.ptr.1 + min (announce_in (read_of (now text.entry))).from (length (now text.entry))))
-
-pub announce-determined : (text : Lent (List ℕ)) → Determined (announce-ensures text)
-announce-determined text r r' e f = one-part ref (e.0 ∙ sym f.0, e.1.0 ∙ sym f.1.0, e.1.1 ∙ sym f.1.1)
 
 -- torrent_metainfo::name
 abbrev pub name-ensures : (text : Lent (List ℕ)) → Ref (List ℕ) → Type 0
@@ -36,22 +30,10 @@ name-ensures text r =
     (now r ≡ bytes_at (now text.entry) (name_in_of (read_of (now text.entry))))
     × ((r.ptr.0 ≡ text.entry.ptr.0) × (r.ptr.1 ≡ text.entry.ptr.1 + min (name_in_of (read_of (now text.entry))).from (length (now text.entry))))
 
-pub name-determined : (text : Lent (List ℕ)) → Determined (name-ensures text)
-name-determined text r r' e f = one-part ref (e.0 ∙ sym f.0, e.1.0 ∙ sym f.1.0, e.1.1 ∙ sym f.1.1)
-
 -- torrent_metainfo::info_hash
 abbrev pub info_hash-ensures : (text : Lent (List ℕ)) → Hashed → Lent (List ℕ) → Type 0
 info_hash-ensures text r out = left (hash_paper r) (now out.exit) ≡ info_hash_of (now text.entry) (now out.entry)
 
-pub info_hash-determined : (text : Lent (List ℕ)) → Determined1 (info_hash-ensures text)
-info_hash-determined text out r r' out₁ out₂ e f = hashing.info_hash-determined _ _ r r' _ _ e f
-
-pub info_hash-keeps : (text : Lent (List ℕ)) → Keeps1 (info_hash-ensures text) (λ r. Refused (hash_paper r))
-info_hash-keeps text r out e k = hash-kept (now text.entry) (now out.entry) (read_of (now text.entry)) r e k.2
-
 -- torrent_metainfo::file_at
 abbrev pub file_at-ensures : (text : Lent (List ℕ)) (at : ℕ) → Filed → Type 0
 file_at-ensures text at r = file_paper r ≡ file_at (now text.entry) at
-
-pub file_at-determined : (text : Lent (List ℕ)) (at : ℕ) → Determined (file_at-ensures text at)
-file_at-determined text at r r' e f = laws.file-determined (now text.entry) at r r' e f

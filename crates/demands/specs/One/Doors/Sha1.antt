@@ -13,39 +13,18 @@ use Rattle.demands.specs.One.{Lent, now, Determined1, Keeps1, Refused, Determine
 abbrev pub digest-ensures : (message : Lent (List ℕ)) → Hashed → Lent (List ℕ) → Type 0
 digest-ensures message r out = left (paper r) (now out.exit) ≡ digest_of (now message.entry) (now out.entry)
 
-pub digest-determined : (message : Lent (List ℕ)) → Determined1 (digest-ensures message)
-digest-determined message out r r' out₁ out₂ e f = laws.digest-determined _ _ r r' e f
-
-pub digest-keeps : (message : Lent (List ℕ)) → Keeps1 (digest-ensures message) (λ r. Refused (paper r))
-digest-keeps message r out e k = (laws.digest-refusal-keeps _ _ r e k.2).1
-
 -- hash_sha1::agrees
 abbrev pub agrees-ensures : (message expected : Lent (List ℕ)) → Agreement → Type 0
 agrees-ensures message expected r = agreement_paper r ≡ agreement_of (now message.entry) (now expected.entry)
-
-pub agrees-determined : (message expected : Lent (List ℕ)) → Determined (agrees-ensures message expected)
-agrees-determined message expected r r' e f = laws.agrees-determined _ _ r r' e f
 
 -- hash_sha1::stream::start
 abbrev pub start-ensures : Stream → Type 0
 start-ensures r = r ≡ begun
 
-pub start-determined : Determined start-ensures
-start-determined r r' e f = e ∙ sym f
-
 -- hash_sha1::stream::add
 abbrev pub add-ensures : (s : Stream) (part : Lent (List ℕ)) → Stream → Type 0
 add-ensures s part r = r ≡ add_of s (now part.entry)
 
-pub add-determined : (s : Stream) (part : Lent (List ℕ)) → Determined (add-ensures s part)
-add-determined s part r r' e f = e ∙ sym f
-
 -- hash_sha1::stream::finish
 abbrev pub finish-ensures : (s : Stream) → Hashed → Lent (List ℕ) → Type 0
 finish-ensures s r out = left (paper r) (now out.exit) ≡ finish_of s (now out.entry)
-
-pub finish-determined : (s : Stream) → Determined1 (finish-ensures s)
-finish-determined s out r r' out₁ out₂ e f = laws.finish-determined _ _ r r' e f
-
-pub finish-keeps : (s : Stream) → Keeps1 (finish-ensures s) (λ r. Refused (paper r))
-finish-keeps s r out e k = (laws.finish-refusal-keeps _ _ r e k.2).1

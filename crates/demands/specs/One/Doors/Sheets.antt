@@ -11,14 +11,8 @@ use Rattle.demands.specs.One.{Lent, now, Determined, Ref, ref}
 abbrev pub find-ensures : (torrent sheet : Lent (List ℕ)) → Found → Type 0
 find-ensures torrent sheet r = told r ≡ find_of (now torrent.entry) (now sheet.entry)
 
-pub find-determined : (torrent sheet : Lent (List ℕ)) → Determined (find-ensures torrent sheet)
-find-determined torrent sheet r r' e f = laws.find-determined (now torrent.entry) (now sheet.entry) r r' e f
-
 -- sheets::address
 abbrev pub address-ensures : (torrent sheet : Lent (List ℕ)) → Ref (List ℕ) → Type 0
 address-ensures torrent sheet r =
     (now r ≡ handed (find_of (now torrent.entry) (now sheet.entry)) (now torrent.entry) (now sheet.entry))
     × ((r.ptr.0 ≡ chosen (find_of (now torrent.entry) (now sheet.entry)).source torrent.entry.ptr.0 sheet.entry.ptr.0) × (r.ptr.1 ≡ handed_at (find_of (now torrent.entry) (now sheet.entry)) (now torrent.entry) (now sheet.entry) torrent.entry.ptr.1 sheet.entry.ptr.1))
-
-pub address-determined : (torrent sheet : Lent (List ℕ)) → Determined (address-ensures torrent sheet)
-address-determined torrent sheet r r' e f = one-part ref (e.0 ∙ sym f.0, e.1.0 ∙ sym f.1.0, e.1.1 ∙ sym f.1.1)

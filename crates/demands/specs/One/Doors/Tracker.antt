@@ -16,33 +16,18 @@ use Rattle.demands.specs.One.{Lent, now, Determined}
 abbrev pub read-ensures : (text : Lent (List ℕ)) → Reply → Type 0
 read-ensures text r = paper r ≡ map counted (reply_of (now text.entry))
 
-pub read-determined : (text : Lent (List ℕ)) → Determined (read-ensures text)
-read-determined text r r' e f = laws.read-determined _ r r' e f
-
 -- tracker::peer
 abbrev pub peer-ensures : (text : Lent (List ℕ)) (n : ℕ) → Found → Type 0
 peer-ensures text n r = peer_paper r ≡ then (reply_of (now text.entry)) (nth_of n)
-
-pub peer-determined : (text : Lent (List ℕ)) (n : ℕ) → Determined (peer-ensures text n)
-peer-determined text n r r' e f = laws.peer-determined _ r r' e f
 
 -- tracker::entries
 abbrev pub entries-ensures : (reply : Reply) → ℕ → Type 0
 entries-ensures reply r = r ≡ entry_count (paper reply)
 
-pub entries-determined : (reply : Reply) → Determined (entries-ensures reply)
-entries-determined reply r r' e f = e ∙ sym f
-
 -- tracker::compact::packed_at
 abbrev pub packed_at-ensures : (text : Lent (List ℕ)) (at : ℕ) → Packing → Type 0
 packed_at-ensures text at r = packed_paper r ≡ packed_at (now text.entry) at
 
-pub packed_at-determined : (text : Lent (List ℕ)) (at : ℕ) → Determined (packed_at-ensures text at)
-packed_at-determined text at r r' e f = laws.packed-determined _ r r' e f
-
 -- tracker::listed::listed_at
 abbrev pub listed_at-ensures : (text : Lent (List ℕ)) (at : ℕ) → Listing → Type 0
 listed_at-ensures text at r = listed_paper r ≡ listed_at (now text.entry) at
-
-pub listed_at-determined : (text : Lent (List ℕ)) (at : ℕ) → Determined (listed_at-ensures text at)
-listed_at-determined text at r r' e f = laws.listed-determined _ r r' e f

@@ -19,47 +19,23 @@ use Rattle.demands.specs.One.{Lent, now, Determined, Determined1, Keeps1, Takes1
 abbrev pub read-ensures : (file : Lent (List ℕ)) → Weekly → Type 0
 read-ensures file r = paper r ≡ week_of (now file.entry)
 
-pub read-determined : (file : Lent (List ℕ)) → Determined (read-ensures file)
-read-determined file r r' e f = answers.week-determined r r' e f
-
 -- week::package
 abbrev pub package-ensures : (file : Lent (List ℕ)) (index : ℕ) → Told → Type 0
 package-ensures file index r = told_paper r ≡ package_of (now file.entry) index
-
-pub package-determined : (file : Lent (List ℕ)) (index : ℕ) → Determined (package-ensures file index)
-package-determined file index r r' e f = answers.told-determined r r' e f
 
 -- week::table
 abbrev pub table-ensures : (file : Lent (List ℕ)) → Counted → Type 0
 table-ensures file r = count_paper r ≡ table_of (now file.entry)
 
-pub table-determined : (file : Lent (List ℕ)) → Determined (table-ensures file)
-table-determined file r r' e f = answers.count-determined r r' e f
-
 -- week::package_at
 abbrev pub package_at-ensures : (file : Lent (List ℕ)) (index : ℕ) → Told → Type 0
 package_at-ensures file index r = told_paper r ≡ package_at (now file.entry) index
-
-pub package_at-determined : (file : Lent (List ℕ)) (index : ℕ) → Determined (package_at-ensures file index)
-package_at-determined file index r r' e f = answers.told-determined r r' e f
 
 -- week::write
 abbrev pub write-ensures : (bodies lengths : Lent (List ℕ)) → Put → Lent (List ℕ) → Type 0
 write-ensures bodies lengths r out =
     left (put_paper r) (now out.exit) ≡ write_of (now bodies.entry) (now lengths.entry) (now out.entry)
 
-pub write-determined : (bodies lengths : Lent (List ℕ)) → Determined1 (write-ensures bodies lengths)
-write-determined bodies lengths out r r' out₁ out₂ e f = answers.write-determined (now bodies.entry) (now lengths.entry) (now out) r r' e f
-
-pub write_keeps : (bodies lengths : Lent (List ℕ)) → Keeps1 (write-ensures bodies lengths) (λ r. Refused (put_paper r))
-write_keeps bodies lengths r out e k = answers.write_keeps (now bodies.entry) (now lengths.entry) (now out.entry) r e k.0 k.1 k.2
-
 -- week::listing
 abbrev pub listing-ensures : (file : Lent (List ℕ)) → ℕ → Lent (List ℕ) → Type 0
 listing-ensures file r out = (Ran (listing_of (now file.entry)) 0 (now out.entry) r (now out.exit)) × (r ≤ most_listing)
-
-pub listing-determined : (file : Lent (List ℕ)) → Determined1 (listing-ensures file)
-listing-determined file out r r' out₁ out₂ e f = ran-determined _ 0 _ e.0 f.0
-
-pub listing-takes : (file : Lent (List ℕ)) → Takes1 (listing-ensures file) (λ (r : ℕ). taken r)
-listing-takes file r out e k = not-refused k.2

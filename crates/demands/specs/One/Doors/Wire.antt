@@ -11,12 +11,6 @@ use Rattle.demands.specs.One.{Lent, now, Determined}
 abbrev pub read_frame-ensures : (bytes : Lent (List ℕ)) → Read → Type 0
 read_frame-ensures bytes r = paper r ≡ read_of (now bytes.entry)
 
-pub read_frame-determined : (bytes : Lent (List ℕ)) → Determined (read_frame-ensures bytes)
-read_frame-determined bytes r r' e f = laws.read-determined _ r r' e f
-
 -- peer_wire::read_handshake
 abbrev pub read_handshake-ensures : (bytes info : Lent (List ℕ)) → Greeting → Type 0
 read_handshake-ensures bytes info r = shaken r ≡ shake_of (now info.entry) (now bytes.entry)
-
-pub read_handshake-determined : (bytes info : Lent (List ℕ)) → Determined (read_handshake-ensures bytes info)
-read_handshake-determined bytes info r r' e f = laws.handshake-determined _ _ r r' e f

@@ -10,6 +10,3 @@ use Rattle.demands.specs.One.{Lent, now, Determined}
 -- bencode::value
 abbrev pub value-ensures : (text : Lent (List ℕ)) (c : Cursor) (levels : ℕ) → Step → Type 0
 value-ensures text c levels r = r ≡ step_of (value_from levels (length (now text.entry)) (drop c.at (now text.entry)) c.at c.count)
-
-pub value-determined : (text : Lent (List ℕ)) (c : Cursor) (levels : ℕ) → Determined (value-ensures text c levels)
-value-determined text c levels r r' e f = e ∙ sym f

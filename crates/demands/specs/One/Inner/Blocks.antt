@@ -14,75 +14,42 @@ use Rattle.demands.specs.One.{Determined}
 abbrev pub content_offset-ensures : (piece_length : ℕ) (piece : PieceNumber) (offset : PieceOffset) → ContentOffset → Type 0
 content_offset-ensures piece_length piece offset r = r.0 ≡ content_offset piece_length piece.0 offset.0
 
-pub content_offset-determined : (piece_length : ℕ) (piece : PieceNumber) (offset : PieceOffset) → Determined (content_offset-ensures piece_length piece offset)
-content_offset-determined piece_length piece offset r r' e f = laws.content-determined _ r r' e f
-
 -- torrent_blocks::piece_number
 abbrev pub piece_number-ensures : (piece_length : ℕ) (place : ContentOffset) → PieceNumber → Type 0
 piece_number-ensures piece_length place r = r.0 ≡ piece_number piece_length place.0
-
-pub piece_number-determined : (piece_length : ℕ) (place : ContentOffset) → Determined (piece_number-ensures piece_length place)
-piece_number-determined piece_length place r r' e f = laws.number-determined _ r r' e f
 
 -- torrent_blocks::piece_numbered
 abbrev pub piece_numbered-ensures : (n : ℕ) → PieceNumber → Type 0
 piece_numbered-ensures n r = r.0 ≡ min n widest
 
-pub piece_numbered-determined : (n : ℕ) → Determined (piece_numbered-ensures n)
-piece_numbered-determined n r r' e f = laws.number-determined _ r r' e f
-
 -- torrent_blocks::piece_offset
 abbrev pub piece_offset-ensures : (piece_length : ℕ) (place : ContentOffset) → PieceOffset → Type 0
 piece_offset-ensures piece_length place r = r.0 ≡ piece_offset piece_length place.0
-
-pub piece_offset-determined : (piece_length : ℕ) (place : ContentOffset) → Determined (piece_offset-ensures piece_length place)
-piece_offset-determined piece_length place r r' e f = laws.offset-determined _ r r' e f
 
 -- torrent_blocks::piece_bytes
 abbrev pub piece_bytes-ensures : (total : Total) (piece_length : ℕ) (piece : PieceNumber) → ℕ → Type 0
 piece_bytes-ensures total piece_length piece r = r ≡ piece_bytes_of total.0 piece_length piece.0
 
-pub piece_bytes-determined : (total : Total) (piece_length : ℕ) (piece : PieceNumber) → Determined (piece_bytes-ensures total piece_length piece)
-piece_bytes-determined total piece_length piece r r' e f = e ∙ sym f
-
 -- torrent_blocks::rules::legal_piece_length
 abbrev pub legal_piece_length-ensures : (n : ℕ) → Bool → Type 0
 legal_piece_length-ensures n r = r ≡ piece_length_of n
-
-pub legal_piece_length-determined : (n : ℕ) → Determined (legal_piece_length-ensures n)
-legal_piece_length-determined n r r' e f = e ∙ sym f
 
 -- torrent_blocks::rules::legal_file_length
 abbrev pub legal_file_length-ensures : (n : ℕ) → Bool → Type 0
 legal_file_length-ensures n r = r ≡ file_length n
 
-pub legal_file_length-determined : (n : ℕ) → Determined (legal_file_length-ensures n)
-legal_file_length-determined n r r' e f = e ∙ sym f
-
 -- torrent_blocks::rules::legal_file_count
 abbrev pub legal_file_count-ensures : (n : ℕ) → Bool → Type 0
 legal_file_count-ensures n r = r ≡ file_count n
-
-pub legal_file_count-determined : (n : ℕ) → Determined (legal_file_count-ensures n)
-legal_file_count-determined n r r' e f = e ∙ sym f
 
 -- torrent_blocks::rules::with_file
 abbrev pub with_file-ensures : (total : Total) (n : ℕ) → Total → Type 0
 with_file-ensures total n r = r.0 ≡ min (total.0 + n) largest
 
-pub with_file-determined : (total : Total) (n : ℕ) → Determined (with_file-ensures total n)
-with_file-determined total n r r' e f = laws.total-determined _ _ r r' e f
-
 -- torrent_blocks::rules::pieces
 abbrev pub pieces-ensures : (total : Total) (piece_length : ℕ) → ℕ → Type 0
 pieces-ensures total piece_length r = r ≡ pieces_of total.0 piece_length
 
-pub pieces-determined : (total : Total) (piece_length : ℕ) → Determined (pieces-ensures total piece_length)
-pieces-determined total piece_length r r' e f = e ∙ sym f
-
 -- torrent_blocks::rules::legal_total
 abbrev pub legal_total-ensures : (total : Total) (piece_length : ℕ) → Bool → Type 0
 legal_total-ensures total piece_length r = r ≡ total_and total.0 (pieces_of total.0 piece_length)
-
-pub legal_total-determined : (total : Total) (piece_length : ℕ) → Determined (legal_total-ensures total piece_length)
-legal_total-determined total piece_length r r' e f = e ∙ sym f

@@ -9,89 +9,50 @@ use Rattle.demands.specs.One.{Lent, now, Determined}
 abbrev pub gathered-ensures : (held part : Lent (List ℕ)) → List ℕ → Type 0
 gathered-ensures held part r = r ≡ filled 64 (now held.entry ++ now part.entry)
 
-pub gathered-determined : (held part : Lent (List ℕ)) → Determined (gathered-ensures held part)
-gathered-determined held part r r' e f = e ∙ sym f
-
 -- hash_digest::message::ended
 abbrev pub ended-ensures : (tail : List ℕ) (length : ℕ) → List ℕ → Type 0
 ended-ensures tail length r = r ≡ filled 128 (take (length % 64) tail ++ padding length)
-
-pub ended-determined : (tail : List ℕ) (length : ℕ) → Determined (ended-ensures tail length)
-ended-determined tail length r r' e f = e ∙ sym f
 
 -- hash_digest::word::add
 abbrev pub add-ensures : (x y : ℕ) → ℕ → Type 0
 add-ensures x y r = r ≡ add32 x y
 
-pub add-determined : (x y : ℕ) → Determined (add-ensures x y)
-add-determined x y r r' e f = e ∙ sym f
-
 -- hash_digest::word::choose
 abbrev pub choose-ensures : (x y z : ℕ) → ℕ → Type 0
 choose-ensures x y z r = r ≡ ch x y z
-
-pub choose-determined : (x y z : ℕ) → Determined (choose-ensures x y z)
-choose-determined x y z r r' e f = e ∙ sym f
 
 -- hash_digest::word::odd
 abbrev pub odd-ensures : (x y z : ℕ) → ℕ → Type 0
 odd-ensures x y z r = r ≡ parity x y z
 
-pub odd-determined : (x y z : ℕ) → Determined (odd-ensures x y z)
-odd-determined x y z r r' e f = e ∙ sym f
-
 -- hash_digest::word::most
 abbrev pub most-ensures : (x y z : ℕ) → ℕ → Type 0
 most-ensures x y z r = r ≡ maj x y z
-
-pub most-determined : (x y z : ℕ) → Determined (most-ensures x y z)
-most-determined x y z r r' e f = e ∙ sym f
 
 -- hash_digest::word::rotl1
 abbrev pub rotl1-ensures : (x : ℕ) → ℕ → Type 0
 rotl1-ensures x r = r ≡ rotl 1 x
 
-pub rotl1-determined : (x : ℕ) → Determined (rotl1-ensures x)
-rotl1-determined x r r' e f = e ∙ sym f
-
 -- hash_digest::word::rotl5
 abbrev pub rotl5-ensures : (x : ℕ) → ℕ → Type 0
 rotl5-ensures x r = r ≡ rotl 5 x
-
-pub rotl5-determined : (x : ℕ) → Determined (rotl5-ensures x)
-rotl5-determined x r r' e f = e ∙ sym f
 
 -- hash_digest::word::rotl30
 abbrev pub rotl30-ensures : (x : ℕ) → ℕ → Type 0
 rotl30-ensures x r = r ≡ rotl 30 x
 
-pub rotl30-determined : (x : ℕ) → Determined (rotl30-ensures x)
-rotl30-determined x r r' e f = e ∙ sym f
-
 -- hash_digest::word::byte3
 abbrev pub byte3-ensures : (x : ℕ) → ℕ → Type 0
 byte3-ensures x r = r ≡ x / 16777216 % 256
-
-pub byte3-determined : (x : ℕ) → Determined (byte3-ensures x)
-byte3-determined x r r' e f = e ∙ sym f
 
 -- hash_digest::word::byte2
 abbrev pub byte2-ensures : (x : ℕ) → ℕ → Type 0
 byte2-ensures x r = r ≡ x / 65536 % 256
 
-pub byte2-determined : (x : ℕ) → Determined (byte2-ensures x)
-byte2-determined x r r' e f = e ∙ sym f
-
 -- hash_digest::word::byte1
 abbrev pub byte1-ensures : (x : ℕ) → ℕ → Type 0
 byte1-ensures x r = r ≡ x / 256 % 256
 
-pub byte1-determined : (x : ℕ) → Determined (byte1-ensures x)
-byte1-determined x r r' e f = e ∙ sym f
-
 -- hash_digest::word::byte0
 abbrev pub byte0-ensures : (x : ℕ) → ℕ → Type 0
 byte0-ensures x r = r ≡ x % 256
-
-pub byte0-determined : (x : ℕ) → Determined (byte0-ensures x)
-byte0-determined x r r' e f = e ∙ sym f

@@ -16,16 +16,6 @@ abbrev pub feed_step-ensures : (h : Head) (s : Seat) (i n : ℕ) (bytes : Lent (
 feed_step-ensures h s i n bytes r rows holders =
     turn r (now rows.exit) (now holders.exit) ≡ feed_of i (now bytes.entry) n (around h s (now rows.entry) (now holders.entry))
 
-pub feed_step-determined : (h : Head) (s : Seat) (i n : ℕ) (bytes : Lent (List ℕ)) → Determined2 (feed_step-ensures h s i n bytes)
-feed_step-determined h s i n bytes rows holders r r' rows₁ rows₂ holders₁ holders₂ e f = laws.feed-determined _ _ _ _ _ _ _ r r' _ _ _ _ e f
-
-pub feed_step-keeps : (h : Head) (s : Seat) (i n : ℕ) (bytes : Lent (List ℕ)) → Keeps2 (feed_step-ensures h s i n bytes) (λ r. Unused (paper r.answer))
-feed_step-keeps h s i n bytes r rows holders e k =
-    let t = laws.unused-keeps h s (now rows.entry) (now holders.entry) i n (now bytes.entry) r (now rows.exit) (now holders.exit) e (unspoken (paper r.answer) k) in (t.2, t.3)
-
 -- yard_hearing::heard_head
 abbrev pub heard_head-ensures : (was h : Head) → Head → Type 0
 heard_head-ensures was h r = r ≡ counted was.taken h.complete was
-
-pub heard_head-determined : (was h : Head) → Determined (heard_head-ensures was h)
-heard_head-determined was h r r' e f = e ∙ sym f

@@ -7,6 +7,3 @@ use Rattle.demands.specs.One.{Lent, now, Determined}
 -- torrent_metainfo::legal_name
 abbrev pub legal_name-ensures : (name : Lent (List ℕ)) → Bool → Type 0
 legal_name-ensures name r = r ≡ good_name (now name.entry)
-
-pub legal_name-determined : (name : Lent (List ℕ)) → Determined (legal_name-ensures name)
-legal_name-determined name r r' e f = e ∙ sym f

@@ -11,70 +11,34 @@ use Rattle.demands.specs.One.{Lent, now, Determined, Determined1, Keeps1}
 abbrev pub refuse-ensures : (number place : ℕ) → Refusal → Type 0
 refuse-ensures number place r = r ≡ record { number = number; place = place }
 
-pub refuse-determined : (number place : ℕ) → Determined (refuse-ensures number place)
-refuse-determined number place r r' e f = e ∙ sym f
-
 -- refusal::least
 abbrev pub least-ensures : (a b : ℕ) → ℕ → Type 0
 least-ensures a b r = r ≡ min a b
-
-pub least-determined : (a b : ℕ) → Determined (least-ensures a b)
-least-determined a b r r' e f = e ∙ sym f
 
 -- refusal::big_endian::read2
 abbrev pub read2-ensures : (text : Lent (List ℕ)) (at : ℕ) → Number → Type 0
 read2-ensures text at r = r ≡ number_at 2 (now text.entry) at
 
-pub read2-determined : (text : Lent (List ℕ)) (at : ℕ) → Determined (read2-ensures text at)
-read2-determined text at r r' e f = laws.read-determined 2 at (now text.entry) r r' e f
-
 -- refusal::big_endian::read4
 abbrev pub read4-ensures : (text : Lent (List ℕ)) (at : ℕ) → Number → Type 0
 read4-ensures text at r = r ≡ number_at 4 (now text.entry) at
-
-pub read4-determined : (text : Lent (List ℕ)) (at : ℕ) → Determined (read4-ensures text at)
-read4-determined text at r r' e f = laws.read-determined 4 at (now text.entry) r r' e f
 
 -- refusal::big_endian::read8
 abbrev pub read8-ensures : (text : Lent (List ℕ)) (at : ℕ) → Number → Type 0
 read8-ensures text at r = r ≡ number_at 8 (now text.entry) at
 
-pub read8-determined : (text : Lent (List ℕ)) (at : ℕ) → Determined (read8-ensures text at)
-read8-determined text at r r' e f = laws.read-determined 8 at (now text.entry) r r' e f
-
 -- refusal::big_endian::joined
 abbrev pub joined-ensures : (a b c d : ℕ) → ℕ → Type 0
 joined-ensures a b c d r = r ≡ big_endian_of (a ∷ b ∷ c ∷ d ∷ [])
-
-pub joined-determined : (a b c d : ℕ) → Determined (joined-ensures a b c d)
-joined-determined a b c d r r' e f = e ∙ sym f
 
 -- refusal::big_endian::write2
 abbrev pub write2-ensures : (at x : ℕ) → Bool → Lent (List ℕ) → Type 0
 write2-ensures at x r out = (r ≡ fits 2 (now out.entry) at) × (now out.exit ≡ number_written 2 (now out.entry) at x)
 
-pub write2-determined : (at x : ℕ) → Determined1 (write2-ensures at x)
-write2-determined at x out r r' out₁ out₂ e f = laws.write-determined 2 at x (now out) r r' (now out₁) (now out₂) e.0 e.1 f.0 f.1
-
-pub write2-keeps : (at x : ℕ) → Keeps1 (write2-ensures at x) (λ (r : Bool). r ≡ false)
-write2-keeps at x r out e k = e.1 ∙ laws.write_keeps 2 at x (now out.entry) (sym e.0 ∙ k)
-
 -- refusal::big_endian::write4
 abbrev pub write4-ensures : (at x : ℕ) → Bool → Lent (List ℕ) → Type 0
 write4-ensures at x r out = (r ≡ fits 4 (now out.entry) at) × (now out.exit ≡ number_written 4 (now out.entry) at x)
 
-pub write4-determined : (at x : ℕ) → Determined1 (write4-ensures at x)
-write4-determined at x out r r' out₁ out₂ e f = laws.write-determined 4 at x (now out) r r' (now out₁) (now out₂) e.0 e.1 f.0 f.1
-
-pub write4-keeps : (at x : ℕ) → Keeps1 (write4-ensures at x) (λ (r : Bool). r ≡ false)
-write4-keeps at x r out e k = e.1 ∙ laws.write_keeps 4 at x (now out.entry) (sym e.0 ∙ k)
-
 -- refusal::big_endian::write8
 abbrev pub write8-ensures : (at x : ℕ) → Bool → Lent (List ℕ) → Type 0
 write8-ensures at x r out = (r ≡ fits 8 (now out.entry) at) × (now out.exit ≡ number_written 8 (now out.entry) at x)
-
-pub write8-determined : (at x : ℕ) → Determined1 (write8-ensures at x)
-write8-determined at x out r r' out₁ out₂ e f = laws.write-determined 8 at x (now out) r r' (now out₁) (now out₂) e.0 e.1 f.0 f.1
-
-pub write8-keeps : (at x : ℕ) → Keeps1 (write8-ensures at x) (λ (r : Bool). r ≡ false)
-write8-keeps at x r out e k = e.1 ∙ laws.write_keeps 8 at x (now out.entry) (sym e.0 ∙ k)

@@ -13,26 +13,14 @@ use Rattle.demands.specs.One.{Determined, Lent, now}
 abbrev pub digit-ensures : (b : ℕ) → Bool → Type 0
 digit-ensures b r = r ≡ is_digit b
 
-pub digit-determined : (b : ℕ) → Determined (digit-ensures b)
-digit-determined b r r' e f = e ∙ sym f
-
 -- bencode_scalar::string
 abbrev pub string-ensures : (text : Lent (List ℕ)) (at : ℕ) → Text → Type 0
 string-ensures text at r = ((n : ℕ) → text_of (now text.entry) n r ≡ string_at (length (now text.entry)) (drop at (now text.entry)) at n)
-
-pub string-determined : (text : Lent (List ℕ)) (at : ℕ) → Determined (string-ensures text at)
-string-determined text at r r' e f = laws.string-determined (now text.entry) at r r' e f
 
 -- bencode_scalar::integer
 abbrev pub integer-ensures : (text : Lent (List ℕ)) (at : ℕ) → Int → Type 0
 integer-ensures text at r = ((n : ℕ) → r ≡ integer_is (integer_at (length (now text.entry)) (drop at (now text.entry)) at n))
 
-pub integer-determined : (text : Lent (List ℕ)) (at : ℕ) → Determined (integer-ensures text at)
-integer-determined text at r r' e f = e 0 ∙ sym (f 0)
-
 -- bencode_scalar::precedes
 abbrev pub precedes-ensures : (a b : Lent (List ℕ)) → Bool → Type 0
 precedes-ensures a b r = r ≡ key_lt (now a.entry) (now b.entry)
-
-pub precedes-determined : (a b : Lent (List ℕ)) → Determined (precedes-ensures a b)
-precedes-determined a b r r' e f = e ∙ sym f

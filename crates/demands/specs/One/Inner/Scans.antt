@@ -23,52 +23,28 @@ use Rattle.demands.specs.One.{Lent, now, Determined, Determined1, Takes1}
 abbrev pub seat_get-ensures : (seats : Lent (List Seat)) (i : ℕ) → Seat → Type 0
 seat_get-ensures seats i r = r ≡ get_or (now seats.entry) i cleared
 
-pub seat_get-determined : (seats : Lent (List Seat)) (i : ℕ) → Determined (seat_get-ensures seats i)
-seat_get-determined seats i r r' e f = e ∙ sym f
-
 -- yard_scans::seat_set
 abbrev pub seat_set-ensures : (i : ℕ) (s : Seat) → Unit {0} → Lent (List Seat) → Type 0
 seat_set-ensures i s r seats = now seats.exit ≡ set (now seats.entry) i s
-
-pub seat_set-determined : (i : ℕ) (s : Seat) → Determined1 (seat_set-ensures i s)
-seat_set-determined i s seats r r' seats₁ seats₂ e f = (refl, e ∙ sym f)
 
 -- yard_scans::lowest_free
 abbrev pub lowest_free-ensures : (seats : Lent (List Seat)) → ℕ → Type 0
 lowest_free-ensures seats r = r ≡ lowest_free (now seats.entry)
 
-pub lowest_free-determined : (seats : Lent (List Seat)) → Determined (lowest_free-ensures seats)
-lowest_free-determined seats r r' e f = e ∙ sym f
-
 -- yard_scans::clear_seats
 abbrev pub clear_seats-ensures : (wanted : Bool) → Unit {0} → Lent (List Seat) → Type 0
 clear_seats-ensures wanted r seats = now seats.exit ≡ cond wanted (replicate (length (now seats.entry)) cleared) (now seats.entry)
-
-pub clear_seats-determined : (wanted : Bool) → Determined1 (clear_seats-ensures wanted)
-clear_seats-determined wanted seats r r' seats₁ seats₂ e f = (refl, e ∙ sym f)
 
 -- yard_scans::rank_seats
 abbrev pub rank_seats-ensures : (seats : Lent (List Seat)) (h : Head) → Ranking → Type 0
 rank_seats-ensures seats h r = r ≡ ranked h.last (now seats.entry)
 
-pub rank_seats-determined : (seats : Lent (List Seat)) (h : Head) → Determined (rank_seats-ensures seats h)
-rank_seats-determined seats h r r' e f = e ∙ sym f
-
 -- yard_scans::mark_seats
 abbrev pub mark_seats-ensures : (marks : Marks) → Unit {0} → Lent (List Seat) → Type 0
 mark_seats-ensures marks r seats = now seats.exit ≡ each (λ i s. mark_step marks s i) (now seats.entry)
-
-pub mark_seats-determined : (marks : Marks) → Determined1 (mark_seats-ensures marks)
-mark_seats-determined marks seats r r' seats₁ seats₂ e f = (refl, e ∙ sym f)
 
 -- yard_scans::list_missing
 abbrev pub list_missing-ensures : (seats : Lent (List Seat)) (asked : Asked) → Page → Lent (List ℕ) → Type 0
 list_missing-ensures seats asked r page =
     (r ≡ page_of asked.pieces asked.first asked.lines (now seats.entry))
     × (now page.exit ≡ sets (now page.entry) 0 (as_lines (lines_of asked.pieces asked.first asked.lines (now seats.entry))))
-
-pub list_missing-determined : (seats : Lent (List Seat)) (asked : Asked) → Determined1 (list_missing-ensures seats asked)
-list_missing-determined seats asked page r r' page₁ page₂ e f = (e.0 ∙ sym f.0, e.1 ∙ sym f.1)
-
-pub list_missing-takes : (seats : Lent (List Seat)) (asked : Asked) → Takes1 (list_missing-ensures seats asked) (λ (r : Page). taken (listed r))
-list_missing-takes seats asked r page e k = not-refused k.2

@@ -26,33 +26,13 @@ start_step-ensures h pieces piece_length last_length n r rows holders =
     ((seats : List Seat) → length seats ≡ n → begun r seats (now rows.exit) (now holders.exit) ≡ start_of pieces piece_length last_length (yard_of h seats (now rows.entry) (now holders.entry)))
     × (r.clear ≡ sizes_fit (empty_head pieces piece_length last_length) n (length (now rows.entry)) (length (now holders.entry)))
 
-pub start_step-determined : (h : Head) (pieces piece_length last_length n : ℕ) → Determined2 (start_step-ensures h pieces piece_length last_length n)
-start_step-determined h pieces piece_length last_length n rows holders r r' rows₁ rows₂ holders₁ holders₂ e f =
-    laws.start-determined _ _ _ _ _ _ _ _ r r' _ _ _ _ e.0 e.1 f.0 f.1
-
-pub start_step-keeps : (h : Head) (pieces piece_length last_length n : ℕ) → Keeps2 (start_step-ensures h pieces piece_length last_length n) (λ r. Refused (paper r.answer))
-start_step-keeps h pieces piece_length last_length n r rows holders e k =
-    start-kept h pieces piece_length last_length n (now rows.entry) (now holders.entry) (now rows.exit) (now holders.exit) r (e.0 (replicate n cleared) (length-replicate n cleared)) k
-
 -- yard_seating::sit_step
 abbrev pub sit_step-ensures : (h : Head) (s : Seat) (holders : Lent (List ℕ)) (i n : ℕ) → Stepped → Lent (List ℕ) → Type 0
 sit_step-ensures h s holders i n r rows = turn r (now rows.exit) (now holders.entry) ≡ sit_of i n (around h s (now rows.entry) (now holders.entry))
 
-pub sit_step-determined : (h : Head) (s : Seat) (holders : Lent (List ℕ)) (i n : ℕ) → Determined1 (sit_step-ensures h s holders i n)
-sit_step-determined h s holders i n rows r r' rows₁ rows₂ e f = laws.sit-determined _ _ _ _ _ _ r r' _ _ e f
-
-pub sit_step-keeps : (h : Head) (s : Seat) (holders : Lent (List ℕ)) (i n : ℕ) → Keeps1 (sit_step-ensures h s holders i n) (λ r. Refused (paper r.answer))
-sit_step-keeps h s holders i n r rows e k = (turn-kept (sit-keeps _ i n) r e k).0
-
 -- yard_seating::leave_step
 abbrev pub leave_step-ensures : (h : Head) (s : Seat) (i n : ℕ) → Stepped → Lent (List ℕ) → Lent (List ℕ) → Type 0
 leave_step-ensures h s i n r rows holders = turn r (now rows.exit) (now holders.exit) ≡ leave_of i n (around h s (now rows.entry) (now holders.entry))
-
-pub leave_step-determined : (h : Head) (s : Seat) (i n : ℕ) → Determined2 (leave_step-ensures h s i n)
-leave_step-determined h s i n rows holders r r' rows₁ rows₂ holders₁ holders₂ e f = laws.leave-determined _ _ _ _ _ _ r r' _ _ _ _ e f
-
-pub leave_step-keeps : (h : Head) (s : Seat) (i n : ℕ) → Keeps2 (leave_step-ensures h s i n) (λ r. Refused (paper r.answer))
-leave_step-keeps h s i n r rows holders e k = turn-kept (leave-keeps _ i n) r e k
 
 -- yard_seating::choke_step
 abbrev pub choke_step-ensures : (h : Head) (s : Seat) (rows holders : Lent (List ℕ)) (i n : ℕ) (on : Bool) → Stepped → Lent (List ℕ) → Type 0
@@ -60,48 +40,24 @@ choke_step-ensures h s rows holders i n on r out =
     (turn r (now rows.entry) (now holders.entry) ≡ mark_of (we_choke on) (length (now out.entry)) i n (around h s (now rows.entry) (now holders.entry)))
     × (now out.exit ≡ sets (now out.entry) 0 (if_taken (paper r.answer) (choke_frame on)))
 
-pub choke_step-determined : (h : Head) (s : Seat) (rows holders : Lent (List ℕ)) (i n : ℕ) (on : Bool) → Determined1 (choke_step-ensures h s rows holders i n on)
-choke_step-determined h s rows holders i n on out r r' out₁ out₂ e f = laws.mark-determined _ _ _ _ _ _ _ _ _ r r' _ _ e.0 e.1 f.0 f.1
-
-pub choke_step-keeps : (h : Head) (s : Seat) (rows holders : Lent (List ℕ)) (i n : ℕ) (on : Bool) → Keeps1 (choke_step-ensures h s rows holders i n on) (λ r. Refused (paper r.answer))
-choke_step-keeps h s rows holders i n on r out e k = e.1 ∙ ap (λ o. sets (now out.entry) 0 (if_taken o (choke_frame on))) k.2
-
 -- yard_seating::interest_step
 abbrev pub interest_step-ensures : (h : Head) (s : Seat) (rows holders : Lent (List ℕ)) (i n : ℕ) (on : Bool) → Stepped → Lent (List ℕ) → Type 0
 interest_step-ensures h s rows holders i n on r out =
     (turn r (now rows.entry) (now holders.entry) ≡ mark_of (we_want on) (length (now out.entry)) i n (around h s (now rows.entry) (now holders.entry)))
     × (now out.exit ≡ sets (now out.entry) 0 (if_taken (paper r.answer) (interest_frame on)))
 
-pub interest_step-determined : (h : Head) (s : Seat) (rows holders : Lent (List ℕ)) (i n : ℕ) (on : Bool) → Determined1 (interest_step-ensures h s rows holders i n on)
-interest_step-determined h s rows holders i n on out r r' out₁ out₂ e f = laws.mark-determined _ _ _ _ _ _ _ _ _ r r' _ _ e.0 e.1 f.0 f.1
-
-pub interest_step-keeps : (h : Head) (s : Seat) (rows holders : Lent (List ℕ)) (i n : ℕ) (on : Bool) → Keeps1 (interest_step-ensures h s rows holders i n on) (λ r. Refused (paper r.answer))
-interest_step-keeps h s rows holders i n on r out e k = e.1 ∙ ap (λ o. sets (now out.entry) 0 (if_taken o (interest_frame on))) k.2
-
 -- yard_seating::looks::scarcest
 abbrev pub scarcest-ensures : (h : Head) (n : ℕ) (rows holders : Lent (List ℕ)) → Answer → Type 0
 scarcest-ensures h n rows holders r = ((s : Seat) → paper r ≡ (scarcest_of n (around h s (now rows.entry) (now holders.entry))).answer)
-
-pub scarcest-determined : (h : Head) (n : ℕ) (rows holders : Lent (List ℕ)) → Determined (scarcest-ensures h n rows holders)
-scarcest-determined h n rows holders r r' e f = laws.look-determined (λ q. scarcest_of n (around h q (now rows.entry) (now holders.entry))) r r' e f cleared
 
 -- yard_seating::looks::seat
 abbrev pub seat-ensures : (h : Head) (s : Seat) (i n : ℕ) (rows holders : Lent (List ℕ)) → Answer → Type 0
 seat-ensures h s i n rows holders r = paper r ≡ (seat_of i n (around h s (now rows.entry) (now holders.entry))).answer
 
-pub seat-determined : (h : Head) (s : Seat) (i n : ℕ) (rows holders : Lent (List ℕ)) → Determined (seat-ensures h s i n rows holders)
-seat-determined h s i n rows holders r r' e f = laws.seat-determined _ _ _ _ _ _ r r' e f
-
 -- yard_seating::looks::has
 abbrev pub has-ensures : (h : Head) (i : ℕ) (piece : PieceNumber) (n : ℕ) (rows holders : Lent (List ℕ)) → Answer → Type 0
 has-ensures h i piece n rows holders r = ((s : Seat) → paper r ≡ (has_of i piece.0 n (around h s (now rows.entry) (now holders.entry))).answer)
 
-pub has-determined : (h : Head) (i : ℕ) (piece : PieceNumber) (n : ℕ) (rows holders : Lent (List ℕ)) → Determined (has-ensures h i piece n rows holders)
-has-determined h i piece n rows holders r r' e f = laws.look-determined (λ q. has_of i piece.0 n (around h q (now rows.entry) (now holders.entry))) r r' e f cleared
-
 -- yard_seating::looks::count
 abbrev pub count-ensures : (h : Head) (piece : PieceNumber) (n : ℕ) (rows holders : Lent (List ℕ)) → Answer → Type 0
 count-ensures h piece n rows holders r = ((s : Seat) → paper r ≡ (count_of piece.0 n (around h s (now rows.entry) (now holders.entry))).answer)
-
-pub count-determined : (h : Head) (piece : PieceNumber) (n : ℕ) (rows holders : Lent (List ℕ)) → Determined (count-ensures h piece n rows holders)
-count-determined h piece n rows holders r r' e f = laws.look-determined (λ q. count_of piece.0 n (around h q (now rows.entry) (now holders.entry))) r r' e f cleared

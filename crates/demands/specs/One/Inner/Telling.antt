@@ -12,19 +12,10 @@ use Rattle.demands.specs.One.{Determined}
 abbrev pub code-ensures : (a : Answer) → ℕ → Type 0
 code-ensures a r = r ≡ code_of (paper a)
 
-pub code-determined : (a : Answer) → Determined (code-ensures a)
-code-determined a r r' x y = x ∙ sym y
-
 -- yard_telling::tell
 abbrev pub tell-ensures : (a : Answer) (was : Told) → Told → Type 0
 tell-ensures a was r = r ≡ told_of (paper a) was
 
-pub tell-determined : (a : Answer) (was : Told) → Determined (tell-ensures a was)
-tell-determined a was r r' x y = x ∙ sym y
-
 -- yard_telling::shown
 abbrev pub shown-ensures : (a : Answer) (seen : Seat) → Seat → Type 0
 shown-ensures a seen r = r ≡ shown_of (paper a) seen
-
-pub shown-determined : (a : Answer) (seen : Seat) → Determined (shown-ensures a seen)
-shown-determined a seen r r' x y = x ∙ sym y

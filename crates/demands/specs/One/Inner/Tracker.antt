@@ -8,6 +8,3 @@ use Rattle.demands.specs.One.{Lent, now, Determined}
 -- tracker::listed::count
 abbrev pub count-ensures : (text : Lent (List ℕ)) (first : ℕ) → Counted → Type 0
 count-ensures text first r = count_paper r ≡ count_of (now text.entry) first
-
-pub count-determined : (text : Lent (List ℕ)) (first : ℕ) → Determined (count-ensures text first)
-count-determined text first r r' e f = laws.count-determined _ r r' e f

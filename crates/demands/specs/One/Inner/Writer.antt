@@ -12,69 +12,30 @@ use Rattle.demands.specs.One.{Lent, now, Determined, Determined1, Keeps1, Refuse
 abbrev pub literal-ensures : (at : ℕ) (bytes : Lent (List ℕ)) → Put → Lent (List ℕ) → Type 0
 literal-ensures at bytes r out = left (paper r) (now out.exit) ≡ put_of (now bytes.entry) at (now out.entry)
 
-pub literal-determined : (at : ℕ) (bytes : Lent (List ℕ)) → Determined1 (literal-ensures at bytes)
-literal-determined at bytes out r r' out₁ out₂ e f = laws.determined _ _ _ r e r' f
-
-pub literal-keeps : (at : ℕ) (bytes : Lent (List ℕ)) → Keeps1 (literal-ensures at bytes) (λ r. Refused (paper r))
-literal-keeps at bytes r out e k = (laws.refusal-keeps _ _ _ r e k.2).1
-
 -- bencode_writer::small_hex
 abbrev pub small_hex-ensures : (at : ℕ) (bytes : Lent (List ℕ)) → Put → Lent (List ℕ) → Type 0
 small_hex-ensures at bytes r out = left (paper r) (now out.exit) ≡ put_of (small_hex (now bytes.entry)) at (now out.entry)
-
-pub small_hex-determined : (at : ℕ) (bytes : Lent (List ℕ)) → Determined1 (small_hex-ensures at bytes)
-small_hex-determined at bytes out r r' out₁ out₂ e f = laws.determined _ _ _ r e r' f
-
-pub small_hex-keeps : (at : ℕ) (bytes : Lent (List ℕ)) → Keeps1 (small_hex-ensures at bytes) (λ r. Refused (paper r))
-small_hex-keeps at bytes r out e k = (laws.refusal-keeps _ _ _ r e k.2).1
 
 -- bencode_writer::decimal
 abbrev pub decimal-ensures : (at n : ℕ) → Put → Lent (List ℕ) → Type 0
 decimal-ensures at n r out = left (paper r) (now out.exit) ≡ put_of (decimal n) at (now out.entry)
 
-pub decimal-determined : (at n : ℕ) → Determined1 (decimal-ensures at n)
-decimal-determined at n out r r' out₁ out₂ e f = laws.determined _ _ _ r e r' f
-
-pub decimal-keeps : (at n : ℕ) → Keeps1 (decimal-ensures at n) (λ r. Refused (paper r))
-decimal-keeps at n r out e k = (laws.refusal-keeps _ _ _ r e k.2).1
-
 -- bencode_writer::string
 abbrev pub string-ensures : (at : ℕ) (bytes : Lent (List ℕ)) → Put → Lent (List ℕ) → Type 0
 string-ensures at bytes r out = left (paper r) (now out.exit) ≡ put_of (written_string (now bytes.entry)) at (now out.entry)
-
-pub string-determined : (at : ℕ) (bytes : Lent (List ℕ)) → Determined1 (string-ensures at bytes)
-string-determined at bytes out r r' out₁ out₂ e f = laws.determined _ _ _ r e r' f
-
-pub string-keeps : (at : ℕ) (bytes : Lent (List ℕ)) → Keeps1 (string-ensures at bytes) (λ r. Refused (paper r))
-string-keeps at bytes r out e k = (laws.refusal-keeps _ _ _ r e k.2).1
 
 -- bencode_writer::integer
 abbrev pub integer-ensures : (at : ℕ) (z : ℤ) → Put → Lent (List ℕ) → Type 0
 integer-ensures at z r out = left (paper r) (now out.exit) ≡ put_of (written_int z) at (now out.entry)
 
-pub integer-determined : (at : ℕ) (z : ℤ) → Determined1 (integer-ensures at z)
-integer-determined at z out r r' out₁ out₂ e f = laws.determined _ _ _ r e r' f
-
-pub integer-keeps : (at : ℕ) (z : ℤ) → Keeps1 (integer-ensures at z) (λ r. Refused (paper r))
-integer-keeps at z r out e k = (laws.refusal-keeps _ _ _ r e k.2).1
-
 -- bencode_writer::digits
 abbrev pub digits-ensures : (n : ℕ) → ℕ → Type 0
 digits-ensures n r = (r ≡ length (decimal n)) × (r ≤ 20)
-
-pub digits-determined : (n : ℕ) → Determined (digits-ensures n)
-digits-determined n r r' e f = e.0 ∙ sym f.0
 
 -- bencode_writer::end
 abbrev pub end-ensures : (put : Put) → ℕ → Type 0
 end-ensures put r = r ≡ place_past (paper put)
 
-pub end-determined : (put : Put) → Determined (end-ensures put)
-end-determined put r r' e f = e ∙ sym f
-
 -- bencode_writer::escape
 abbrev pub escape-ensures : (b : ℕ) → List ℕ → Type 0
 escape-ensures b r = r ≡ percent b
-
-pub escape-determined : (b : ℕ) → Determined (escape-ensures b)
-escape-determined b r r' e f = e ∙ sym f

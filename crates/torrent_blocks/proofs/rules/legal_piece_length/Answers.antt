@@ -9,4 +9,4 @@ returns-in-16384 c = sym (power-true 10 14 c.args.n c.in-16384.is)
 
 pub returns-in_default : goal.returns-in_default
 unfolding Power
-returns-in_default c = sym (power-false 10 14 c.args.n c.in_default.rest.1)
+returns-in_default c = sym (power-false 10 14 c.args.n c.in_default.in_default-own.rest.1)

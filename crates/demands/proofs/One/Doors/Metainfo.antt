@@ -1,0 +1,40 @@
+-- Demand 1 of `torrent_metainfo`: torrents, read. Assumes nothing.
+use Rattle.std.specs.Prelude.{List, ◌≡◌, ℕ, ◌+◌, min, length}
+use Rattle.std.proofs.Common.{sym, ◌∙◌}
+use Rattle.refusal.specs.Parts.{bytes_at}
+use Rattle.hash_sha1.specs.Digest.{paper as hash_paper, left}
+use Rattle.hash_sha1.specs.declared.Hashed.{Hashed}
+use Rattle.torrent_metainfo.specs.Hashes.{info_hash_of}
+use Rattle.torrent_metainfo.specs.Reading.{paper, read_of, announce_in, name_in_of, file_paper, file_at}
+use Rattle.torrent_metainfo.specs.declared.Filed.{Filed}
+use Rattle.torrent_metainfo.specs.declared.Reading.{Reading}
+use Rattle.torrent_metainfo.proofs.Determined as laws
+use Rattle.torrent_metainfo.proofs.Hashing as hashing
+use Rattle.demands_laws.proofs.Digests.{hash-kept}
+use Rattle.demands_laws.proofs.Refusals.{one-part}
+use Rattle.demands.specs.One.{Lent, now, Determined, Ref, ref, Determined1, Keeps1, Refused}
+use Rattle.demands.specs.One.Doors.Metainfo.{read-ensures, announce-ensures, name-ensures, info_hash-ensures, file_at-ensures}
+
+
+-- torrent_metainfo::read
+pub read-determined : (text : Lent (List ℕ)) → Determined (read-ensures text)
+read-determined text r r' e f = laws.read-determined _ r r' e f
+
+-- torrent_metainfo::announce
+pub announce-determined : (text : Lent (List ℕ)) → Determined (announce-ensures text)
+announce-determined text r r' e f = one-part ref (e.0 ∙ sym f.0, e.1.0 ∙ sym f.1.0, e.1.1 ∙ sym f.1.1)
+
+-- torrent_metainfo::name
+pub name-determined : (text : Lent (List ℕ)) → Determined (name-ensures text)
+name-determined text r r' e f = one-part ref (e.0 ∙ sym f.0, e.1.0 ∙ sym f.1.0, e.1.1 ∙ sym f.1.1)
+
+-- torrent_metainfo::info_hash
+pub info_hash-determined : (text : Lent (List ℕ)) → Determined1 (info_hash-ensures text)
+info_hash-determined text out r r' out₁ out₂ e f = hashing.info_hash-determined _ _ r r' _ _ e f
+
+pub info_hash-keeps : (text : Lent (List ℕ)) → Keeps1 (info_hash-ensures text) (λ r. Refused (hash_paper r))
+info_hash-keeps text r out e k = hash-kept (now text.entry) (now out.entry) (read_of (now text.entry)) r e k.2
+
+-- torrent_metainfo::file_at
+pub file_at-determined : (text : Lent (List ℕ)) (at : ℕ) → Determined (file_at-ensures text at)
+file_at-determined text at r r' e f = laws.file-determined (now text.entry) at r r' e f

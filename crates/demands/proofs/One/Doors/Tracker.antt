@@ -1,0 +1,35 @@
+-- Demand 1 of `tracker`: replies and their entries, read. Assumes nothing.
+use Rattle.std.specs.Prelude.{List, ◌≡◌, ℕ}
+use Rattle.std.proofs.Common.{sym, ◌∙◌}
+use Rattle.refusal.specs.Paper.{map, then}
+use Rattle.tracker.specs.Entries.{packed_paper, packed_at, listed_paper, listed_at}
+use Rattle.tracker.specs.Reading.{paper, peer_paper, entry_count}
+use Rattle.tracker.specs.Reply.{counted, reply_of, nth_of}
+use Rattle.tracker.specs.declared.Found.{Found}
+use Rattle.tracker.specs.declared.Reply.{Reply}
+use Rattle.tracker.specs.declared.compact.Packing.{Packing}
+use Rattle.tracker.specs.declared.listed.Listing.{Listing}
+use Rattle.tracker.proofs.Determined as laws
+use Rattle.demands.specs.One.{Lent, now, Determined}
+use Rattle.demands.specs.One.Doors.Tracker.{read-ensures, peer-ensures, entries-ensures, packed_at-ensures, listed_at-ensures}
+
+
+-- tracker::read
+pub read-determined : (text : Lent (List ℕ)) → Determined (read-ensures text)
+read-determined text r r' e f = laws.read-determined _ r r' e f
+
+-- tracker::peer
+pub peer-determined : (text : Lent (List ℕ)) (n : ℕ) → Determined (peer-ensures text n)
+peer-determined text n r r' e f = laws.peer-determined _ r r' e f
+
+-- tracker::entries
+pub entries-determined : (reply : Reply) → Determined (entries-ensures reply)
+entries-determined reply r r' e f = e ∙ sym f
+
+-- tracker::compact::packed_at
+pub packed_at-determined : (text : Lent (List ℕ)) (at : ℕ) → Determined (packed_at-ensures text at)
+packed_at-determined text at r r' e f = laws.packed-determined _ r r' e f
+
+-- tracker::listed::listed_at
+pub listed_at-determined : (text : Lent (List ℕ)) (at : ℕ) → Determined (listed_at-ensures text at)
+listed_at-determined text at r r' e f = laws.listed-determined _ r r' e f
