@@ -1,38 +1,39 @@
 // Blocks to parts of files, bytes of files to pieces, and the sizes of pieces.
 use crate::{calls, report, words};
+use std::io::Stdout;
 use torrent_blocks::{Parts, PieceNumber, PieceOffset, Place, Size};
 
 // What the lent output holds before each call.
 const MARK: u64 = 77;
 
 // A call of these, whose second word lists the lengths.
-pub fn ask(call: usize, line: &[u8]) {
+pub fn ask(output: Stdout, call: usize, line: &[u8]) {
     let mut lengths = [0u64; 1025];
-    listed(&mut lengths, call, line);
+    listed(output, &mut lengths, call, line);
 }
 
-fn listed(lengths: &mut [u64], call: usize, line: &[u8]) {
+fn listed(output: Stdout, lengths: &mut [u64], call: usize, line: &[u8]) {
     let count = words::list(lengths, words::word(line, 2, b' '));
     if count <= lengths.len() {
-        answer(call, line, &lengths[0..count]);
+        answer(output, call, line, &lengths[0..count]);
     }
 }
 
-fn answer(call: usize, line: &[u8], lengths: &[u64]) {
+fn answer(output: Stdout, call: usize, line: &[u8], lengths: &[u64]) {
     let piece_length = words::number(line, 1);
     match call {
-        calls::BLOCK => block(line, lengths, piece_length),
-        calls::BYTE => byte(line, lengths, piece_length),
-        _ => size(line, lengths, piece_length),
+        calls::BLOCK => block(output, line, lengths, piece_length),
+        calls::BYTE => byte(output, line, lengths, piece_length),
+        _ => size(output, line, lengths, piece_length),
     }
 }
 
-fn block(line: &[u8], lengths: &[u64], piece_length: u64) {
+fn block(output: Stdout, line: &[u8], lengths: &[u64], piece_length: u64) {
     let mut space = [MARK; 3075];
-    within(&mut space, line, lengths, piece_length);
+    within(output, &mut space, line, lengths, piece_length);
 }
 
-fn within(space: &mut [u64], line: &[u8], lengths: &[u64], piece_length: u64) {
+fn within(output: Stdout, space: &mut [u64], line: &[u8], lengths: &[u64], piece_length: u64) {
     let room = room(words::word(line, 6, b' '));
     if space.len() < room {
         return;
@@ -45,7 +46,7 @@ fn within(space: &mut [u64], line: &[u8], lengths: &[u64], piece_length: u64) {
         words::small(line, 5),
         &mut space[0..room],
     );
-    parts(found, space);
+    parts(output, found, space);
 }
 
 // So many parts, or `1+2` for one and two numbers more, in numbers.
@@ -62,68 +63,68 @@ fn numbers(parts: u64, more: u64) -> usize {
 }
 
 // The parts that were written, or the refusal; and a word where the output past them is not as it was.
-fn parts(found: Parts, space: &[u64]) {
+fn parts(output: Stdout, found: Parts, space: &[u64]) {
     match found {
-        Parts::Written(count) => marks(each(count, space), space),
+        Parts::Written(count) => marks(output, each(output, count, space), space),
         Parts::Refused(r) => {
-            report::refused(r);
-            marks(0, space);
+            report::refused(output, r);
+            marks(output, 0, space);
         }
     }
 }
 
 // Prints so many parts, and answers the place past them.
-fn each(count: usize, space: &[u64]) -> usize {
+fn each(output: Stdout, count: usize, space: &[u64]) -> usize {
     let mut i = 0;
     let mut left = count;
     while 0 < left {
         if space.len() - i < 3 {
             return i;
         }
-        part(i, space[i], space[i + 1], space[i + 2]);
+        part(output, i, space[i], space[i + 1], space[i + 2]);
         i += 3;
         left -= 1;
     }
     i
 }
 
-fn part(i: usize, file: u64, offset: u64, count: u64) {
+fn part(output: Stdout, i: usize, file: u64, offset: u64, count: u64) {
     if 0 < i {
-        report::name(report::SPACE);
+        report::name(output, report::SPACE);
     }
-    report::decimal(file);
-    report::field(report::COLON, offset);
-    report::field(report::COLON, count);
+    report::decimal(output, file);
+    report::field(output, report::COLON, offset);
+    report::field(output, report::COLON, count);
 }
 
-fn marks(from: usize, space: &[u64]) {
+fn marks(output: Stdout, from: usize, space: &[u64]) {
     let mut i = from;
     while i < space.len() {
         if space[i] != MARK {
-            return report::name(report::CHANGED);
+            return report::name(output, report::CHANGED);
         }
         i += 1;
     }
 }
 
-fn byte(line: &[u8], lengths: &[u64], piece_length: u64) {
+fn byte(output: Stdout, line: &[u8], lengths: &[u64], piece_length: u64) {
     let file = words::number(line, 3);
     let offset = words::number(line, 4);
     match torrent_blocks::byte(lengths, piece_length, file as usize, offset) {
-        Place::At(piece, place) => spot(piece, place),
-        Place::Refused(r) => report::refused(r),
+        Place::At(piece, place) => spot(output, piece, place),
+        Place::Refused(r) => report::refused(output, r),
     }
 }
 
-fn spot(piece: PieceNumber, place: PieceOffset) {
-    report::decimal(piece.0 as u64);
-    report::number(place.0 as u64);
+fn spot(output: Stdout, piece: PieceNumber, place: PieceOffset) {
+    report::decimal(output, piece.0 as u64);
+    report::number(output, place.0 as u64);
 }
 
-fn size(line: &[u8], lengths: &[u64], piece_length: u64) {
+fn size(output: Stdout, line: &[u8], lengths: &[u64], piece_length: u64) {
     let piece = PieceNumber(words::small(line, 3));
     match torrent_blocks::piece_size(lengths, piece_length, piece) {
-        Size::Bytes(n) => report::decimal(n),
-        Size::Refused(r) => report::refused(r),
+        Size::Bytes(n) => report::decimal(output, n),
+        Size::Refused(r) => report::refused(output, r),
     }
 }

@@ -6,6 +6,7 @@ use crate::{
     addresses, blocks, hashes, magnets, replies, report, texts, torrents, weeks, wire, words,
     writers,
 };
+use std::io::Stdout;
 
 // The numbers of the calls that others ask for.
 pub const BLOCK: usize = 15;
@@ -36,17 +37,17 @@ pub const WRITE_WEEK: usize = 27;
 
 const NO_CALL: usize = 28;
 
-pub fn each(script: &[u8], space: &mut [u8]) {
+pub fn each(output: Stdout, script: &[u8], space: &mut [u8]) {
     let mut from = 0;
     while from < script.len() {
         let to = words::find(script, from, b'\n');
-        one(&script[from..to], space);
+        one(output, &script[from..to], space);
         from = to + 1;
     }
 }
 
 // A line: a remark, or a call, or `sum` and a call: no other call has a u second.
-fn one(line: &[u8], space: &mut [u8]) {
+fn one(output: Stdout, line: &[u8], space: &mut [u8]) {
     if line.len() < 4 {
         return;
     }
@@ -54,16 +55,16 @@ fn one(line: &[u8], space: &mut [u8]) {
         return;
     }
     if line[1] == b'u' {
-        return ask(&line[4..], space, true);
+        return ask(output, &line[4..], space, true);
     }
-    ask(line, space, false);
+    ask(output, line, space, false);
 }
 
-fn ask(line: &[u8], space: &mut [u8], brief: bool) {
+fn ask(output: Stdout, line: &[u8], space: &mut [u8], brief: bool) {
     let call = number_of(words::word(line, 0, b' '));
     let ends = fill(space, line, third(call));
-    share(call, line, brief, space, ends);
-    report::name(report::NEWLINE);
+    share(output, call, line, brief, space, ends);
+    report::name(output, report::NEWLINE);
 }
 
 // Where each of the words of bytes ends in the space.
@@ -87,13 +88,21 @@ fn fill(space: &mut [u8], line: &[u8], last: usize) -> Ends
     }
 }
 
-fn share(call: usize, line: &[u8], brief: bool, space: &[u8], ends: Ends)
+fn share(output: Stdout, call: usize, line: &[u8], brief: bool, space: &[u8], ends: Ends)
     requires { (ends.first ≤ ends.second) × (ends.second ≤ ends.third) × (ends.third ≤ length space.now) }
 {
     let a = ends.first;
     let b = ends.second;
     let c = ends.third;
-    answer(call, line, brief, &space[0..a], &space[a..b], &space[b..c]);
+    answer(
+        output,
+        call,
+        line,
+        brief,
+        &space[0..a],
+        &space[a..b],
+        &space[b..c],
+    );
 }
 
 // The number of a call.
@@ -109,37 +118,45 @@ fn third(call: usize) -> usize {
     if call == WRITE_TORRENT { 5 } else { 3 }
 }
 
-fn answer<'a>(call: usize, line: &[u8], brief: bool, x: &'a [u8], y: &'a [u8], z: &[u8]) {
+fn answer<'a>(
+    output: Stdout,
+    call: usize,
+    line: &[u8],
+    brief: bool,
+    x: &'a [u8],
+    y: &'a [u8],
+    z: &[u8],
+) {
     match call {
-        0 => texts::check(x),
-        1 => texts::walk(x),
-        2 => torrents::torrent(x),
-        3 => torrents::file(x, words::number(line, 2) as usize),
-        4 => torrents::places(x),
-        5 => torrents::piece(x, words::small(line, 2), z),
-        6 => replies::reply(x),
-        7 => replies::peer(x, words::number(line, 2) as usize),
-        8 => replies::entries(x),
-        ADDRESS => addresses::address(x, y),
-        LINK => magnets::link(line, x),
-        WEEK => weeks::sums(x),
-        PACKAGE => weeks::package(x, words::number(line, 2) as usize),
-        _ => other(call, line, brief, x, y, z),
+        0 => texts::check(output, x),
+        1 => texts::walk(output, x),
+        2 => torrents::torrent(output, x),
+        3 => torrents::file(output, x, words::number(line, 2) as usize),
+        4 => torrents::places(output, x),
+        5 => torrents::piece(output, x, words::small(line, 2), z),
+        6 => replies::reply(output, x),
+        7 => replies::peer(output, x, words::number(line, 2) as usize),
+        8 => replies::entries(output, x),
+        ADDRESS => addresses::address(output, x, y),
+        LINK => magnets::link(output, line, x),
+        WEEK => weeks::sums(output, x),
+        PACKAGE => weeks::package(output, x, words::number(line, 2) as usize),
+        _ => other(output, call, line, brief, x, y, z),
     }
 }
 
-fn other(call: usize, line: &[u8], brief: bool, x: &[u8], y: &[u8], z: &[u8]) {
+fn other(output: Stdout, call: usize, line: &[u8], brief: bool, x: &[u8], y: &[u8], z: &[u8]) {
     match call {
-        9 => wire::frame(x, false),
-        10 => wire::frame_cuts(x),
-        11 => wire::handshake(x, y, false),
-        12 => wire::handshake_cuts(x, y),
-        13 => hashes::whole(x),
-        14 => hashes::parts(x, words::word(line, 2, b' ')),
-        BLOCK => blocks::ask(call, line),
-        BYTE => blocks::ask(call, line),
-        SIZE => blocks::ask(call, line),
-        NO_CALL => report::name(report::NO_CALL),
-        _ => writers::ask(call, line, brief, x, y, z),
+        9 => wire::frame(output, x, false),
+        10 => wire::frame_cuts(output, x),
+        11 => wire::handshake(output, x, y, false),
+        12 => wire::handshake_cuts(output, x, y),
+        13 => hashes::whole(output, x),
+        14 => hashes::parts(output, x, words::word(line, 2, b' ')),
+        BLOCK => blocks::ask(output, call, line),
+        BYTE => blocks::ask(output, call, line),
+        SIZE => blocks::ask(output, call, line),
+        NO_CALL => report::name(output, report::NO_CALL),
+        _ => writers::ask(output, call, line, brief, x, y, z),
     }
 }

@@ -4,23 +4,24 @@ ghost use Rattle.std.specs.Prelude.{◌≤◌};
 use crate::{report, words};
 use hash_sha1::stream::Stream;
 use hash_sha1::{Hashed, stream};
+use std::io::Stdout;
 
-pub fn whole(bytes: &[u8]) {
+pub fn whole(output: Stdout, bytes: &[u8]) {
     let mut out = [0u8; 20];
     let answer = hash_sha1::digest(bytes, &mut out);
-    show(answer, &out);
+    show(output, answer, &out);
 }
 
 // In parts of the lengths that a word lists, and the rest.
-pub fn parts(bytes: &[u8], word: &[u8]) {
+pub fn parts(output: Stdout, bytes: &[u8], word: &[u8]) {
     let mut lengths = [0u64; 1025];
-    listed(&mut lengths, bytes, word);
+    listed(output, &mut lengths, bytes, word);
 }
 
-fn listed(lengths: &mut [u64], bytes: &[u8], word: &[u8]) {
+fn listed(output: Stdout, lengths: &mut [u64], bytes: &[u8], word: &[u8]) {
     let count = words::list(lengths, word);
     if count <= lengths.len() {
-        ended(cut(bytes, &lengths[0..count]));
+        ended(output, cut(bytes, &lengths[0..count]));
     }
 }
 
@@ -48,15 +49,15 @@ fn past(from: usize, size: u64, len: usize) -> usize
     from + size as usize
 }
 
-fn ended(s: Stream) {
+fn ended(output: Stdout, s: Stream) {
     let mut out = [0u8; 20];
     let answer = stream::finish(s, &mut out);
-    show(answer, &out);
+    show(output, answer, &out);
 }
 
-pub fn show(answer: Hashed, out: &[u8; 20]) {
+pub fn show(output: Stdout, answer: Hashed, out: &[u8; 20]) {
     match answer {
-        Hashed::Written => report::hex(out),
-        Hashed::Refused(r) => report::refused(r),
+        Hashed::Written => report::hex(output, out),
+        Hashed::Refused(r) => report::refused(output, r),
     }
 }

@@ -1,81 +1,82 @@
 // Tracker replies: what they say, their entries, and where these stand.
 use crate::report;
 use refusal::Part;
+use std::io::Stdout;
 use tracker::compact::{Packed, Packing};
 use tracker::listed::{Listed, Listing};
 use tracker::{Found, Peers, Reply};
 
-pub fn reply(text: &[u8]) {
+pub fn reply(output: Stdout, text: &[u8]) {
     match tracker::read(text) {
-        Reply::Failure(p) => failed(text, p),
-        Reply::Compact(p) => taken(p),
-        Reply::List(p) => taken(p),
-        Reply::Refused(r) => report::refused(r),
+        Reply::Failure(p) => failed(output, text, p),
+        Reply::Compact(p) => taken(output, p),
+        Reply::List(p) => taken(output, p),
+        Reply::Refused(r) => report::refused(output, r),
     }
 }
 
-fn failed(text: &[u8], p: Part) {
-    report::name(report::FAILURE);
-    report::hex(bencode_walk::bytes(text, p));
+fn failed(output: Stdout, text: &[u8], p: Part) {
+    report::name(output, report::FAILURE);
+    report::hex(output, bencode_walk::bytes(text, p));
 }
 
-fn taken(p: Peers) {
-    report::field(report::TAKEN, p.interval);
-    report::number(p.count as u64);
+fn taken(output: Stdout, p: Peers) {
+    report::field(output, report::TAKEN, p.interval);
+    report::number(output, p.count as u64);
 }
 
 // Entry n.
-pub fn peer(text: &[u8], n: usize) {
+pub fn peer(output: Stdout, text: &[u8], n: usize) {
     match tracker::peer(text, n) {
-        Found::Packed(x) => packed(x),
-        Found::Listed(x) => listed(text, x),
-        Found::Refused(r) => report::refused(r),
+        Found::Packed(x) => packed(output, x),
+        Found::Listed(x) => listed(output, text, x),
+        Found::Refused(r) => report::refused(output, r),
     }
 }
 
-fn packed(x: Packed) {
+fn packed(output: Stdout, x: Packed) {
     let a = x.address;
-    report::name(report::NOBODY);
-    report::name(report::SPACE);
-    report::digits(a.0);
-    report::digits(a.1);
-    report::digits(a.2);
-    report::digits(a.3);
-    report::number(x.port);
+    report::name(output, report::NOBODY);
+    report::name(output, report::SPACE);
+    report::digits(output, a.0);
+    report::digits(output, a.1);
+    report::digits(output, a.2);
+    report::digits(output, a.3);
+    report::number(output, x.port);
 }
 
-fn listed(text: &[u8], x: Listed) {
-    report::hex(bencode_walk::bytes(text, x.id));
-    report::next_hex(bencode_walk::bytes(text, x.ip));
-    report::number(x.port);
+fn listed(output: Stdout, text: &[u8], x: Listed) {
+    report::hex(output, bencode_walk::bytes(text, x.id));
+    report::next_hex(output, bencode_walk::bytes(text, x.ip));
+    report::number(output, x.port);
 }
 
 // Where the parts of a reply stand.
-pub fn entries(text: &[u8]) {
+pub fn entries(output: Stdout, text: &[u8]) {
     match tracker::read(text) {
-        Reply::Failure(p) => reason(p),
-        Reply::Compact(p) => walked(text, report::COMPACT, p, true),
-        Reply::List(p) => list(text, p),
-        Reply::Refused(r) => report::refused(r),
+        Reply::Failure(p) => reason(output, p),
+        Reply::Compact(p) => walked(output, text, report::COMPACT, p, true),
+        Reply::List(p) => list(output, text, p),
+        Reply::Refused(r) => report::refused(output, r),
     }
 }
 
-fn reason(p: Part) {
-    report::name(report::FAILURE);
-    report::part(p);
+fn reason(output: Stdout, p: Part) {
+    report::name(output, report::FAILURE);
+    report::part(output, p);
 }
 
-fn list(text: &[u8], p: Peers) {
-    walked(text, report::LISTED, p, false);
+fn list(output: Stdout, text: &[u8], p: Peers) {
+    walked(output, text, report::LISTED, p, false);
     if 0 < p.count {
-        parts(text, 0);
-        parts(text, p.count - 1);
+        parts(output, text, 0);
+        parts(output, text, p.count - 1);
     }
 }
 
-fn walked(text: &[u8], form: usize, p: Peers, compact: bool) {
-    report::field(form, p.first as u64);
-    report::number(end(text, p.first, p.count, compact) as u64);
+fn walked(output: Stdout, text: &[u8], form: usize, p: Peers, compact: bool) {
+    report::field(output, form, p.first as u64);
+    report::number(output, end(text, p.first, p.count, compact) as u64);
 }
 
 // The place that the entries come to, walked one by one.
@@ -108,15 +109,15 @@ fn past_packed(text: &[u8], at: usize) -> usize {
 }
 
 // Where the peer id and the ip of an entry stand.
-fn parts(text: &[u8], n: usize) {
+fn parts(output: Stdout, text: &[u8], n: usize) {
     match tracker::peer(text, n) {
         Found::Packed(_) => {}
-        Found::Listed(x) => places(x),
-        Found::Refused(r) => report::refused(r),
+        Found::Listed(x) => places(output, x),
+        Found::Refused(r) => report::refused(output, r),
     }
 }
 
-fn places(x: Listed) {
-    report::next_part(x.id);
-    report::next_part(x.ip);
+fn places(output: Stdout, x: Listed) {
+    report::next_part(output, x.id);
+    report::next_part(output, x.ip);
 }

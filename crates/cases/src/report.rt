@@ -1,7 +1,7 @@
 // Words, numbers and bytes of an answer.
 use crate::words::word;
-use libc::STDOUT_FILENO;
 use refusal::{Part, Refusal};
+use std::io::Stdout;
 
 // The numbers of the words.
 const REFUSED: usize = 0;
@@ -59,79 +59,80 @@ pub const IN_TORRENT: usize = 25;
 pub const IN_SHEET: usize = 26;
 
 // Word k. One text has them all, since each literal costs the check.
-pub fn name(k: usize) {
+pub fn name(output: Stdout, k: usize) {
     nth(
+        output,
         b"refused | at |taken | |-|:|\n|/|yes|no|failure |none|wait| keepalive| single | files |compact |list | output changed|s|n|l|d|e|no call|torrent |sheet |",
         k,
     );
 }
 
-fn nth(names: &[u8], k: usize) {
-    say(word(names, k, b'|'));
+fn nth(output: Stdout, names: &[u8], k: usize) {
+    say(output, word(names, k, b'|'));
 }
 
-pub fn say(bytes: &[u8]) {
-    io::write_all(STDOUT_FILENO, bytes);
+pub fn say(output: Stdout, bytes: &[u8]) {
+    let _ = output.write_all(bytes);
 }
 
-pub fn decimal(n: u64) {
-    io::print_decimal(STDOUT_FILENO, n);
+pub fn decimal(output: Stdout, n: u64) {
+    let _ = output.print(n);
 }
 
 // A number after a space.
-pub fn number(n: u64) {
-    name(SPACE);
-    decimal(n);
+pub fn number(output: Stdout, n: u64) {
+    name(output, SPACE);
+    decimal(output, n);
 }
 
 // A number after a word.
-pub fn field(k: usize, n: u64) {
-    name(k);
-    decimal(n);
+pub fn field(output: Stdout, k: usize, n: u64) {
+    name(output, k);
+    decimal(output, n);
 }
 
-pub fn refused(r: Refusal) {
-    field(REFUSED, r.number as u64);
-    field(AT, r.place as u64);
+pub fn refused(output: Stdout, r: Refusal) {
+    field(output, REFUSED, r.number as u64);
+    field(output, AT, r.place as u64);
 }
 
 // A place with a length.
-pub fn part(p: Part) {
-    decimal(p.from as u64);
-    field(COLON, p.len as u64);
+pub fn part(output: Stdout, p: Part) {
+    decimal(output, p.from as u64);
+    field(output, COLON, p.len as u64);
 }
 
 // The same after a space.
-pub fn next_part(p: Part) {
-    name(SPACE);
-    part(p);
+pub fn next_part(output: Stdout, p: Part) {
+    name(output, SPACE);
+    part(output, p);
 }
 
 // Bytes in hex.
-pub fn hex(bytes: &[u8]) {
+pub fn hex(output: Stdout, bytes: &[u8]) {
     if bytes.len() == 0 {
-        return name(NONE);
+        return name(output, NONE);
     }
     let mut i = 0;
     while i < bytes.len() {
-        digits(bytes[i]);
+        digits(output, bytes[i]);
         i += 1;
     }
 }
 
 // The same after a space.
-pub fn next_hex(bytes: &[u8]) {
-    name(SPACE);
-    hex(bytes);
+pub fn next_hex(output: Stdout, bytes: &[u8]) {
+    name(output, SPACE);
+    hex(output, bytes);
 }
 
-pub fn digits(b: u8) {
-    io::print_hex(STDOUT_FILENO, b as u64, 2);
+pub fn digits(output: Stdout, b: u8) {
+    let _ = print!(output; "{b:02x}");
 }
 
 // How many bytes, a colon and their digest.
-pub fn sum(bytes: &[u8]) {
-    decimal(bytes.len() as u64);
-    name(COLON);
-    crate::hashes::whole(bytes);
+pub fn sum(output: Stdout, bytes: &[u8]) {
+    decimal(output, bytes.len() as u64);
+    name(output, COLON);
+    crate::hashes::whole(output, bytes);
 }

@@ -4,114 +4,115 @@ ghost use Rattle.std.specs.Prelude.{◌≤◌};
 use crate::report;
 use peer_wire::{Frame, Greeting, Read};
 use refusal::Part;
+use std::io::Stdout;
 use torrent_blocks::{PieceNumber, PieceOffset};
 
 // The frame that the bytes begin with: its payload, or its numbers and where its bytes stand.
-pub fn frame(bytes: &[u8], places: bool) {
+pub fn frame(output: Stdout, bytes: &[u8], places: bool) {
     match peer_wire::read_frame(bytes) {
-        Read::Wait => report::name(report::WAIT),
-        Read::Keepalive(used) => keepalive(used, places),
-        Read::Whole(f, used) => whole(bytes, f, used, places),
-        Read::Refused(r) => report::refused(r),
+        Read::Wait => report::name(output, report::WAIT),
+        Read::Keepalive(used) => keepalive(output, used, places),
+        Read::Whole(f, used) => whole(output, bytes, f, used, places),
+        Read::Refused(r) => report::refused(output, r),
     }
 }
 
-fn keepalive(used: usize, places: bool) {
-    report::field(report::TAKEN, used as u64);
-    report::name(report::KEEPALIVE);
+fn keepalive(output: Stdout, used: usize, places: bool) {
+    report::field(output, report::TAKEN, used as u64);
+    report::name(output, report::KEEPALIVE);
     if !places {
-        report::next_hex(b"");
+        report::next_hex(output, b"");
     }
 }
 
-fn whole(bytes: &[u8], f: Frame, used: usize, places: bool) {
-    report::field(report::TAKEN, used as u64);
+fn whole(output: Stdout, bytes: &[u8], f: Frame, used: usize, places: bool) {
+    report::field(output, report::TAKEN, used as u64);
     if places {
-        return fields(f);
+        return fields(output, f);
     }
     if 5 <= used {
         if used <= bytes.len() {
-            message(bytes[4], &bytes[5..used]);
+            message(output, bytes[4], &bytes[5..used]);
         }
     }
 }
 
-fn message(id: u8, payload: &[u8]) {
-    report::number(id as u64);
-    report::next_hex(payload);
+fn message(output: Stdout, id: u8, payload: &[u8]) {
+    report::number(output, id as u64);
+    report::next_hex(output, payload);
 }
 
-fn fields(f: Frame) {
+fn fields(output: Stdout, f: Frame) {
     match f {
-        Frame::Choke => report::number(0),
-        Frame::Unchoke => report::number(1),
-        Frame::Interested => report::number(2),
-        Frame::NotInterested => report::number(3),
-        Frame::Have(p) => have(p),
-        Frame::Bitfield(bits) => some(5, bits),
-        Frame::Request(p, b, l) => three(6, p, b, l),
-        Frame::Piece(p, b, block) => piece(p, b, block),
-        Frame::Cancel(p, b, l) => three(8, p, b, l),
-        Frame::Other(id, rest) => some(id, rest),
+        Frame::Choke => report::number(output, 0),
+        Frame::Unchoke => report::number(output, 1),
+        Frame::Interested => report::number(output, 2),
+        Frame::NotInterested => report::number(output, 3),
+        Frame::Have(p) => have(output, p),
+        Frame::Bitfield(bits) => some(output, 5, bits),
+        Frame::Request(p, b, l) => three(output, 6, p, b, l),
+        Frame::Piece(p, b, block) => piece(output, p, b, block),
+        Frame::Cancel(p, b, l) => three(output, 8, p, b, l),
+        Frame::Other(id, rest) => some(output, id, rest),
     }
 }
 
-fn have(p: PieceNumber) {
-    report::number(4);
-    report::number(p.0 as u64);
+fn have(output: Stdout, p: PieceNumber) {
+    report::number(output, 4);
+    report::number(output, p.0 as u64);
 }
 
 // An id and where some bytes stand.
-fn some(id: u8, p: Part) {
-    report::number(id as u64);
-    report::next_part(p);
+fn some(output: Stdout, id: u8, p: Part) {
+    report::number(output, id as u64);
+    report::next_part(output, p);
 }
 
-fn three(id: u8, p: PieceNumber, b: PieceOffset, l: u32) {
-    report::number(id as u64);
-    report::number(p.0 as u64);
-    report::number(b.0 as u64);
-    report::number(l as u64);
+fn three(output: Stdout, id: u8, p: PieceNumber, b: PieceOffset, l: u32) {
+    report::number(output, id as u64);
+    report::number(output, p.0 as u64);
+    report::number(output, b.0 as u64);
+    report::number(output, l as u64);
 }
 
-fn piece(p: PieceNumber, b: PieceOffset, block: Part) {
-    report::number(7);
-    report::number(p.0 as u64);
-    report::number(b.0 as u64);
-    report::next_part(block);
+fn piece(output: Stdout, p: PieceNumber, b: PieceOffset, block: Part) {
+    report::number(output, 7);
+    report::number(output, p.0 as u64);
+    report::number(output, b.0 as u64);
+    report::next_part(output, block);
 }
 
 // The handshake that the bytes begin with: its bytes, or where they stand.
-pub fn handshake(bytes: &[u8], info: &[u8], places: bool) {
+pub fn handshake(output: Stdout, bytes: &[u8], info: &[u8], places: bool) {
     match peer_wire::read_handshake(bytes, &twenty(info)) {
-        Greeting::Await => report::name(report::WAIT),
-        Greeting::Hello(free, peer, used) => hello(bytes, free, peer, used, places),
-        Greeting::Refused(r) => report::refused(r),
+        Greeting::Await => report::name(output, report::WAIT),
+        Greeting::Hello(free, peer, used) => hello(output, bytes, free, peer, used, places),
+        Greeting::Refused(r) => report::refused(output, r),
     }
 }
 
-fn hello(bytes: &[u8], free: Part, peer: Part, used: usize, places: bool) {
-    report::name(report::TAKEN);
+fn hello(output: Stdout, bytes: &[u8], free: Part, peer: Part, used: usize, places: bool) {
+    report::name(output, report::TAKEN);
     if places {
-        report::decimal(used as u64);
-        report::next_part(free);
-        return report::next_part(peer);
+        report::decimal(output, used as u64);
+        report::next_part(output, free);
+        return report::next_part(output, peer);
     }
-    report::hex(bencode_walk::bytes(bytes, free));
-    report::next_hex(bencode_walk::bytes(bytes, peer));
+    report::hex(output, bencode_walk::bytes(bytes, free));
+    report::next_hex(output, bencode_walk::bytes(bytes, peer));
 }
 
 // How many of the cuts are waits, and then the whole.
-pub fn frame_cuts(bytes: &[u8]) {
-    report::decimal(waits(bytes, bytes, false));
-    report::name(report::SPACE);
-    frame(bytes, true);
+pub fn frame_cuts(output: Stdout, bytes: &[u8]) {
+    report::decimal(output, waits(bytes, bytes, false));
+    report::name(output, report::SPACE);
+    frame(output, bytes, true);
 }
 
-pub fn handshake_cuts(bytes: &[u8], info: &[u8]) {
-    report::decimal(waits(bytes, info, true));
-    report::name(report::SPACE);
-    handshake(bytes, info, true);
+pub fn handshake_cuts(output: Stdout, bytes: &[u8], info: &[u8]) {
+    report::decimal(output, waits(bytes, info, true));
+    report::name(output, report::SPACE);
+    handshake(output, bytes, info, true);
 }
 
 // How many of the cuts, from no byte to all but one, are waits.

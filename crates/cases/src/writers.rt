@@ -7,18 +7,20 @@ use bencode_writer::Put;
 use peer_wire::write;
 use refusal::big_endian::Number;
 use refusal::{Part, Refusal, big_endian};
+use std::io::Stdout;
 use torrent_blocks::{PieceNumber, PieceOffset};
 
 // What the lent output holds before each call.
 pub const MARK: u8 = 255;
 
-pub fn ask(call: usize, line: &[u8], brief: bool, x: &[u8], y: &[u8], z: &[u8]) {
+pub fn ask(output: Stdout, call: usize, line: &[u8], brief: bool, x: &[u8], y: &[u8], z: &[u8]) {
     let mut out = [MARK; 1048577];
-    lend(&mut out, call, line, brief, x, y, z);
+    lend(output, &mut out, call, line, brief, x, y, z);
 }
 
 // The array as a slice, whose length is known here from its type alone.
 fn lend(
+    output: Stdout,
     out: &mut [u8; 1048577],
     call: usize,
     line: &[u8],
@@ -27,13 +29,22 @@ fn lend(
     y: &[u8],
     z: &[u8],
 ) {
-    within(out, call, line, brief, x, y, z);
+    within(output, out, call, line, brief, x, y, z);
 }
 
-fn within(out: &mut [u8], call: usize, line: &[u8], brief: bool, x: &[u8], y: &[u8], z: &[u8]) {
+fn within(
+    output: Stdout,
+    out: &mut [u8],
+    call: usize,
+    line: &[u8],
+    brief: bool,
+    x: &[u8],
+    y: &[u8],
+    z: &[u8],
+) {
     let room = least(words::number(line, room_at(call)), out.len());
     let r = put(call, line, &mut out[0..room], x, y, z);
-    show(r, &out[0..room], brief);
+    show(output, r, &out[0..room], brief);
 }
 
 // The word that is the room.
@@ -87,35 +98,35 @@ fn frame(out: &mut [u8], word: &[u8], payload: &[u8]) -> Put {
 }
 
 // The bytes written, or the refusal.
-fn show(r: Put, out: &[u8], brief: bool) {
+fn show(output: Stdout, r: Put, out: &[u8], brief: bool) {
     match r {
-        Put::To(n) => written(out, n, brief),
-        Put::Refused(r) => refused(r, out),
+        Put::To(n) => written(output, out, n, brief),
+        Put::Refused(r) => refused(output, r, out),
     }
 }
 
-pub fn written(out: &[u8], n: usize, brief: bool) {
+pub fn written(output: Stdout, out: &[u8], n: usize, brief: bool) {
     if out.len() < n {
         return;
     }
     if brief {
-        report::sum(&out[0..n]);
+        report::sum(output, &out[0..n]);
     } else {
-        report::hex(&out[0..n]);
+        report::hex(output, &out[0..n]);
     }
-    marks(n, out);
+    marks(output, n, out);
 }
 
-pub fn refused(r: Refusal, out: &[u8]) {
-    report::refused(r);
-    marks(0, out);
+pub fn refused(output: Stdout, r: Refusal, out: &[u8]) {
+    report::refused(output, r);
+    marks(output, 0, out);
 }
 
-pub fn marks(from: usize, out: &[u8]) {
+pub fn marks(output: Stdout, from: usize, out: &[u8]) {
     let mut i = from;
     while i < out.len() {
         if out[i] != MARK {
-            return report::name(report::CHANGED);
+            return report::name(output, report::CHANGED);
         }
         i += 1;
     }

@@ -1,37 +1,38 @@
 // The listing program of document 01: reads standard input, and prints what `torrent_lines::listing` decides.
 #![tactic(auto)]
+
 ghost use Rattle.std.specs.Prelude.{◌≤◌, length};
 
 use bencode_writer::Put;
-use libc::{STDIN_FILENO, STDOUT_FILENO};
+use std::io::{Stdin, Stdout};
 
-fn main() {
+fn main(rt: HostRuntime) {
     // One byte more than is listed tells that there is too much.
     let mut space = [0u8; 65537];
     let mut printed = [0u8; 393216];
-    whole(&mut space, &mut printed);
+    whole(rt.stdin(), rt.stdout(), &mut space, &mut printed);
 }
 
 // The arrays as slices: their lengths are known here from their types alone.
-fn whole(space: &mut [u8; 65537], printed: &mut [u8; 393216]) {
-    work(space, printed);
+fn whole(input: Stdin, output: Stdout, space: &mut [u8; 65537], printed: &mut [u8; 393216]) {
+    work(input, output, space, printed);
 }
 
-fn work(space: &mut [u8], printed: &mut [u8]) {
-    let n = io::read_full(STDIN_FILENO, space);
-    show(&space[..n], printed);
+fn work(input: Stdin, output: Stdout, space: &mut [u8], printed: &mut [u8]) {
+    let n = standard_input::read_full(input, space);
+    show(output, &space[..n], printed);
 }
 
 // `printed` has room for every listing, so no refusal is met here.
-fn show(text: &[u8], printed: &mut [u8]) {
+fn show(output: Stdout, text: &[u8], printed: &mut [u8]) {
     match torrent_lines::listing(text, printed) {
-        Put::To(n) => print(printed, n),
+        Put::To(n) => print(output, printed, n),
         Put::Refused(_) => {}
     }
 }
 
-fn print(printed: &[u8], n: usize)
+fn print(output: Stdout, printed: &[u8], n: usize)
     requires { n ≤ length printed.now }
 {
-    io::write_all(STDOUT_FILENO, &printed[0..n]);
+    let _ = output.write_all(&printed[0..n]);
 }

@@ -3,68 +3,68 @@ ghost use Rattle.std.specs.Prelude.{◌<◌, ◌≤◌, ◌+◌};
 
 use hash_sha1::stream::Stream;
 use hash_sha1::{Agreement, Hashed, stream};
-use libc::STDOUT_FILENO;
 use refusal::Refusal;
+use std::io::Stdout;
 
 // A message as a whole, and in parts of seven bytes.
-pub fn both(name: &[u8], message: &[u8]) {
-    io::write_all(STDOUT_FILENO, name);
-    io::write_all(STDOUT_FILENO, b": ");
+pub fn both(output: Stdout, name: &[u8], message: &[u8]) {
+    say(output, name);
+    say(output, b": ");
     let mut out = [0u8; 20];
     let whole = hash_sha1::digest(message, &mut out);
-    show(whole, &out);
-    io::write_all(STDOUT_FILENO, name);
-    parts(b" in parts: ", message, 7);
+    show(output, whole, &out);
+    say(output, name);
+    parts(output, b" in parts: ", message, 7);
 }
 
 // The first `count` bytes of a space that has as many.
-pub fn first(name: &[u8], space: &[u8], count: usize) {
+pub fn first(output: Stdout, name: &[u8], space: &[u8], count: usize) {
     if count <= space.len() {
-        both(name, &space[0..count]);
+        both(output, name, &space[0..count]);
     }
 }
 
 // A message in parts of so many bytes; 0 is as 1.
-pub fn parts(name: &[u8], message: &[u8], size: usize) {
-    io::write_all(STDOUT_FILENO, name);
-    ended(cut(message, size));
+pub fn parts(output: Stdout, name: &[u8], message: &[u8], size: usize) {
+    say(output, name);
+    ended(output, cut(message, size));
 }
 
 // 256 times 65,536 zeros are the most that is taken; one byte more is not.
-pub fn limits() {
+pub fn limits(output: Stdout) {
     let zeros = [0u8; 65536];
     let most = repeated(&zeros, 256);
-    io::write_all(STDOUT_FILENO, b"16777216 zeros: ");
-    ended(most);
-    io::write_all(STDOUT_FILENO, b"16777217 zeros: ");
-    ended(stream::add(most, b"\0"));
+    say(output, b"16777216 zeros: ");
+    ended(output, most);
+    say(output, b"16777217 zeros: ");
+    ended(output, stream::add(most, b"\0"));
 }
 
 // The digest of abc against itself, against itself but the last byte, and against 19 of its bytes.
-pub fn agreements() {
+pub fn agreements(output: Stdout) {
     let mut out = [0u8; 20];
     let whole = hash_sha1::digest(b"abc", &mut out);
-    show(whole, &out);
-    compare(&out, 20);
-    compare(&out, 19);
+    show(output, whole, &out);
+    compare(output, &out, 20);
+    compare(output, &out, 19);
     out[19] = 0;
-    compare(&out, 20);
+    compare(output, &out, 20);
 }
 
-fn compare(out: &[u8; 20], count: usize) {
+fn compare(output: Stdout, out: &[u8; 20], count: usize) {
     let expected: &[u8] = out;
     if expected.len() < count {
         return;
     }
     match hash_sha1::agrees(b"abc", &expected[..count]) {
-        Agreement::Same => say(b"same\n"),
-        Agreement::Other => say(b"other\n"),
-        Agreement::Refused(r) => refused(r),
+        Agreement::Same => say(output, b"same\n"),
+        Agreement::Other => say(output, b"other\n"),
+        Agreement::Refused(r) => refused(output, r),
     }
 }
 
-fn say(text: &[u8]) {
-    io::write_all(STDOUT_FILENO, text);
+fn say(output: Stdout, text: &[u8]) {
+    let _ = output.write_all(text);
 }
 
 fn cut(message: &[u8], size: usize) -> Stream {
@@ -102,36 +102,36 @@ fn repeated(part: &[u8; 65536], times: usize) -> Stream {
     s
 }
 
-fn ended(s: Stream) {
+fn ended(output: Stdout, s: Stream) {
     let mut out = [0u8; 20];
     let whole = stream::finish(s, &mut out);
-    show(whole, &out);
+    show(output, whole, &out);
 }
 
-fn show(answer: Hashed, out: &[u8; 20]) {
+fn show(output: Stdout, answer: Hashed, out: &[u8; 20]) {
     match answer {
-        Hashed::Written => hex(out),
-        Hashed::Refused(r) => refused(r),
+        Hashed::Written => hex(output, out),
+        Hashed::Refused(r) => refused(output, r),
     }
 }
 
-fn hex(out: &[u8; 20]) {
+fn hex(output: Stdout, out: &[u8; 20]) {
     let mut i = 0;
     while i < 20 {
-        hex_byte(out[i]);
+        hex_byte(output, out[i]);
         i += 1;
     }
-    io::write_all(STDOUT_FILENO, b"\n");
+    say(output, b"\n");
 }
 
-fn hex_byte(b: u8) {
-    io::print_hex(STDOUT_FILENO, b as u64, 2);
+fn hex_byte(output: Stdout, b: u8) {
+    let _ = print!(output; "{b:02x}");
 }
 
-fn refused(r: Refusal) {
-    io::write_all(STDOUT_FILENO, b"refused ");
-    io::print_decimal(STDOUT_FILENO, r.number as u64);
-    io::write_all(STDOUT_FILENO, b" at ");
-    io::print_decimal(STDOUT_FILENO, r.place as u64);
-    io::write_all(STDOUT_FILENO, b"\n");
+fn refused(output: Stdout, r: Refusal) {
+    say(output, b"refused ");
+    let _ = output.print(r.number as u64);
+    say(output, b" at ");
+    let _ = output.print(r.place as u64);
+    say(output, b"\n");
 }

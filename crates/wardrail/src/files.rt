@@ -15,8 +15,7 @@ use torrent_metainfo::Filed;
 
 // File number `number` of a torrent. `detail` becomes where it starts in the joined content, its length, the place of its
 // path's first element, and 1 for a single file, whose name begins at that place, or else 0.
-#[unsafe(no_mangle)]
-pub extern "C" fn wardrail_file(text: &[u8], number: usize, detail: &mut [u64; 4]) -> u64
+pub fn wardrail_file(text: &[u8], number: usize, detail: &mut [u64; 4]) -> u64
     ensures { Tells (map file_detail (entry_of text.now number)) detail.old result detail.new }
 {
     match torrent_contents::file(text, number) {
@@ -30,8 +29,7 @@ pub extern "C" fn wardrail_file(text: &[u8], number: usize, detail: &mut [u64; 4
 
 // The file of many at a place, to walk all of them in one pass. `detail` becomes its length, the place of its path's first
 // element, and the place past it, where the next stands.
-#[unsafe(no_mangle)]
-pub extern "C" fn wardrail_file_at(text: &[u8], at: usize, detail: &mut [u64; 3]) -> u64
+pub fn wardrail_file_at(text: &[u8], at: usize, detail: &mut [u64; 3]) -> u64
     ensures { Tells (map walked_detail (file_at text.now at)) detail.old result detail.new }
 {
     match torrent_metainfo::file_at(text, at) {
@@ -42,8 +40,7 @@ pub extern "C" fn wardrail_file_at(text: &[u8], at: usize, detail: &mut [u64; 3]
 
 // The element of a path at a place. `detail` becomes 1, its first byte and length, and the place of the next; or 0, 0, 0
 // and the place past the path.
-#[unsafe(no_mangle)]
-pub extern "C" fn wardrail_element_at(text: &[u8], at: usize, detail: &mut [u64; 4]) -> u64
+pub fn wardrail_element_at(text: &[u8], at: usize, detail: &mut [u64; 4]) -> u64
     ensures { Tells (map element_detail (element_of text.now at)) detail.old result detail.new }
 {
     match torrent_contents::element_at(text, at) {
@@ -54,8 +51,7 @@ pub extern "C" fn wardrail_element_at(text: &[u8], at: usize, detail: &mut [u64;
 }
 
 // The 20 bytes of a piece's hash, by first byte and length.
-#[unsafe(no_mangle)]
-pub extern "C" fn wardrail_piece_hash(text: &[u8], piece: u32, detail: &mut [u64; 2]) -> u64
+pub fn wardrail_piece_hash(text: &[u8], piece: u32, detail: &mut [u64; 2]) -> u64
     ensures { Tells (map part_detail (hash_of text.now piece)) detail.old result detail.new }
 {
     match torrent_contents::piece_hash(text, PieceNumber(piece)) {
@@ -65,13 +61,7 @@ pub extern "C" fn wardrail_piece_hash(text: &[u8], piece: u32, detail: &mut [u64
 }
 
 // Whether these are the bytes of a piece. `detail` becomes 1 for yes and 0 for no.
-#[unsafe(no_mangle)]
-pub extern "C" fn wardrail_piece_check(
-    text: &[u8],
-    piece: u32,
-    bytes: &[u8],
-    detail: &mut u64,
-) -> u64
+pub fn wardrail_piece_check(text: &[u8], piece: u32, bytes: &[u8], detail: &mut u64) -> u64
     ensures { Tells (map yes_detail (check_of text.now piece bytes.now)) detail.old result detail.new }
 {
     match torrent_contents::check_piece(text, PieceNumber(piece), bytes) {

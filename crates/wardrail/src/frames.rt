@@ -13,8 +13,7 @@ use torrent_blocks::{PieceNumber, PieceOffset};
 // The frame at the start of the bytes. `detail` becomes 1 for a keepalive or 2 for another frame; how many bytes it used;
 // its id; its piece, begin and length; first byte and length of its bitfield, block or unknown payload. What a frame does
 // not have is 0.
-#[unsafe(no_mangle)]
-pub extern "C" fn wardrail_frame(bytes: &[u8], detail: &mut [u64; 8]) -> u64
+pub fn wardrail_frame(bytes: &[u8], detail: &mut [u64; 8]) -> u64
     ensures { Tells (frame_told (read_of bytes.now)) detail.old result detail.new }
 {
     match peer_wire::read_frame(bytes) {
@@ -33,8 +32,7 @@ pub extern "C" fn wardrail_frame(bytes: &[u8], detail: &mut [u64; 8]) -> u64
 
 // The handshake at the start of the bytes, for an info hash. `detail` becomes how many bytes it used, and first byte and
 // length of the free bytes and of the peer id.
-#[unsafe(no_mangle)]
-pub extern "C" fn wardrail_handshake(bytes: &[u8], info: &[u8; 20], detail: &mut [u64; 5]) -> u64
+pub fn wardrail_handshake(bytes: &[u8], info: &[u8; 20], detail: &mut [u64; 5]) -> u64
     ensures { Tells (shake_told (shake_of info.now bytes.now)) detail.old result detail.new }
 {
     match peer_wire::read_handshake(bytes, info) {

@@ -11,8 +11,7 @@ use hash_sha1::stream::Stream;
 use hash_sha1::{Hashed, stream};
 
 // The empty message.
-#[unsafe(no_mangle)]
-pub extern "C" fn wardrail_sha1_start(words: &mut [u32; 6], tail: &mut [u8; 64])
+pub fn wardrail_sha1_start(words: &mut [u32; 6], tail: &mut [u8; 64])
     ensures { Holds begun words.new tail.new }
 {
     let s = stream::start();
@@ -23,8 +22,7 @@ pub extern "C" fn wardrail_sha1_start(words: &mut [u32; 6], tail: &mut [u8; 64])
 }
 
 // The message with a part after it.
-#[unsafe(no_mangle)]
-pub extern "C" fn wardrail_sha1_add(words: &mut [u32; 6], tail: &mut [u8; 64], part: &[u8])
+pub fn wardrail_sha1_add(words: &mut [u32; 6], tail: &mut [u8; 64], part: &[u8])
     ensures { Holds (add_of (state_of words.old tail.old) part.now) words.new tail.new }
 {
     let s = stream::add(state(*words, *tail), part);
@@ -35,12 +33,7 @@ pub extern "C" fn wardrail_sha1_add(words: &mut [u32; 6], tail: &mut [u8; 64], p
 }
 
 // Writes the digest of the message; a refusal leaves `digest` as it was.
-#[unsafe(no_mangle)]
-pub extern "C" fn wardrail_sha1_finish(
-    words: &[u32; 6],
-    tail: &[u8; 64],
-    digest: &mut [u8; 20],
-) -> u64
+pub fn wardrail_sha1_finish(words: &[u32; 6], tail: &[u8; 64], digest: &mut [u8; 20]) -> u64
     ensures { Digested (finish_of (state_of words.now tail.now) digest.old) result digest.new }
 {
     hashed_word(stream::finish(state(*words, *tail), digest))

@@ -8,8 +8,7 @@ use links::{Given, Linked};
 
 // Reads a link into `hash`, `name` and `address`. `detail` becomes, of name and of address, 1 where it is given and 0 where it is not, and
 // how many bytes it has.
-#[unsafe(no_mangle)]
-pub extern "C" fn wardrail_link(
+pub fn wardrail_link(
     text: &[u8],
     hash: &mut [u8; 20],
     name: &mut [u8],

@@ -11,8 +11,7 @@ use torrent_blocks::{Parts, PieceNumber, PieceOffset, Place, Size};
 
 // Writes the parts of a block from the start of `out` on, three numbers each: file, offset in it, length. `detail` becomes
 // how many parts.
-#[unsafe(no_mangle)]
-pub extern "C" fn wardrail_block(
+pub fn wardrail_block(
     lengths: &[u64],
     piece_length: u64,
     piece: u32,
@@ -38,8 +37,7 @@ pub extern "C" fn wardrail_block(
 }
 
 // The piece of a file's byte and its offset there, as the two numbers of `detail`.
-#[unsafe(no_mangle)]
-pub extern "C" fn wardrail_byte(
+pub fn wardrail_byte(
     lengths: &[u64],
     piece_length: u64,
     file: usize,
@@ -55,13 +53,7 @@ pub extern "C" fn wardrail_byte(
 }
 
 // The bytes of a piece as `detail`.
-#[unsafe(no_mangle)]
-pub extern "C" fn wardrail_piece_size(
-    lengths: &[u64],
-    piece_length: u64,
-    piece: u32,
-    detail: &mut u64,
-) -> u64
+pub fn wardrail_piece_size(lengths: &[u64], piece_length: u64, piece: u32, detail: &mut u64) -> u64
     ensures { Tells (size_of (joined_files lengths.now) piece_length piece) detail.old result detail.new }
 {
     match torrent_blocks::piece_size(lengths, piece_length, PieceNumber(piece)) {

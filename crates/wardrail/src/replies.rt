@@ -12,8 +12,7 @@ use tracker::listed::Listing;
 
 // Reads a tracker's reply. `detail` becomes 1 with the first byte and the length of a failure reason; or 2 for entries of
 // six bytes or 3 for a list, the seconds to wait, how many entries, and the place of the first.
-#[unsafe(no_mangle)]
-pub extern "C" fn wardrail_reply(text: &[u8], detail: &mut [u64; 4]) -> u64
+pub fn wardrail_reply(text: &[u8], detail: &mut [u64; 4]) -> u64
     ensures { Tells (map reply_detail (map counted (reply_of text.now))) detail.old result detail.new }
 {
     match tracker::read(text) {
@@ -26,8 +25,7 @@ pub extern "C" fn wardrail_reply(text: &[u8], detail: &mut [u64; 4]) -> u64
 
 // The entry of a list whose dictionary stands at a place. `detail` becomes first byte and length of its peer id and of
 // its ip, its port, and the place past it, where the next stands.
-#[unsafe(no_mangle)]
-pub extern "C" fn wardrail_listed_at(text: &[u8], at: usize, detail: &mut [u64; 6]) -> u64
+pub fn wardrail_listed_at(text: &[u8], at: usize, detail: &mut [u64; 6]) -> u64
     ensures { Tells (map entry_detail (listed_at text.now at)) detail.old result detail.new }
 {
     match tracker::listed::listed_at(text, at) {
@@ -45,8 +43,7 @@ pub extern "C" fn wardrail_listed_at(text: &[u8], at: usize, detail: &mut [u64; 
 }
 
 // The entry of six bytes at a place. `detail` becomes its four bytes of address, its port, and the place past it.
-#[unsafe(no_mangle)]
-pub extern "C" fn wardrail_packed_at(text: &[u8], at: usize, detail: &mut [u64; 6]) -> u64
+pub fn wardrail_packed_at(text: &[u8], at: usize, detail: &mut [u64; 6]) -> u64
     ensures { Tells (map entry_detail (packed_at text.now at)) detail.old result detail.new }
 {
     match tracker::compact::packed_at(text, at) {

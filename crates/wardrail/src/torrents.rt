@@ -13,8 +13,7 @@ use torrent_metainfo::{Reading, Torrent};
 
 // Reads a torrent. `detail` becomes the first byte and the length of announce, info, name and pieces, the piece length,
 // how many pieces, 1 for a single file or else 0, the place of length or files, how many files, and the total.
-#[unsafe(no_mangle)]
-pub extern "C" fn wardrail_torrent(text: &[u8], detail: &mut [u64; 14]) -> u64
+pub fn wardrail_torrent(text: &[u8], detail: &mut [u64; 14]) -> u64
     ensures { Tells (map torrent_detail (read_of text.now)) detail.old result detail.new }
 {
     match torrent_metainfo::read(text) {
@@ -27,8 +26,7 @@ pub extern "C" fn wardrail_torrent(text: &[u8], detail: &mut [u64; 14]) -> u64
 }
 
 // Writes the info hash; a refusal leaves `digest` as it was.
-#[unsafe(no_mangle)]
-pub extern "C" fn wardrail_info_hash(text: &[u8], digest: &mut [u8; 20]) -> u64
+pub fn wardrail_info_hash(text: &[u8], digest: &mut [u8; 20]) -> u64
     ensures { Digested (info_hash_of text.now digest.old) result digest.new }
 {
     hashed_word(torrent_metainfo::info_hash(text, digest))

@@ -9,8 +9,7 @@ use crate::row::{one, three, word};
 use week::{Counted, Entry, Told, Weekly};
 
 // Reads a week's file. `detail` becomes how many packages there are, and the sums of their files and of their bytes.
-#[unsafe(no_mangle)]
-pub extern "C" fn wardrail_week(file: &[u8], detail: &mut [u64; 3]) -> u64
+pub fn wardrail_week(file: &[u8], detail: &mut [u64; 3]) -> u64
     ensures { Tells (map week_detail (week_of file.now)) detail.old result detail.new }
 {
     match week::read(file) {
@@ -21,8 +20,7 @@ pub extern "C" fn wardrail_week(file: &[u8], detail: &mut [u64; 3]) -> u64
 
 // Package `number` of a week's file. `detail` becomes first byte and length of its hash in the table and of its body, how
 // many files it has, and their bytes.
-#[unsafe(no_mangle)]
-pub extern "C" fn wardrail_week_package(file: &[u8], number: usize, detail: &mut [u64; 6]) -> u64
+pub fn wardrail_week_package(file: &[u8], number: usize, detail: &mut [u64; 6]) -> u64
     ensures { Tells (map package_detail (package_of file.now number)) detail.old result detail.new }
 {
     match week::package(file, number) {
@@ -35,8 +33,7 @@ pub extern "C" fn wardrail_week_package(file: &[u8], number: usize, detail: &mut
 }
 
 // Checks the table of a week's file. `detail` becomes how many packages there are.
-#[unsafe(no_mangle)]
-pub extern "C" fn wardrail_week_table(file: &[u8], detail: &mut u64) -> u64
+pub fn wardrail_week_table(file: &[u8], detail: &mut u64) -> u64
     ensures { Tells (table_of file.now) detail.old result detail.new }
 {
     match week::table(file) {
@@ -46,8 +43,7 @@ pub extern "C" fn wardrail_week_table(file: &[u8], detail: &mut u64) -> u64
 }
 
 // Package `number` of any file by its own entry, to walk over all packages and read each body once.
-#[unsafe(no_mangle)]
-pub extern "C" fn wardrail_week_package_at(file: &[u8], number: usize, detail: &mut [u64; 6]) -> u64
+pub fn wardrail_week_package_at(file: &[u8], number: usize, detail: &mut [u64; 6]) -> u64
     ensures { Tells (map package_detail (package_at file.now number)) detail.old result detail.new }
 {
     match week::package_at(file, number) {

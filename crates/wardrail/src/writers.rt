@@ -18,29 +18,21 @@ use links::Sized as LinkSized;
 use torrent_authoring::Sized;
 
 // A frame of any id and payload.
-#[unsafe(no_mangle)]
-pub extern "C" fn wardrail_write_frame(
-    id: u8,
-    payload: &[u8],
-    out: &mut [u8],
-    detail: &mut u64,
-) -> u64
+pub fn wardrail_write_frame(id: u8, payload: &[u8], out: &mut [u8], detail: &mut u64) -> u64
     ensures { Wrote (frame_of (id ∷ payload.now) out.old) detail.old result detail.new out.new }
 {
     written(peer_wire::write::raw(out, id, payload), detail)
 }
 
 // A keepalive.
-#[unsafe(no_mangle)]
-pub extern "C" fn wardrail_write_keepalive(out: &mut [u8], detail: &mut u64) -> u64
+pub fn wardrail_write_keepalive(out: &mut [u8], detail: &mut u64) -> u64
     ensures { Wrote (put_of (encode keepalive) 0 out.old) detail.old result detail.new out.new }
 {
     written(peer_wire::write::keepalive(out), detail)
 }
 
 // The handshake, its free bytes 0.
-#[unsafe(no_mangle)]
-pub extern "C" fn wardrail_write_handshake(
+pub fn wardrail_write_handshake(
     info: &[u8; 20],
     peer: &[u8; 20],
     out: &mut [u8],
@@ -52,8 +44,7 @@ pub extern "C" fn wardrail_write_handshake(
 }
 
 // A torrent of one file.
-#[unsafe(no_mangle)]
-pub extern "C" fn wardrail_write_torrent(
+pub fn wardrail_write_torrent(
     announce: &[u8],
     name: &[u8],
     piece_length: u64,
@@ -71,8 +62,7 @@ pub extern "C" fn wardrail_write_torrent(
 }
 
 // How many bytes of output that torrent needs.
-#[unsafe(no_mangle)]
-pub extern "C" fn wardrail_torrent_size(
+pub fn wardrail_torrent_size(
     announce: &[u8],
     name: &[u8],
     piece_length: u64,
@@ -89,16 +79,14 @@ pub extern "C" fn wardrail_torrent_size(
 }
 
 // The link of a torrent.
-#[unsafe(no_mangle)]
-pub extern "C" fn wardrail_write_link(torrent: &[u8], out: &mut [u8], detail: &mut u64) -> u64
+pub fn wardrail_write_link(torrent: &[u8], out: &mut [u8], detail: &mut u64) -> u64
     ensures { Wrote (link_text_of torrent.now out.old) detail.old result detail.new out.new }
 {
     written(links::write(torrent, out), detail)
 }
 
 // How many bytes of output that link needs.
-#[unsafe(no_mangle)]
-pub extern "C" fn wardrail_link_size(torrent: &[u8], detail: &mut u64) -> u64
+pub fn wardrail_link_size(torrent: &[u8], detail: &mut u64) -> u64
     ensures { Tells (map length (written_of torrent.now)) detail.old result detail.new }
 {
     match links::size(torrent) {
@@ -108,26 +96,14 @@ pub extern "C" fn wardrail_link_size(torrent: &[u8], detail: &mut u64) -> u64
 }
 
 // A week's file of bodies that stand one after the other and have these lengths.
-#[unsafe(no_mangle)]
-pub extern "C" fn wardrail_write_week(
-    bodies: &[u8],
-    lengths: &[u64],
-    out: &mut [u8],
-    detail: &mut u64,
-) -> u64
+pub fn wardrail_write_week(bodies: &[u8], lengths: &[u64], out: &mut [u8], detail: &mut u64) -> u64
     ensures { Wrote (week_text_of bodies.now lengths.now out.old) detail.old result detail.new out.new }
 {
     written(week::write(bodies, lengths, out), detail)
 }
 
 // A compact reply.
-#[unsafe(no_mangle)]
-pub extern "C" fn wardrail_write_reply(
-    interval: u64,
-    peers: &[u8],
-    out: &mut [u8],
-    detail: &mut u64,
-) -> u64
+pub fn wardrail_write_reply(interval: u64, peers: &[u8], out: &mut [u8], detail: &mut u64) -> u64
     ensures { Wrote (reply_text_of interval peers.now out.old) detail.old result detail.new out.new }
 {
     written(tracker::writing::write(out, interval, peers), detail)

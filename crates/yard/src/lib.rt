@@ -2,6 +2,7 @@
 // a start, a page and a round go over all seats. What it leaves is `step` of the definitions, for any tables, and what it tells is
 // `step`'s answer in numbers: 0, the refusal's, or 255 where more bytes are needed. A refusal and a wait leave all that is lent as it was.
 #![tactic(auto)]
+
 ghost use Rattle.std.specs.Prelude.{◌≡◌, length};
 ghost use Rattle.std.proofs.lemmas.List.Edits.{sets};
 ghost use Rattle.yard_tables.specs.Tables.{yard_of};
@@ -22,8 +23,7 @@ mod pages;
 mod rounds;
 
 // A yard of so many pieces starts.
-#[unsafe(no_mangle)]
-pub extern "C" fn wardrail_yard_start(
+pub fn wardrail_yard_start(
     head: &mut Head,
     seats: &mut [Seat],
     rows: &mut [u8],
@@ -43,8 +43,7 @@ pub extern "C" fn wardrail_yard_start(
 }
 
 // A truck sits down: `value` becomes its seat.
-#[unsafe(no_mangle)]
-pub extern "C" fn wardrail_yard_sit(
+pub fn wardrail_yard_sit(
     head: &mut Head,
     seats: &mut [Seat],
     rows: &mut [u8],
@@ -66,8 +65,7 @@ pub extern "C" fn wardrail_yard_sit(
 }
 
 // The truck of a seat leaves.
-#[unsafe(no_mangle)]
-pub extern "C" fn wardrail_yard_leave(
+pub fn wardrail_yard_leave(
     head: &mut Head,
     seats: &mut [Seat],
     rows: &mut [u8],
@@ -86,8 +84,7 @@ pub extern "C" fn wardrail_yard_leave(
 }
 
 // Bytes came in from the truck of a seat: `value` becomes how many the first frame used, and `request` what becomes of one.
-#[unsafe(no_mangle)]
-pub extern "C" fn wardrail_yard_feed(
+pub fn wardrail_yard_feed(
     head: &mut Head,
     seats: &mut [Seat],
     rows: &mut [u8],
@@ -111,8 +108,7 @@ pub extern "C" fn wardrail_yard_feed(
 }
 
 // We choke the truck of a seat, or no longer: the frame's 5 bytes are written.
-#[unsafe(no_mangle)]
-pub extern "C" fn wardrail_yard_choke(
+pub fn wardrail_yard_choke(
     head: &mut Head,
     seats: &mut [Seat],
     rows: &[u8],
@@ -135,8 +131,7 @@ pub extern "C" fn wardrail_yard_choke(
 }
 
 // We are interested in what the truck of a seat has, or no longer: the frame's 5 bytes are written.
-#[unsafe(no_mangle)]
-pub extern "C" fn wardrail_yard_interest(
+pub fn wardrail_yard_interest(
     head: &mut Head,
     seats: &mut [Seat],
     rows: &[u8],
@@ -159,8 +154,7 @@ pub extern "C" fn wardrail_yard_interest(
 }
 
 // A page of the missing list: `value` becomes how many lines were written, `total` and `next` as the page says.
-#[unsafe(no_mangle)]
-pub extern "C" fn wardrail_yard_missing(
+pub fn wardrail_yard_missing(
     head: &mut Head,
     seats: &[Seat],
     rows: &[u8],
@@ -187,8 +181,7 @@ pub extern "C" fn wardrail_yard_missing(
 }
 
 // The scarcest piece becomes `value`.
-#[unsafe(no_mangle)]
-pub extern "C" fn wardrail_yard_scarcest(
+pub fn wardrail_yard_scarcest(
     head: &mut Head,
     seats: &[Seat],
     rows: &[u8],
@@ -207,8 +200,7 @@ pub extern "C" fn wardrail_yard_scarcest(
 }
 
 // The record of a seat becomes `seen`.
-#[unsafe(no_mangle)]
-pub extern "C" fn wardrail_yard_look(
+pub fn wardrail_yard_look(
     head: &mut Head,
     seats: &[Seat],
     rows: &[u8],
@@ -229,8 +221,7 @@ pub extern "C" fn wardrail_yard_look(
 }
 
 // `value` becomes 1 where the truck of a seat has a piece, and else 0.
-#[unsafe(no_mangle)]
-pub extern "C" fn wardrail_yard_has(
+pub fn wardrail_yard_has(
     head: &mut Head,
     seats: &[Seat],
     rows: &[u8],
@@ -252,8 +243,7 @@ pub extern "C" fn wardrail_yard_has(
 }
 
 // How many trucks hold a piece becomes `value`.
-#[unsafe(no_mangle)]
-pub extern "C" fn wardrail_yard_count(
+pub fn wardrail_yard_count(
     head: &mut Head,
     seats: &[Seat],
     rows: &[u8],
@@ -274,8 +264,7 @@ pub extern "C" fn wardrail_yard_count(
 }
 
 // A round: who is unchoked until the next one. `value` becomes how many trucks are.
-#[unsafe(no_mangle)]
-pub extern "C" fn wardrail_yard_round(
+pub fn wardrail_yard_round(
     head: &mut Head,
     seats: &mut [Seat],
     rows: &[u8],
