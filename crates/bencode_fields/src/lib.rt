@@ -2,6 +2,7 @@
 // place: another kind is refused by 10, a number out of range by 11, an e, where no value stands, by 2, and what cannot be
 // read as `bencode_walk::look` refuses it.
 #![tactic(auto)]
+
 ghost use Rattle.std.specs.Prelude.{◌≡◌};
 ghost use Rattle.refusal.specs.Paper.{map};
 ghost use Rattle.bencode.specs.Decode.{unless_long};

@@ -1,5 +1,6 @@
 // Torrents, read by document 01. A call takes the torrent's text and trusts nothing kept from an earlier call.
 #![tactic(auto)]
+
 mod files;
 mod info;
 mod keys;

@@ -1,5 +1,6 @@
 // Tracker replies by document 01: read, asked for an entry, and walked; and compact ones written.
 #![tactic(auto)]
+
 ghost use Rattle.std.specs.Prelude.{◌≡◌};
 ghost use Rattle.refusal.specs.Numbers.{beyond};
 ghost use Rattle.refusal.specs.Paper.{then, map};

@@ -1,6 +1,7 @@
 // A frame for a seat: the covered step behind the yard's call. It takes the head and the seat by value, and the rows and
 // the holder counts as they are lent; whatever they hold, a refusal and a wait leave them as they were.
 #![tactic(auto)]
+
 ghost use Rattle.std.specs.Prelude.{◌≡◌};
 ghost use Rattle.peer_wire.specs.Frames.{message, meant};
 ghost use Rattle.yard_tables.specs.Seats.{counted};

@@ -18,7 +18,7 @@ use Rattle.peer_wire.specs.Message.{Message, keepalive, choke, unchoke, interest
 use Rattle.peer_wire.specs.Message.{bitfield as bits}
 use Rattle.peer_wire.specs.Frames.{Found, found, read_of, meant}
 use Rattle.peer_wire.specs.Frames.{wait as more}
-use Rattle.yard_tables.specs.Counting.{bit, count, some, each}
+use Rattle.yard_tables.specs.Counting.{bit, count, each}
 use Rattle.yard_tables.specs.Rows.{width, has_in, row_of, or_bytes, with_bit, with_bits, without_bits}
 use Rattle.yard_tables.specs.Seats.{on, cleared, holding, having, spoken}
 use Rattle.yard_tables.specs.Seats.{we_choke as choke_mark, we_want as want_mark}
@@ -37,7 +37,7 @@ use Rattle.yard_tables.proofs.Rows.{bit-here, bit-other, bits-here, bits-other, 
 use Rattle.yard_tables.proofs.Sizing.{Fitting, fitting}
 use Rattle.yard_tables.proofs.Sweeps.{length-each, get_or-each}
 use Rattle.yard_laws.specs.History.{History, Fixed, entry, Event, nothing, came, gone, heard, we_choke, we_want, event, sort_of, announces, seated, announced, fresh, we_are_choking, they_are_interested, sent, block_bytes, pieces, phase, still, free_place, turn_of, seated_by, announced_by, free_by}
-use Rattle.yard_laws.specs.Says.{has_piece, held, loaded, record_of, holders, taken_seats, complete_seats, head_of}
+use Rattle.yard_laws.specs.Says.{has_piece, held, loaded, record_of, taken_seats, complete_seats, head_of}
 use Rattle.torrent_blocks.specs.Answers.{lies}
 use Rattle.yard_laws.specs.View.{by_history}
 use Rattle.yard_laws.specs.Expected.{no, sits_by, block_by, request_by, message_by, frame_by, mark_by}

@@ -22,7 +22,7 @@ use Rattle.yard_tables.proofs.Counts.{count_none}
 use Rattle.yard_tables.proofs.Rows.{blank}
 use Rattle.yard_tables.proofs.Sizing.{Fitting, fitting}
 use Rattle.yard_laws.specs.History.{History, Fixed, Sizes, entry, event, pieces, phase, seated}
-use Rattle.yard_laws.specs.Says.{has_piece, held, loaded, holders, head_of}
+use Rattle.yard_laws.specs.Says.{has_piece, held, loaded, head_of}
 use Rattle.yard_laws.specs.Expected.{no, start_fits_of}
 use Rattle.yard_laws.specs.Run.{SizesFit, fixed_by, start_with}
 use Rattle.yard_laws.proofs.Agreeing.{Agrees, quiet-agrees, head-fits}

@@ -1,5 +1,5 @@
 -- What the straight lines of calls come to. Each law takes what the walk of its function has: the parameters, what the lent slices hold at exit, what each
--- call answers, and what its contract says, in the order of the calls (tools/walker.py). Assumes nothing.
+-- call answers, and what its contract says, in the order of the calls. Assumes nothing.
 use mathlib.Core.Path.{◌≡◌, ap, ◌∙◌}
 use mathlib.Core.Bool.{Bool}
 use mathlib.Core.List.{List}

@@ -1,5 +1,6 @@
 // Thin functions over lent seats: one seat taken out or put back, and the five passes over all of them.
 #![tactic(auto)]
+
 ghost use Rattle.std.specs.Prelude.{◌≡◌, cond, ◌||◌, ◌+◌, ◌<◌, ◌≤◌, ◌^◌, min, ltb, length, get_or, set, replicate};
 ghost use Rattle.std.proofs.lemmas.List.Edits.{sets};
 ghost use Rattle.yard_tables.specs.Seats.{on, cleared};

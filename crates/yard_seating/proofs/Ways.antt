@@ -17,7 +17,7 @@ use Rattle.bencode_writer.specs.Put.{Left, put_of}
 use Rattle.bencode_writer.specs.Put.{left as put}
 use Rattle.peer_wire.specs.Frames.{least, most, allowed, write_of}
 use Rattle.peer_wire.specs.Message.{framed}
-use Rattle.yard_tables.specs.Counting.{bit, some, each}
+use Rattle.yard_tables.specs.Counting.{bit, each}
 use Rattle.yard_tables.specs.Rows.{width}
 use Rattle.yard_tables.specs.Seats.{on, cleared, arrived, counted, placed}
 use Rattle.yard_tables.specs.Step.{if_taken, choke_frame, interest_frame}

@@ -2,6 +2,7 @@
 // starting, sitting down, leaving, our own marks; `looks` has what only looks. Each checks the sizes first, and a
 // refusal changes nothing. `i` is the seat, and `n` the number of seats.
 #![tactic(auto)]
+
 ghost use Rattle.std.specs.Prelude.{◌≡◌, true, false, cond, List, [], ◌∷◌, ◌<◌, ◌≤◌, ◌+◌, ◌-◌, ◌*◌, eqb, length};
 ghost use Rattle.std.proofs.lemmas.List.Edits.{sets};
 ghost use Rattle.refusal.specs.Numbers.{sizes};

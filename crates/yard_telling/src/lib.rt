@@ -1,5 +1,6 @@
 // What the yard's answers are for C: a number, and a record of numbers or a seat beside it.
 #![tactic(auto)]
+
 ghost use Rattle.std.specs.Prelude.{◌≡◌, cond};
 ghost use Rattle.yard_tables.specs.Tables.{paper};
 ghost use Rattle.yard_telling.specs.Telling.{code_of, told_of, shown_of, one as one_of};
