@@ -1,6 +1,6 @@
 -- The measure is the space that is left.
 use Rattle.std.proofs.Common.{length, ◌-◌, ◌≤◌}
-use Rattle.standard_input.proofs.read_full.Given as goal
+use Rattle.link.proofs.read_full.Given as goal
 
 abbrev pub invariant-loop-done : goal.invariant-loop-done
 invariant-loop-done l = l.done ≤ length l.initial.space
