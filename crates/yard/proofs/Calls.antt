@@ -58,8 +58,8 @@ module _ (o : Outcome Said) (a : Answer) (e : paper a ≡ o) where
   showed : (was t : Seat) (n : ℕ) → t ≡ shown_of (paper a) was → n ≡ code_of (paper a) → Shows o was n t
   showed was t n l k = (k ∙ ap code_of e, l ∙ ap (λ (x : Outcome Said). shown_of x was) e)
 
--- ---- each call's contract, of the tables at entry. `NAME-is` takes what the walk of the call has: the other parameters, what the lent slices hold at exit, what
--- each function that it calls answers, and what that function's contract says, in the order of the calls (tools/walker.py)
+-- ---- each call's contract, of the tables at entry. `NAME-is` takes what the proof of the call has: the other parameters, what the lent slices hold at exit, what
+-- each function that it calls answers, and what that function's contract says, in the order of the calls
 module _ (h : Head) (seats : List Seat) (rows holders : List ℕ) where
   abbrev Y : Yard
   Y = yard_of h seats rows holders

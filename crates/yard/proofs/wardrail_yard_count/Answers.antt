@@ -1,0 +1,6 @@
+-- `wardrail_yard_count` meets its contract: what it calls joins to the call on the whole yard. Assumes nothing.
+use Rattle.yard.proofs.Calls.{count-is}
+use Rattle.yard.proofs.wardrail_yard_count.Goals as goal
+
+pub returns : goal.returns
+returns c = count-is c.args.head.now c.args.seats.now c.args.rows.now c.args.holders.now c.args.piece c.args.told.now c.piece_numbered-p.result c.count-a.result c.tell-t.result c.code.result c.piece_numbered-p.ensures c.count-a.ensures c.tell-t.ensures c.code.ensures
