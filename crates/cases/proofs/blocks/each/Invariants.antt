@@ -1,5 +1,5 @@
 -- `cases::blocks::each` is safe and ends: it stays within the space. The measure is how many parts are left.
-use Rattle.std.proofs.Common.{◌≤◌, length, rules}
+use Rattle.std.proofs.Common.{◌≤◌, length}
 use Rattle.cases.proofs.blocks.each.Given as goal
 
 abbrev pub invariant-loop-left : goal.invariant-loop-left

@@ -1,5 +1,5 @@
 -- `cases::blocks::marks` is safe and ends. The measure is what is left of the space.
-use Rattle.std.proofs.Common.{◌-◌, length, rules}
+use Rattle.std.proofs.Common.{◌-◌, length}
 use Rattle.cases.proofs.blocks.marks.Given as goal
 
 abbrev pub invariant-loop-i : goal.invariant-loop-i

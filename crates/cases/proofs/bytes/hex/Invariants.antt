@@ -1,5 +1,5 @@
 -- `cases::bytes::hex` answers a place from `at` to the space's end. The measure is what is left of the digits.
-use Rattle.std.proofs.Common.{◌≡◌, ◌-◌, ◌≤◌, length, rules}
+use Rattle.std.proofs.Common.{◌≡◌, ◌-◌, ◌≤◌, length}
 use Rattle.cases.proofs.bytes.hex.Given as goal
 
 abbrev pub invariant-loop-i : goal.invariant-loop-i

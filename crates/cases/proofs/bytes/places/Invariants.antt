@@ -1,5 +1,5 @@
 -- `cases::bytes::places` answers a place from `at` to the space's end. The measure is how many bytes are left.
-use Rattle.std.proofs.Common.{◌≡◌, ◌≤◌, length, rules}
+use Rattle.std.proofs.Common.{◌≡◌, ◌≤◌, length}
 use Rattle.cases.proofs.bytes.places.Given as goal
 
 abbrev pub invariant-loop-left : goal.invariant-loop-left

@@ -1,5 +1,5 @@
 -- `cases::bytes::write_out` answers a place from `at` to the space's end. The measure is what is left of the word.
-use Rattle.std.proofs.Common.{◌≡◌, ◌-◌, ◌≤◌, length, rules}
+use Rattle.std.proofs.Common.{◌≡◌, ◌-◌, ◌≤◌, length}
 use Rattle.cases.proofs.bytes.write_out.Given as goal
 
 abbrev pub invariant-loop-from : goal.invariant-loop-from

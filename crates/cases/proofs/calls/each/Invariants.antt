@@ -1,5 +1,5 @@
 -- `cases::calls::each` is safe and ends: a line ends where it starts or later, and the next starts past that. The measure is what is left of the script.
-use Rattle.std.proofs.Common.{◌≡◌, ◌-◌, length, rules}
+use Rattle.std.proofs.Common.{◌≡◌, ◌-◌, length}
 use Rattle.cases.proofs.calls.each.Given as goal
 
 abbrev pub invariant-loop-from : goal.invariant-loop-from

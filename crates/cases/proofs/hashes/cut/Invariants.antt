@@ -1,5 +1,5 @@
 -- `cases::hashes::cut` is safe and ends: a part ends within the bytes. The measure is how many lengths are left.
-use Rattle.std.proofs.Common.{◌-◌, ◌≤◌, length, rules}
+use Rattle.std.proofs.Common.{◌-◌, ◌≤◌, length}
 use Rattle.cases.proofs.hashes.cut.Given as goal
 
 abbrev pub invariant-loop-i : goal.invariant-loop-i

@@ -1,5 +1,5 @@
 -- `cases::replies::end` is safe and ends: an entry a turn.
-use Rattle.std.proofs.Common.{◌-◌, ◌≤◌, rules}
+use Rattle.std.proofs.Common.{◌-◌, ◌≤◌}
 use Rattle.cases.proofs.replies.end.Given as goal
 
 abbrev pub invariant-loop-n : goal.invariant-loop-n

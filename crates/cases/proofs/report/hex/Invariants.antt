@@ -1,5 +1,5 @@
 -- `cases::report::hex` is safe and ends. The measure is what is left of the bytes.
-use Rattle.std.proofs.Common.{◌-◌, ◌≤◌, length, rules}
+use Rattle.std.proofs.Common.{◌-◌, ◌≤◌, length}
 use Rattle.cases.proofs.report.hex.Given as goal
 
 abbrev pub invariant-loop-i : goal.invariant-loop-i

@@ -1,5 +1,4 @@
 -- `cases::texts::walk` is safe and ends: as many turns as there are bytes. The measure is how many are left.
-use Rattle.std.proofs.Common.{rules}
 use Rattle.cases.proofs.texts.walk.Given as goal
 
 abbrev pub invariant-loop-left : goal.invariant-loop-left

@@ -1,5 +1,5 @@
 -- `cases::torrents::files_end` is safe and ends: a file a turn.
-use Rattle.std.proofs.Common.{◌-◌, ◌≤◌, rules}
+use Rattle.std.proofs.Common.{◌-◌, ◌≤◌}
 use Rattle.cases.proofs.torrents.files_end.Given as goal
 
 abbrev pub invariant-loop-n : goal.invariant-loop-n

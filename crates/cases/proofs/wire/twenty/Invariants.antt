@@ -1,5 +1,5 @@
 -- `cases::wire::twenty` is safe and ends: twenty turns.
-use Rattle.std.proofs.Common.{◌-◌, ◌≤◌, rules}
+use Rattle.std.proofs.Common.{◌-◌, ◌≤◌}
 use Rattle.cases.proofs.wire.twenty.Given as goal
 
 abbrev pub invariant-loop-i : goal.invariant-loop-i

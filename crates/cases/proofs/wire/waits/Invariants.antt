@@ -1,5 +1,5 @@
 -- `cases::wire::waits` is safe and ends: a turn counts one at most. The measure is how many cuts are left.
-use Rattle.std.proofs.Common.{◌-◌, ◌≤◌, length, rules}
+use Rattle.std.proofs.Common.{◌-◌, ◌≤◌, length}
 use Rattle.cases.proofs.wire.waits.Given as goal
 
 abbrev pub invariant-loop-cut : goal.invariant-loop-cut

@@ -1,5 +1,5 @@
 -- `cases::words::find` answers a place from `from` to the text's end. The measure is what is left of the text.
-use Rattle.std.proofs.Common.{◌-◌, ◌≤◌, length, rules}
+use Rattle.std.proofs.Common.{◌-◌, ◌≤◌, length}
 use Rattle.cases.proofs.words.find.Given as goal
 
 abbrev pub invariant-loop-at : goal.invariant-loop-at

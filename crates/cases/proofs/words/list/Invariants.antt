@@ -1,5 +1,5 @@
 -- `cases::words::list` is safe and ends: a number ends where it starts or later, and the next starts past that. The measure is what is left of the word.
-use Rattle.std.proofs.Common.{◌≡◌, ◌-◌, length, rules}
+use Rattle.std.proofs.Common.{◌≡◌, ◌-◌, length}
 use Rattle.cases.proofs.words.list.Given as goal
 
 abbrev pub invariant-loop-from : goal.invariant-loop-from

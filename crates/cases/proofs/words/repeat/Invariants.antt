@@ -1,5 +1,5 @@
 -- `cases::words::repeat` is safe and ends. The measure is how many times are left.
-use Rattle.std.proofs.Common.{◌≡◌, length, rules}
+use Rattle.std.proofs.Common.{◌≡◌, length}
 use Rattle.cases.proofs.words.repeat.Given as goal
 
 abbrev pub invariant-loop-left : goal.invariant-loop-left

@@ -1,5 +1,5 @@
 -- `cases::words::start` answers a place of the line. The measure is how many words are left.
-use Rattle.std.proofs.Common.{◌≤◌, length, rules}
+use Rattle.std.proofs.Common.{◌≤◌, length}
 use Rattle.cases.proofs.words.start.Given as goal
 
 abbrev pub invariant-loop-left : goal.invariant-loop-left

@@ -1,5 +1,5 @@
 -- `cases::words::value` is safe and ends. The measure is what is left of the digits.
-use Rattle.std.proofs.Common.{◌-◌, ◌≤◌, length, rules}
+use Rattle.std.proofs.Common.{◌-◌, ◌≤◌, length}
 use Rattle.cases.proofs.words.value.Given as goal
 
 abbrev pub invariant-loop-i : goal.invariant-loop-i

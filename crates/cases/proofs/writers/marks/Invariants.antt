@@ -1,5 +1,5 @@
 -- `cases::writers::marks` is safe and ends. The measure is what is left of the output.
-use Rattle.std.proofs.Common.{◌-◌, length, rules}
+use Rattle.std.proofs.Common.{◌-◌, length}
 use Rattle.cases.proofs.writers.marks.Given as goal
 
 abbrev pub invariant-loop-i : goal.invariant-loop-i
