@@ -1,8 +1,6 @@
 -- `tracker::answered` meets its contract. Assumes nothing.
-use borrow.Author.Rules.{rules}
 use Rattle.tracker.specs.Reading.{paper}
 use Rattle.tracker.proofs.Steps.{the-peers, no-interval}
-use Rattle.refusal.specs.Paper.{refused}
 use mathlib.Core.Path.{ap, ◌∙◌}
 use Rattle.tracker.proofs.answered.Goals as goal
 

@@ -1,10 +1,9 @@
 -- `tracker::listed_peer` meets its contract. Assumes nothing.
-use borrow.Author.Rules.{rules}
 use Rattle.tracker.specs.Entries.{nth_at, listed_paper}
 use Rattle.tracker.specs.Reading.{peer_paper}
 use Rattle.tracker.specs.Entries.{listed_paper}
 use Rattle.tracker.proofs.Steps.{via, in_count, no-count}
-use Rattle.refusal.specs.Paper.{taken, map}
+use Rattle.refusal.specs.Paper.{map}
 use mathlib.Core.Path.{ap, ◌∙◌}
 use Rattle.tracker.proofs.listed_peer.Goals as goal
 

@@ -1,5 +1,4 @@
 -- `tracker::listed_peers` meets its contract. Assumes nothing.
-use borrow.Author.Rules.{rules}
 use Rattle.tracker.specs.Reply.{listing}
 use Rattle.tracker.specs.Entries.{count_paper}
 use Rattle.tracker.proofs.Steps.{via}

@@ -1,5 +1,4 @@
 -- `tracker::peer` meets its contract. Assumes nothing.
-use borrow.Author.Rules.{rules}
 use Rattle.tracker.specs.Reading.{peer_paper}
 use Rattle.tracker.proofs.Walking.{peer-by}
 use mathlib.Core.Path.{ap, ◌∙◌}

@@ -1,8 +1,7 @@
 -- `tracker::peers_at` meets its contract. Assumes nothing.
-use borrow.Author.Rules.{rules}
 use mathlib.Core.Path.{refl, ap, ◌∙◌}
 use mathlib.Core.List.{[], ◌∷◌}
-use Rattle.bencode_walk.proofs.Rest.{as_seen, rest-seen}
+use Rattle.bencode_walk.proofs.Rest.{as_seen, But, rest-but}
 use Rattle.tracker.specs.Reading.{paper, peers_in}
 use Rattle.tracker.proofs.peers_at.Goals as goal
 
@@ -17,5 +16,6 @@ returns-in-Refused c = as_seen (peers_in c.args.text.now c.args.interval c.args.
 
 pub returns-in_default : goal.returns-in_default
 returns-in_default c =
+    let k : But (1 ∷ 2 ∷ 4 ∷ 5 ∷ []) c.look.result = (c.in_default.not-String, tt, tt, c.in_default.not-List, tt, tt, c.in_default.not-Refused) in
     ap paper c.refused.ensures
-    ∙ rest-seen (1 ∷ 2 ∷ 4 ∷ 5 ∷ []) (peers_in c.args.text.now c.args.interval c.args.at) _ (tt, λ z q. refl, λ a m q. refl, tt, λ q. refl, λ q. refl, tt) c.look.result _ c.look.ensures c.in_default.keys4
+    ∙ rest-but (1 ∷ 2 ∷ 4 ∷ 5 ∷ []) (peers_in c.args.text.now c.args.interval c.args.at) _ (tt, λ z q. refl, λ a m q. refl, tt, λ q. refl, λ q. refl, tt) c.look.result _ c.look.ensures k

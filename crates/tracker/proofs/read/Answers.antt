@@ -1,5 +1,4 @@
 -- `tracker::read` meets its contract. Assumes nothing.
-use borrow.Author.Rules.{rules}
 use Rattle.bencode.specs.Answers.{paper}
 use Rattle.tracker.proofs.Agreeing.{read_whole, read-refused}
 use mathlib.Core.Path.{sym, ap, ◌∙◌}

@@ -1,5 +1,4 @@
 -- `tracker::top` meets its contract. Assumes nothing.
-use borrow.Author.Rules.{rules}
 use Rattle.bencode_walk.specs.Walk.{seek_paper}
 use Rattle.tracker.specs.Reading.{top_by}
 use Rattle.tracker.proofs.Steps.{via}

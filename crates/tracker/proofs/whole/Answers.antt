@@ -1,5 +1,4 @@
 -- `tracker::whole` meets its contract. Assumes nothing.
-use borrow.Author.Rules.{rules}
 use Rattle.bencode_fields.specs.Looks.{inside_paper}
 use Rattle.tracker.specs.Reading.{top_of}
 use Rattle.tracker.proofs.Steps.{via}

@@ -1,5 +1,4 @@
 -- `tracker::listed::ending` meets its contract. Assumes nothing.
-use borrow.Author.Rules.{rules}
 use mathlib.Core.Path.{sym, ◌∙◌}
 use mathlib.Core.List.{[], ◌∷◌}
 use Prim.Native.Nat.{◌+◌}
@@ -44,9 +43,6 @@ returns-then-port c = λ n q e. rest-other n q e
 
 pub returns-then-differs-3 : goal.returns-then-differs-3
 returns-then-differs-3 c = λ n q e. rest-other n q e
-
-pub overflow-add-t14-SETTLED : goal.overflow-add-t14-SETTLED
-overflow-add-t14-SETTLED c = record { fits = omega (arith, (end-run (goal.at.overflow-add-t14-SETTLED c).Else-differs-3).inside) }
 
 pub returns : goal.returns
 returns c =

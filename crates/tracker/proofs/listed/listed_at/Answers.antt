@@ -1,5 +1,4 @@
 -- `tracker::listed::listed_at` meets its contract. Assumes nothing.
-use borrow.Author.Rules.{rules}
 use mathlib.Core.Path.{sym}
 use Rattle.tracker.proofs.listed.listed_at.Goals as goal
 

@@ -1,10 +1,8 @@
 -- `tracker::listed::nth` meets its contract. Assumes nothing.
 use Rattle.bencode_walk.specs.Walk.{past_paper}
-use Rattle.tracker.specs.Entries.{nth_at}
 use Rattle.tracker.proofs.Steps.{nth-more, nth-bad, nth_here}
-use borrow.Author.Rules.{rules}
 use native.Mathlib.Omega.{arith}
-use mathlib.Core.Path.{◌≡◌, refl, sym, ap, ◌∙◌}
+use mathlib.Core.Path.{refl, sym, ap, ◌∙◌}
 use Rattle.tracker.proofs.listed.nth.Goals as goal
 
 pub loop-left-init : goal.loop-left-init

@@ -1,10 +1,6 @@
 -- `tracker::listed::nth` meets its contract. Assumes nothing.
-use Rattle.bencode_walk.specs.Walk.{past_paper}
 use Rattle.tracker.specs.Entries.{nth_at}
-use Rattle.tracker.proofs.Steps.{nth-more, nth-bad, nth_here}
-use borrow.Author.Rules.{rules}
-use native.Mathlib.Omega.{arith}
-use mathlib.Core.Path.{◌≡◌, refl, sym, ap, ◌∙◌}
+use mathlib.Core.Path.{◌≡◌}
 use Rattle.tracker.proofs.listed.nth.Given as goal
 
 abbrev pub invariant-loop-left : goal.invariant-loop-left

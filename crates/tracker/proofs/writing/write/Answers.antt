@@ -1,5 +1,4 @@
 -- `tracker::writing::write` meets its contract. Assumes nothing.
-use borrow.Author.Rules.{rules}
 use Rattle.tracker.proofs.Written.{size, write-range, write-peer, write-long, write-none, write-whole}
 use native.Mathlib.Omega.{arith}
 use Rattle.tracker.proofs.writing.write.Goals as goal
@@ -23,4 +22,4 @@ pub put_all-requires : goal.put_all-requires
 put_all-requires c = omega (arith, size c.args.interval c.args.peers.now, c.digits.ensures.0, c.digits-2.ensures.0)
 
 pub returns : goal.returns
-returns c = write-whole c.args.interval c.args.peers.now c.args.out.now (omega arith) (omega arith) (omega (arith, size c.args.interval c.args.peers.now, c.digits.ensures.0, c.digits-2.ensures.0)) (omega (arith, size c.args.interval c.args.peers.now, c.digits.ensures.0, c.digits-2.ensures.0)) c.put_all_lem.ensures.0 c.put_all_lem.ensures.1
+returns c = write-whole c.args.interval c.args.peers.now c.args.out.now (omega arith) (omega arith) (omega (arith, size c.args.interval c.args.peers.now, c.digits.ensures.0, c.digits-2.ensures.0)) (omega (arith, size c.args.interval c.args.peers.now, c.digits.ensures.0, c.digits-2.ensures.0)) c.put_all.ensures.0 c.put_all.ensures.1
