@@ -9,7 +9,7 @@ from pathlib import Path
 
 ROOT = Path(__file__).resolve().parent.parent
 PICTURE = ROOT / "docs" / "crates.svg"
-# A wing is its crates' first word. The first and the last stand as posts beside the bands; what rests on io is a program.
+# A wing is its crates' first word. The first and the last stand as posts beside the bands; what has a main.rt is a program, and standard_input is theirs.
 WINGS = {
     "refusal": "#555555",
     "bencode": "#1f6fb4",
@@ -45,11 +45,12 @@ def main():
 
 def crates():
     """Each crate's wing, and the crates that it rests on but through no other."""
-    lines = [line.split(":") for line in (ROOT / "crates.txt").read_text().splitlines() if line.strip() and not line.startswith("#")]
+    lines = [line.replace(" staticlib", "").split(":") for line in (ROOT / "crates.txt").read_text().splitlines() if line.strip() and not line.startswith("#")]
     known = {name for name, _ in lines}
     wings, below, rests = {}, {}, {}
     for name, listed in lines:
-        wings[name] = "programs" if "io" in listed.split() else name.split("_")[0]
+        program = name == "standard_input" or (ROOT / "crates" / name / "src" / "main.rt").exists()
+        wings[name] = "programs" if program else name.split("_")[0]
         if wings[name] not in WINGS:
             sys.exit(f"tools/picture.py: {name} is of no wing")
         named = [other for other in listed.split() if other in known]

@@ -1,44 +1,37 @@
 """What the sources say: the functions of crates/*/src with their contracts, and the types that they name.
 
-tests/determined holds the statements to it, and the tools that write walks take the contracts from it.
+tests/determined holds the statements to it.
 """
 import re
 import sys
 from pathlib import Path
 
 ROOT = Path(__file__).resolve().parent.parent
-ENSURES = re.compile(r"ensures\s+(?:\w+\s+)?\{ λ ([^.]*)\. ⌜ (.*?) ⌝ \}", re.S)
-REQUIRES = re.compile(r"requires\s+(?:\w+\s+)?\{ ⌜ (.*?) ⌝ \}", re.S)
+CLAUSE = re.compile(r"^ +(requires|ensures)(?: \w+)? \{", re.M)
 # what is lent to be written, with or without a lifetime
 LENT = re.compile(r"&\s*(?:'\w+\s+)?mut\b")
 NAME = r"[^\s(){}.;,@\"«»]+"
 
 
-def function_head(name, public=True):
-    """A function of that name, or of any: `pub`, `extern "C"`, the name, the parameters, the answer and the contract."""
-    seen = "(pub )" if public else r"(pub |pub\(crate\) )?"
-    return re.compile(rf'^{seen}(extern "C" )?fn ({name})(?:<[^>]*>)?\((.*?)\)(?: -> ([^\n{{]+))?\n(.*?)^\{{', re.S | re.M)
-
-
-FUNCTION = function_head(r"\w+")
+# a function: the name, the parameters, the answer and the contract
+FUNCTION = re.compile(r'^pub (?:extern "C" )?fn (\w+)(?:<[^>]*>)?\((.*?)\)(?: -> ([^\n{]+))?\n(.*?)^\{(.*?)^\}', re.S | re.M)
 HEAD = re.compile(r'^pub (?:extern "C" )?fn \w+', re.M)
 
 
 class Function:
     def __init__(self, crate, path, source, match):
-        _, self.exported, _, parameters, answer, self.contract = match.groups()
+        _, parameters, answer, self.contract, self.body = match.groups()
         self.crate = crate
         self.path = path
         self.source = source
         self.uses = uses_of(source, "ghost use", ";")
         self.given = [(n.strip(), t.strip()) for n, t in (p.split(":", 1) for p in split(parameters, ","))]
-        self.owned = [antt(n) for n, t in self.given if not LENT.match(t)]
-        self.lent = [antt(n) for n, t in self.given if LENT.match(t)]
+        self.owned = [n for n, t in self.given if not LENT.match(t)]
+        self.lent = [n for n, t in self.given if LENT.match(t)]
         self.answer = answer and answer.strip()
         self.answers = answer is not None
-        self.clauses = [words(text) for _, text in ENSURES.findall(self.contract)]
-        self.called = [name.strip() for name, _ in ENSURES.findall(self.contract)]
-        self.requires = [words(text) for text in REQUIRES.findall(self.contract)]
+        self.clauses = list(clauses(self.contract, "ensures"))
+        self.requires = list(clauses(self.contract, "requires"))
 
     def text(self):
         """The contract as one text: its clauses, joined by × where there are more."""
@@ -51,15 +44,15 @@ class Function:
         return owner(name, self.source, self.path.rpartition("::")[0])
 
 
-def function(path):
-    """The function with that path, public or not."""
-    crate, *modules, name = path.split("::")
-    file = source_of(crate, *modules)
-    source = file.read_text()
-    match = function_head(name, public=False).search(source)
-    if match is None:
-        sys.exit(f"{file.relative_to(ROOT)}: no function {name} with a contract")
-    return Function(crate, path, source, match)
+def clauses(contract, kind):
+    """The text of each clause of a kind, without its braces."""
+    for match in CLAUSE.finditer(contract):
+        depth, at = 1, match.end()
+        while depth:
+            depth += (contract[at] == "{") - (contract[at] == "}")
+            at += 1
+        if match.group(1) == kind:
+            yield words(contract[match.end() : at - 1])
 
 
 def declared(path):
@@ -80,8 +73,20 @@ def owner(name, source, here):
     """The crate, with its modules, that declares a type which a source names."""
     if "::" in name:
         return name.rpartition("::")[0]
-    used = re.search(rf"^(?:pub )?use ([\w:]+)::{name};", source, re.M)
-    return re.sub("^crate(?=::|$)", here.partition("::")[0], used.group(1)) if used else here
+    path = next((path for path in imported(source) if path.endswith(f"::{name}")), f"{here}::{name}")
+    return re.sub("^crate(?=::|$)", here.partition("::")[0], path.rpartition("::")[0])
+
+
+def imported(source):
+    """The paths of what a source takes from elsewhere."""
+
+    def listed(tree, above):
+        for part in split(tree, ","):
+            head, brace, inner = part.strip().partition("{")
+            yield from listed(inner.rpartition("}")[0], above + head) if brace else [above + head]
+
+    for tree in re.findall(r"^(?:pub )?use ([^;]*);", source, re.M):
+        yield from listed(words(tree), "")
 
 
 def source_of(crate, *modules):
@@ -89,27 +94,39 @@ def source_of(crate, *modules):
 
 
 def public_functions():
-    crates = [line.split(":")[0] for line in (ROOT / "crates.txt").read_text().splitlines() if re.match(r"\w+:", line)]
+    """The functions that another crate can call, of every library crate. What a crate of the same name and _c exports to C is told by its export."""
+    crates = re.findall(r"^(\w+)(?: staticlib)?:", (ROOT / "crates.txt").read_text(), re.M)
     for crate in crates:
         library = source_of(crate)
-        if library.exists():
-            yield from in_module(crate, [crate], library, True)
+        if library.exists() and not crate.endswith("_c"):
+            passed_on = {path.removeprefix("crate::") for path in imported("\n".join(re.findall(r"^pub use [^;]*;", library.read_text(), re.M)))}
+            yield from in_module(crate, [crate], library, passed_on)
 
 
-def in_module(crate, modules, file, reachable):
-    """The functions of a module that another crate can call, and those that are exported to C from anywhere."""
+def exports():
+    """The functions that are exported to C, each with the function of the same name that it stands for."""
+    functions = {(f.crate, f.path.rpartition("::")[2]): f for f in public_functions()}
+    for library in sorted(ROOT.glob("crates/*_c/src")):
+        crate = library.parent.name
+        for file in sorted(library.glob("*.rt")):
+            for match in FUNCTION.finditer(file.read_text()):
+                yield Function(crate, f"{crate}::{match.group(1)}", file.read_text(), match), functions.get((crate.removesuffix("_c"), match.group(1)))
+
+
+def in_module(crate, modules, file, passed_on):
+    """The functions of a module that another crate can call: of one that is not shown, what the crate passes on."""
     source = file.read_text()
-    if re.search(r"^[ \t]+pub (extern \"C\" )?fn|^\s*pub use [^;]*(::|[{,]\s*)[a-z_]+\s*[;,}]", source, re.M):
-        sys.exit(f"{file.relative_to(ROOT)}: a method or a function passed on by `pub use`, which is not followed")
+    if re.search(r"^[ \t]+pub fn", source, re.M) or len(modules) > 1 and re.search(r"^pub use [^;]*(::|[{,]\s*)[a-z_0-9]+\s*[;,}]", source, re.M):
+        sys.exit(f"{file.relative_to(ROOT)}: a method, or a function passed on by a module, which is not followed")
     heads, read = HEAD.findall(source), list(FUNCTION.finditer(source))
     # a head with no contract would run on into the next function
     if len(heads) != len(read) or any(HEAD.search(match.group(0), 1) for match in read):
         sys.exit(f"{file.relative_to(ROOT)}: a public function with no contract, or with its brace elsewhere than on a line of its own")
     for match in read:
-        if reachable or match.group(2):
-            yield Function(crate, "::".join(modules + [match.group(3)]), source, match)
+        if passed_on is None or len(modules) == 1 or "::".join(modules[1:] + [match.group(1)]) in passed_on:
+            yield Function(crate, "::".join(modules + [match.group(1)]), source, match)
     for shown, name in re.findall(r"^(pub )?mod (\w+);", source, re.M):
-        yield from in_module(crate, modules + [name], file.parent / f"{name}.rt", reachable and bool(shown))
+        yield from in_module(crate, modules + [name], file.parent / f"{name}.rt", None if shown else passed_on or set())
 
 
 def uses_of(source, keyword, end):
@@ -119,14 +136,9 @@ def uses_of(source, keyword, end):
         for item in listed.split(","):
             real, _, other = item.strip().partition(" as ")
             names[(other or real).strip()] = f"{module}.{real.strip()}"
-            if real.startswith("_") and not other:
-                names[real.strip("_ ")] = f"{module}.{real.strip()}"
+            if real.startswith("◌") and not other:
+                names[real.strip("◌ ")] = f"{module}.{real.strip()}"
     return names
-
-
-def through_facade(name, crate):
-    """A crate names its own definitions otherwise than those above it do."""
-    return name.replace(f"Rattle·{crate}·specs.specs.", f"Rattle·{crate}.specs.")
 
 
 def split(text, mark):
@@ -153,7 +165,3 @@ def enclosed(text):
 
 def words(text):
     return " ".join(text.split())
-
-
-def antt(name):
-    return f"«{name}»" if "_" in name else name

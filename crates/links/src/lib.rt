@@ -1,6 +1,7 @@
 // Magnet links, by BEP 9 as document 02 has it: what a link says, and the link of a torrent. A call takes the whole text
 // and trusts nothing kept from an earlier call.
 #![tactic(auto)]
+
 mod kinds;
 mod scan;
 mod values;

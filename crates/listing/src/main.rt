@@ -4,7 +4,7 @@
 ghost use Rattle.std.specs.Prelude.{◌≤◌, length};
 
 use bencode_writer::Put;
-use std::io::{Stdin, Stdout};
+use std::io::{Read, Stdin, Stdout};
 
 fn main(rt: HostRuntime) {
     // One byte more than is listed tells that there is too much.
@@ -19,7 +19,7 @@ fn whole(input: Stdin, output: Stdout, space: &mut [u8; 65537], printed: &mut [u
 }
 
 fn work(input: Stdin, output: Stdout, space: &mut [u8], printed: &mut [u8]) {
-    let n = standard_input::read_full(input, space);
+    let n = read_full(input, space);
     show(output, &space[..n], printed);
 }
 
@@ -35,4 +35,19 @@ fn print(output: Stdout, printed: &[u8], n: usize)
     requires { n ≤ length printed.now }
 {
     let _ = output.write_all(&printed[0..n]);
+}
+
+// Reads until the space is full, the input ends or a read fails, and answers how many bytes it put at the start of the space.
+fn read_full(mut input: Stdin, space: &mut [u8]) -> usize
+    ensures { result ≤ length space.new }
+{
+    let mut done = 0;
+    while done < space.len() {
+        match input.read(&mut space[done..]) {
+            Ok(0) => break,
+            Ok(n) => done += n,
+            Err(_) => break,
+        }
+    }
+    done
 }

@@ -1,6 +1,7 @@
 // The tracker's address for a torrent by a depot's sheet, a dictionary from info hashes to addresses. A call takes both
 // texts and trusts nothing kept from an earlier call.
 #![tactic(auto)]
+
 mod rows;
 
 ghost use Rattle.std.specs.Prelude.{◌≡◌, ◌≤◌, length};

@@ -20,7 +20,6 @@ use Rattle.bencode_writer.specs.Put.{Left, left, put_of}
 use Rattle.bencode_writer.specs.Put.{paper as put_paper}
 use Rattle.bencode_writer.specs.declared.Put.{Put}
 use Rattle.bencode_writer.proofs.Laws.{paper-apart, put_whole, put-none, standing}
-use Rattle.torrent_blocks.specs.Rules.{piece_length_of}
 use Rattle.torrent_metainfo.specs.Keys.{announce_key, info_key, length_key, name_key, piece_length_key, pieces_key}
 use Rattle.torrent_metainfo.specs.Rules.{torrent_of}
 use Rattle.torrent_metainfo.specs.Reading.{read_of}

@@ -1,5 +1,6 @@
 // Torrents of one file, written: announce, and info with length, name, piece length and pieces.
 #![tactic(auto)]
+
 ghost use Rattle.std.specs.Prelude.{◌≡◌, [], ◌∷◌, ◌++◌, ◌+◌, ◌≤◌, length as length_of};
 ghost use Rattle.refusal.specs.Numbers.{room};
 ghost use Rattle.refusal.specs.Limits.{most_text};

@@ -1,6 +1,7 @@
 // What a torrent holds: its files, the elements of their paths, the hashes of its pieces, and the check of a piece.
 // A call takes the torrent's text and trusts nothing kept from an earlier call.
 #![tactic(auto)]
+
 mod files;
 mod pieces;
 

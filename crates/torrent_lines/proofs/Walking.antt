@@ -13,7 +13,7 @@ use Rattle.refusal.proofs.Outcomes.{then-taken, map-taken}
 use Rattle.bencode_scalar.specs.Written.{decimal}
 use Rattle.bencode.specs.Value.{Value, Items, Entries, str, int, list, dict, none, item, encode, start}
 use Rattle.bencode.proofs.Complete.{encode-pos}
-use Rattle.bencode_walk.specs.Walk.{Head, end}
+use Rattle.bencode_walk.specs.Walk.{Head}
 use Rattle.bencode_walk.specs.Stands.{Stands, StandItems}
 use Rattle.bencode_walk.specs.Lookup.{under, lookup}
 use Rattle.bencode_walk.proofs.Standing.{list-stands, items-end, items-next, dictionary-stands, room}

@@ -1,5 +1,6 @@
 // Document 01's listing of a torrent: all bytes that the listing program prints are decided here.
 #![tactic(auto)]
+
 mod files;
 mod ink;
 

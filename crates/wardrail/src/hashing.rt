@@ -62,7 +62,7 @@ fn state(w: [u32; 6], tail: [u8; 64]) -> Stream
 }
 
 // The word of a digest.
-pub fn hashed_word(h: Hashed) -> u64
+pub(crate) fn hashed_word(h: Hashed) -> u64
     ensures { result ≡ word_of (hashed_paper h) }
 {
     match h {

@@ -8,5 +8,5 @@ ghost use Rattle.wardrail.specs.Addresses.{TellsOf};
 pub extern "C" fn wardrail_address(torrent: &[u8], sheet: &[u8], detail: &mut [u64; 3]) -> u64
     ensures { TellsOf (find_of torrent.now sheet.now) detail.old result detail.new }
 {
-    wardrail::wardrail_address(torrent, sheet, detail)
+    wardrail::addresses::wardrail_address(torrent, sheet, detail)
 }

@@ -13,7 +13,7 @@ ghost use Rattle.wardrail.specs.Files.{file_detail, walked_detail, element_detai
 pub extern "C" fn wardrail_file(text: &[u8], number: usize, detail: &mut [u64; 4]) -> u64
     ensures { Tells (map file_detail (entry_of text.now number)) detail.old result detail.new }
 {
-    wardrail::wardrail_file(text, number, detail)
+    wardrail::files::wardrail_file(text, number, detail)
 }
 
 // The file of many at a place, to walk all of them in one pass. `detail` becomes its length, the place of its path's first
@@ -22,7 +22,7 @@ pub extern "C" fn wardrail_file(text: &[u8], number: usize, detail: &mut [u64; 4
 pub extern "C" fn wardrail_file_at(text: &[u8], at: usize, detail: &mut [u64; 3]) -> u64
     ensures { Tells (map walked_detail (file_at text.now at)) detail.old result detail.new }
 {
-    wardrail::wardrail_file_at(text, at, detail)
+    wardrail::files::wardrail_file_at(text, at, detail)
 }
 
 // The element of a path at a place. `detail` becomes 1, its first byte and length, and the place of the next; or 0, 0, 0
@@ -31,7 +31,7 @@ pub extern "C" fn wardrail_file_at(text: &[u8], at: usize, detail: &mut [u64; 3]
 pub extern "C" fn wardrail_element_at(text: &[u8], at: usize, detail: &mut [u64; 4]) -> u64
     ensures { Tells (map element_detail (element_of text.now at)) detail.old result detail.new }
 {
-    wardrail::wardrail_element_at(text, at, detail)
+    wardrail::files::wardrail_element_at(text, at, detail)
 }
 
 // The 20 bytes of a piece's hash, by first byte and length.
@@ -39,7 +39,7 @@ pub extern "C" fn wardrail_element_at(text: &[u8], at: usize, detail: &mut [u64;
 pub extern "C" fn wardrail_piece_hash(text: &[u8], piece: u32, detail: &mut [u64; 2]) -> u64
     ensures { Tells (map part_detail (hash_of text.now piece)) detail.old result detail.new }
 {
-    wardrail::wardrail_piece_hash(text, piece, detail)
+    wardrail::files::wardrail_piece_hash(text, piece, detail)
 }
 
 // Whether these are the bytes of a piece. `detail` becomes 1 for yes and 0 for no.
@@ -52,5 +52,5 @@ pub extern "C" fn wardrail_piece_check(
 ) -> u64
     ensures { Tells (map yes_detail (check_of text.now piece bytes.now)) detail.old result detail.new }
 {
-    wardrail::wardrail_piece_check(text, piece, bytes, detail)
+    wardrail::files::wardrail_piece_check(text, piece, bytes, detail)
 }

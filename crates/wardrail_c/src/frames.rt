@@ -11,7 +11,7 @@ ghost use Rattle.wardrail.specs.Frames.{frame_told, shake_told};
 pub extern "C" fn wardrail_frame(bytes: &[u8], detail: &mut [u64; 8]) -> u64
     ensures { Tells (frame_told (read_of bytes.now)) detail.old result detail.new }
 {
-    wardrail::wardrail_frame(bytes, detail)
+    wardrail::frames::wardrail_frame(bytes, detail)
 }
 
 // The handshake at the start of the bytes, for an info hash. `detail` becomes how many bytes it used, and first byte and
@@ -20,5 +20,5 @@ pub extern "C" fn wardrail_frame(bytes: &[u8], detail: &mut [u64; 8]) -> u64
 pub extern "C" fn wardrail_handshake(bytes: &[u8], info: &[u8; 20], detail: &mut [u64; 5]) -> u64
     ensures { Tells (shake_told (shake_of info.now bytes.now)) detail.old result detail.new }
 {
-    wardrail::wardrail_handshake(bytes, info, detail)
+    wardrail::frames::wardrail_handshake(bytes, info, detail)
 }

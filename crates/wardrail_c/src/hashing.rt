@@ -8,7 +8,7 @@ ghost use Rattle.wardrail.specs.Hashing.{state_of, Holds, Digested};
 pub extern "C" fn wardrail_sha1_start(words: &mut [u32; 6], tail: &mut [u8; 64])
     ensures { Holds begun words.new tail.new }
 {
-    wardrail::wardrail_sha1_start(words, tail);
+    wardrail::hashing::wardrail_sha1_start(words, tail);
 }
 
 // The message with a part after it.
@@ -16,7 +16,7 @@ pub extern "C" fn wardrail_sha1_start(words: &mut [u32; 6], tail: &mut [u8; 64])
 pub extern "C" fn wardrail_sha1_add(words: &mut [u32; 6], tail: &mut [u8; 64], part: &[u8])
     ensures { Holds (add_of (state_of words.old tail.old) part.now) words.new tail.new }
 {
-    wardrail::wardrail_sha1_add(words, tail, part);
+    wardrail::hashing::wardrail_sha1_add(words, tail, part);
 }
 
 // Writes the digest of the message; a refusal leaves `digest` as it was.
@@ -28,5 +28,5 @@ pub extern "C" fn wardrail_sha1_finish(
 ) -> u64
     ensures { Digested (finish_of (state_of words.now tail.now) digest.old) result digest.new }
 {
-    wardrail::wardrail_sha1_finish(words, tail, digest)
+    wardrail::hashing::wardrail_sha1_finish(words, tail, digest)
 }

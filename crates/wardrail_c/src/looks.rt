@@ -11,5 +11,5 @@ ghost use Rattle.wardrail.specs.Looks.{look_detail};
 pub extern "C" fn wardrail_look(text: &[u8], at: usize, detail: &mut [u64; 4]) -> u64
     ensures { Tells (map look_detail (look_of text.now at)) detail.old result detail.new }
 {
-    wardrail::wardrail_look(text, at, detail)
+    wardrail::looks::wardrail_look(text, at, detail)
 }

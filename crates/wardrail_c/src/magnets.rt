@@ -14,5 +14,5 @@ pub extern "C" fn wardrail_link(
 ) -> u64
     ensures { ReadTo (left_of text.now hash.old name.old address.old) detail.old result detail.new hash.new name.new address.new }
 {
-    wardrail::wardrail_link(text, hash, name, address, detail)
+    wardrail::magnets::wardrail_link(text, hash, name, address, detail)
 }

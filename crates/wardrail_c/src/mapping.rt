@@ -20,7 +20,7 @@ pub extern "C" fn wardrail_block(
 ) -> u64
     ensures { Wrote (parts_written (block_of (joined_files lengths.now) piece_length (spot piece offset) count) out.old) detail.old result detail.new out.new }
 {
-    wardrail::wardrail_block(lengths, piece_length, piece, offset, count, out, detail)
+    wardrail::mapping::wardrail_block(lengths, piece_length, piece, offset, count, out, detail)
 }
 
 // The piece of a file's byte and its offset there, as the two numbers of `detail`.
@@ -34,7 +34,7 @@ pub extern "C" fn wardrail_byte(
 ) -> u64
     ensures { Tells (map spot_detail (byte_of (joined_files lengths.now) piece_length file offset)) detail.old result detail.new }
 {
-    wardrail::wardrail_byte(lengths, piece_length, file, offset, detail)
+    wardrail::mapping::wardrail_byte(lengths, piece_length, file, offset, detail)
 }
 
 // The bytes of a piece as `detail`.
@@ -47,5 +47,5 @@ pub extern "C" fn wardrail_piece_size(
 ) -> u64
     ensures { Tells (size_of (joined_files lengths.now) piece_length piece) detail.old result detail.new }
 {
-    wardrail::wardrail_piece_size(lengths, piece_length, piece, detail)
+    wardrail::mapping::wardrail_piece_size(lengths, piece_length, piece, detail)
 }

@@ -10,5 +10,5 @@ ghost use Rattle.wardrail.specs.Peers.{peer_detail};
 pub extern "C" fn wardrail_peer(text: &[u8], number: usize, detail: &mut [u64; 6]) -> u64
     ensures { Tells (map peer_detail (then (reply_of text.now) (nth_of number))) detail.old result detail.new }
 {
-    wardrail::wardrail_peer(text, number, detail)
+    wardrail::peers::wardrail_peer(text, number, detail)
 }

@@ -11,7 +11,7 @@ ghost use Rattle.wardrail.specs.Replies.{reply_detail, entry_detail};
 pub extern "C" fn wardrail_reply(text: &[u8], detail: &mut [u64; 4]) -> u64
     ensures { Tells (map reply_detail (map counted (reply_of text.now))) detail.old result detail.new }
 {
-    wardrail::wardrail_reply(text, detail)
+    wardrail::replies::wardrail_reply(text, detail)
 }
 
 // The entry of a list whose dictionary stands at a place. `detail` becomes first byte and length of its peer id and of
@@ -20,7 +20,7 @@ pub extern "C" fn wardrail_reply(text: &[u8], detail: &mut [u64; 4]) -> u64
 pub extern "C" fn wardrail_listed_at(text: &[u8], at: usize, detail: &mut [u64; 6]) -> u64
     ensures { Tells (map entry_detail (listed_at text.now at)) detail.old result detail.new }
 {
-    wardrail::wardrail_listed_at(text, at, detail)
+    wardrail::replies::wardrail_listed_at(text, at, detail)
 }
 
 // The entry of six bytes at a place. `detail` becomes its four bytes of address, its port, and the place past it.
@@ -28,5 +28,5 @@ pub extern "C" fn wardrail_listed_at(text: &[u8], at: usize, detail: &mut [u64; 
 pub extern "C" fn wardrail_packed_at(text: &[u8], at: usize, detail: &mut [u64; 6]) -> u64
     ensures { Tells (map entry_detail (packed_at text.now at)) detail.old result detail.new }
 {
-    wardrail::wardrail_packed_at(text, at, detail)
+    wardrail::replies::wardrail_packed_at(text, at, detail)
 }

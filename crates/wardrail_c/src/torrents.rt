@@ -12,7 +12,7 @@ ghost use Rattle.wardrail.specs.Hashing.{Digested};
 pub extern "C" fn wardrail_torrent(text: &[u8], detail: &mut [u64; 14]) -> u64
     ensures { Tells (map torrent_detail (read_of text.now)) detail.old result detail.new }
 {
-    wardrail::wardrail_torrent(text, detail)
+    wardrail::torrents::wardrail_torrent(text, detail)
 }
 
 // Writes the info hash; a refusal leaves `digest` as it was.
@@ -20,5 +20,5 @@ pub extern "C" fn wardrail_torrent(text: &[u8], detail: &mut [u64; 14]) -> u64
 pub extern "C" fn wardrail_info_hash(text: &[u8], digest: &mut [u8; 20]) -> u64
     ensures { Digested (info_hash_of text.now digest.old) result digest.new }
 {
-    wardrail::wardrail_info_hash(text, digest)
+    wardrail::torrents::wardrail_info_hash(text, digest)
 }

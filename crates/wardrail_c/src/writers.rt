@@ -22,7 +22,7 @@ pub extern "C" fn wardrail_write_frame(
 ) -> u64
     ensures { Wrote (frame_of (id ∷ payload.now) out.old) detail.old result detail.new out.new }
 {
-    wardrail::wardrail_write_frame(id, payload, out, detail)
+    wardrail::writers::wardrail_write_frame(id, payload, out, detail)
 }
 
 // A keepalive.
@@ -30,7 +30,7 @@ pub extern "C" fn wardrail_write_frame(
 pub extern "C" fn wardrail_write_keepalive(out: &mut [u8], detail: &mut u64) -> u64
     ensures { Wrote (put_of (encode keepalive) 0 out.old) detail.old result detail.new out.new }
 {
-    wardrail::wardrail_write_keepalive(out, detail)
+    wardrail::writers::wardrail_write_keepalive(out, detail)
 }
 
 // The handshake, its free bytes 0.
@@ -43,7 +43,7 @@ pub extern "C" fn wardrail_write_handshake(
 ) -> u64
     ensures { Wrote (put_of (handshake zeros info.now peer.now) 0 out.old) detail.old result detail.new out.new }
 {
-    wardrail::wardrail_write_handshake(info, peer, out, detail)
+    wardrail::writers::wardrail_write_handshake(info, peer, out, detail)
 }
 
 // A torrent of one file.
@@ -59,7 +59,15 @@ pub extern "C" fn wardrail_write_torrent(
 ) -> u64
     ensures { Wrote (torrent_text_of (fields announce.now name.now piece_length pieces.now length) out.old) detail.old result detail.new out.new }
 {
-    wardrail::wardrail_write_torrent(announce, name, piece_length, pieces, length, out, detail)
+    wardrail::writers::wardrail_write_torrent(
+        announce,
+        name,
+        piece_length,
+        pieces,
+        length,
+        out,
+        detail,
+    )
 }
 
 // How many bytes of output that torrent needs.
@@ -74,7 +82,7 @@ pub extern "C" fn wardrail_torrent_size(
 ) -> u64
     ensures { Tells (size_of (fields announce.now name.now piece_length pieces.now length)) detail.old result detail.new }
 {
-    wardrail::wardrail_torrent_size(announce, name, piece_length, pieces, length, detail)
+    wardrail::writers::wardrail_torrent_size(announce, name, piece_length, pieces, length, detail)
 }
 
 // The link of a torrent.
@@ -82,7 +90,7 @@ pub extern "C" fn wardrail_torrent_size(
 pub extern "C" fn wardrail_write_link(torrent: &[u8], out: &mut [u8], detail: &mut u64) -> u64
     ensures { Wrote (link_text_of torrent.now out.old) detail.old result detail.new out.new }
 {
-    wardrail::wardrail_write_link(torrent, out, detail)
+    wardrail::writers::wardrail_write_link(torrent, out, detail)
 }
 
 // How many bytes of output that link needs.
@@ -90,7 +98,7 @@ pub extern "C" fn wardrail_write_link(torrent: &[u8], out: &mut [u8], detail: &m
 pub extern "C" fn wardrail_link_size(torrent: &[u8], detail: &mut u64) -> u64
     ensures { Tells (map length (written_of torrent.now)) detail.old result detail.new }
 {
-    wardrail::wardrail_link_size(torrent, detail)
+    wardrail::writers::wardrail_link_size(torrent, detail)
 }
 
 // A week's file of bodies that stand one after the other and have these lengths.
@@ -103,7 +111,7 @@ pub extern "C" fn wardrail_write_week(
 ) -> u64
     ensures { Wrote (week_text_of bodies.now lengths.now out.old) detail.old result detail.new out.new }
 {
-    wardrail::wardrail_write_week(bodies, lengths, out, detail)
+    wardrail::writers::wardrail_write_week(bodies, lengths, out, detail)
 }
 
 // A compact reply.
@@ -116,5 +124,5 @@ pub extern "C" fn wardrail_write_reply(
 ) -> u64
     ensures { Wrote (reply_text_of interval peers.now out.old) detail.old result detail.new out.new }
 {
-    wardrail::wardrail_write_reply(interval, peers, out, detail)
+    wardrail::writers::wardrail_write_reply(interval, peers, out, detail)
 }

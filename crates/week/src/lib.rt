@@ -1,6 +1,7 @@
 // A week's packages in one file, by document 02: a table, then the bodies, each of them a torrent. A call takes the whole file
 // and trusts nothing kept from an earlier call.
 #![tactic(auto)]
+
 mod bodies;
 mod entries;
 mod lines;

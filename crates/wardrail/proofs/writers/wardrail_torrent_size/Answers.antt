@@ -1,0 +1,13 @@
+-- `wardrail_torrent_size` meets its contract. Assumes nothing.
+use mathlib.Core.Path.{sym, ap, refl}
+use Prim.Native.Nat.{ℕ}
+use Rattle.refusal.specs.Paper.{Outcome}
+use Rattle.torrent_authoring.specs.Writing.{paper}
+use Rattle.wardrail.proofs.Said.{tells}
+use Rattle.wardrail.proofs.writers.wardrail_torrent_size.Goals as goal
+
+pub returns-in-Bytes : goal.returns-in-Bytes
+returns-in-Bytes c = tells (λ (x : Outcome ℕ). x) (ap paper (sym c.in-Bytes.is)) c.size.ensures c.one.ensures.value c.one.ensures.detail_after
+
+pub returns-in-Refused : goal.returns-in-Refused
+returns-in-Refused c = tells (λ (x : Outcome ℕ). x) (ap paper (sym c.in-Refused.is)) c.size.ensures c.word.ensures refl
