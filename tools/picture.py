@@ -9,7 +9,7 @@ from pathlib import Path
 
 ROOT = Path(__file__).resolve().parent.parent
 PICTURE = ROOT / "docs" / "crates.svg"
-# A wing is its crates' first word. The first and the last stand as posts beside the bands; what has a main.rt is a program, and standard_input is theirs.
+# A wing is its crates' first word. The first and the last stand as posts beside the bands; what has a main.rt is a program.
 WINGS = {
     "refusal": "#555555",
     "bencode": "#1f6fb4",
@@ -49,8 +49,7 @@ def crates():
     known = {name for name, _ in lines}
     wings, below, rests = {}, {}, {}
     for name, listed in lines:
-        program = name == "standard_input" or (ROOT / "crates" / name / "src" / "main.rt").exists()
-        wings[name] = "programs" if program else name.split("_")[0]
+        wings[name] = "programs" if (ROOT / "crates" / name / "src" / "main.rt").exists() else name.split("_")[0]
         if wings[name] not in WINGS:
             sys.exit(f"tools/picture.py: {name} is of no wing")
         named = [other for other in listed.split() if other in known]

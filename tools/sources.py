@@ -99,8 +99,7 @@ def public_functions():
     for crate in crates:
         library = source_of(crate)
         if library.exists() and not crate.endswith("_c"):
-            passed_on = {path.removeprefix("crate::") for path in imported("\n".join(re.findall(r"^pub use [^;]*;", library.read_text(), re.M)))}
-            yield from in_module(crate, [crate], library, passed_on)
+            yield from in_module(crate, [crate], library)
 
 
 def exports():
@@ -113,20 +112,19 @@ def exports():
                 yield Function(crate, f"{crate}::{match.group(1)}", file.read_text(), match), functions.get((crate.removesuffix("_c"), match.group(1)))
 
 
-def in_module(crate, modules, file, passed_on):
-    """The functions of a module that another crate can call: of one that is not shown, what the crate passes on."""
+def in_module(crate, modules, file):
+    """The functions of a module that another crate can call."""
     source = file.read_text()
-    if re.search(r"^[ \t]+pub fn", source, re.M) or len(modules) > 1 and re.search(r"^pub use [^;]*(::|[{,]\s*)[a-z_0-9]+\s*[;,}]", source, re.M):
-        sys.exit(f"{file.relative_to(ROOT)}: a method, or a function passed on by a module, which is not followed")
+    if re.search(r"^[ \t]+pub fn", source, re.M) or any(re.search(r"::[a-z_0-9]+$", path) for path in imported("\n".join(re.findall(r"^pub use [^;]*;", source, re.M)))):
+        sys.exit(f"{file.relative_to(ROOT)}: a method, or a function passed on by `pub use`, which is not followed")
     heads, read = HEAD.findall(source), list(FUNCTION.finditer(source))
     # a head with no contract would run on into the next function
     if len(heads) != len(read) or any(HEAD.search(match.group(0), 1) for match in read):
         sys.exit(f"{file.relative_to(ROOT)}: a public function with no contract, or with its brace elsewhere than on a line of its own")
     for match in read:
-        if passed_on is None or len(modules) == 1 or "::".join(modules[1:] + [match.group(1)]) in passed_on:
-            yield Function(crate, "::".join(modules + [match.group(1)]), source, match)
-    for shown, name in re.findall(r"^(pub )?mod (\w+);", source, re.M):
-        yield from in_module(crate, modules + [name], file.parent / f"{name}.rt", None if shown else passed_on or set())
+        yield Function(crate, "::".join(modules + [match.group(1)]), source, match)
+    for name in re.findall(r"^pub mod (\w+);", source, re.M):
+        yield from in_module(crate, modules + [name], file.parent / f"{name}.rt")
 
 
 def uses_of(source, keyword, end):

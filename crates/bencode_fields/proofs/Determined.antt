@@ -13,7 +13,7 @@ use Rattle.bencode_fields.specs.declared.Natural.TheVariants.{Is, Refused as Not
 use Rattle.bencode_fields.specs.declared.Number.{Number}
 use Rattle.bencode_fields.specs.declared.Number.TheVariants.{Is as IsTo, Refused as NotOne}
 use Rattle.bencode_fields.specs.declared.Inside.{Inside}
-use Rattle.bencode_fields.specs.declared.Inside.TheVariants.{At, Refused as None}
+use Rattle.bencode_fields.specs.declared.Inside.TheVariants.{At, Refused as Absent}
 
 -- the way back
 abbrev bytes_as : Outcome Part → Bytes
@@ -30,7 +30,7 @@ number_as (refused n p) = NotOne (record { number = n; place = p })
 
 abbrev inside_as : Outcome ℕ → Inside
 inside_as (taken p) = At p
-inside_as (refused n p) = None (record { number = n; place = p })
+inside_as (refused n p) = Absent (record { number = n; place = p })
 
 bytes-again : (r : Bytes) → bytes_as (string_paper r) ≡ r
 bytes-again (Are p) = refl
@@ -46,7 +46,7 @@ number-again (NotOne r) = refl
 
 inside-again : (r : Inside) → inside_as (inside_paper r) ≡ r
 inside-again (At p) = refl
-inside-again (None r) = refl
+inside-again (Absent r) = refl
 
 -- string_at and string_under, whatever outcome their contract names
 pub string-determined : (o : Outcome Part) (r t : Bytes) → string_paper r ≡ o → string_paper t ≡ o → r ≡ t

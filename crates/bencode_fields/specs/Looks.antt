@@ -12,7 +12,7 @@ use Rattle.bencode_fields.specs.declared.Natural.TheVariants.{Is, Refused as Not
 use Rattle.bencode_fields.specs.declared.Number.{Number}
 use Rattle.bencode_fields.specs.declared.Number.TheVariants.{Is as IsTo, Refused as NotOne}
 use Rattle.bencode_fields.specs.declared.Inside.{Inside}
-use Rattle.bencode_fields.specs.declared.Inside.TheVariants.{At, Refused as None}
+use Rattle.bencode_fields.specs.declared.Inside.TheVariants.{At, Refused as Absent}
 
 -- the answers in document 01's words
 abbrev pub string_paper : Bytes → Outcome Part
@@ -33,7 +33,7 @@ number_paper (NotOne r) = refusal r
 
 abbrev pub inside_paper : Inside → Outcome ℕ
 inside_paper (At p) = taken p
-inside_paper (None r) = refusal r
+inside_paper (Absent r) = refusal r
 
 -- the integer z at p as a number from 0 to most; else 11
 abbrev pub ranged : ℕ → ℕ → ℤ → Outcome ℕ

@@ -1,18 +1,16 @@
 -- What a program does that starts a yard and then makes any calls, or asks for a page of the missing list: each as its own contract permits it. Assumes nothing.
-use Rattle.std.specs.Prelude.{◌≡◌, Bool, List, [], ◌∷◌, ℕ, ◌≤◌, ltb, length, get_or, take}
+use Rattle.std.specs.Prelude.{◌≡◌, Bool, List, ℕ, ◌≤◌, ltb, length, get_or}
 use Rattle.std.proofs.Common.{sym, ap, subst, ◌∙◌}
 use Rattle.std.proofs.lemmas.List.Edits.{sets}
 use Rattle.paging_laws.specs.Pages.{Printed, PageOf, Follows}
-use Rattle.refusal.specs.Paper.{taken}
 use Rattle.yard_tables.specs.Seats.{cleared}
 use Rattle.yard_tables.specs.Looks.{is_missing}
-use Rattle.yard_tables.specs.Tables.{Yard, yard_of, done}
+use Rattle.yard_tables.specs.Tables.{Yard, yard_of}
 use Rattle.yard_tables.specs.Step.{Call, step, written}
 use Rattle.yard_tables.specs.declared.Head.{Head}
-use Rattle.yard_tables.specs.declared.Seat.{Seat}
 use Rattle.yard_telling.specs.Telling.{code_of, told_of, Looks}
 use Rattle.yard_telling.specs.declared.Told.{Told}
-use Rattle.yard_laws.specs.History.{History, sizes_of, entry}
+use Rattle.yard_laws.specs.History.{History, sizes_of}
 use Rattle.yard.proofs.Looking.{missing-changes-nothing, scarcest-changes-nothing, look-changes-nothing, has-changes-nothing, count-changes-nothing}
 use Rattle.yard_laws.specs.Run.{Run, begins, goes_on}
 use Rattle.yard_laws.specs.Damage.{Fit}
@@ -20,9 +18,7 @@ use Rattle.demands_laws.specs.Paging.{Paged}
 use Rattle.demands_laws.proofs.Runs.{start-taken}
 use Rattle.demands_laws.proofs.Paging.{missing_seats, page-of, paged}
 use Rattle.demands.specs.One.{Lent, before, after}
-use Rattle.demands.specs.One.Doors.Yard as yard
 use Rattle.demands.specs.Program.{Tables, found, Permits, starts, sits, leaves, feeds, chokes, interests, lists, picks, looks, asks, counts, turns, Telling, tells-sit, tells-feed, tells-page, tells-scarcest, tells-has, tells-count, tells-round, Made, started, called, Asks, asked}
-
 
 -- ---- so every call makes the step of its definition, and what a program made is a run of them
 

@@ -4,7 +4,7 @@
 -- recursions on it that look at no table (yard_laws/specs/History.antt).
 use Rattle.std.specs.Prelude.{◌≡◌, refl, ◌⊎◌, ◌↔◌, true, false, not, ◌&&◌, ◌||◌, ℕ, ◌+◌, ◌*◌, ◌^◌, ◌≤◌, ◌<◌, min, eqb, ltb, length, get_or, take, drop}
 use Rattle.std.proofs.Common.{sym, ap, subst, ◌∙◌}
-use Rattle.std.proofs.Math.Logic.{Iff·trans}
+use mathlib.Core.Logic.Iff
 use mathlib.Core.List.{List, ◌∷◌, ◌++◌, Memᴰ as In}
 use Rattle.std.proofs.lemmas.List.Edits.{sets}
 use Rattle.refusal.specs.Paper.{Outcome, taken, refused}
@@ -21,7 +21,7 @@ use Rattle.yard_tables.specs.declared.Head.{Head}
 use Rattle.yard_tables.specs.declared.Seat.{Seat}
 use Rattle.yard_tables.specs.declared.Page.{Page}
 use Rattle.yard_laws.specs.History.{History, Fixed, entry, sizes_of, seated, announced, fresh, Spoke, we_are_choking, we_are_interested, they_are_choking, they_are_interested, pieces, sizes_set, sent, wanting, round_number, free_place, last_place, came_in, block_in_of}
-use Rattle.yard_laws.specs.Says.{all_of, lacking, record_of, Ascending, holders, unchokes}
+use Rattle.yard_laws.specs.Says.{all_of, lacking, record_of, Ascending, unchokes}
 use Rattle.yard_laws.specs.Expected.{answer, output}
 use Rattle.yard_laws.specs.Causes.{Sits, Cause, WaitCause, Serves, Drops}
 use Rattle.yard_laws.specs.Given.{Gives, Writes}
@@ -52,7 +52,6 @@ use Rattle.demands.specs.One.Doors.Yard as yard
 use Rattle.demands.specs.Program.{Tables, found, Permits, Telling, Made, Asks}
 use Rattle.demands.proofs.Program.{permits-step, telling-step, made-run, asks-paged}
 use Rattle.demands.specs.Three.{UsesFour}
-
 
 -- a start is accepted exactly when the sizes are legal and the lent tables have them, whatever stands in the tables
 pub start-exact : (p l k : ℕ) (t : Tables) (r : ℕ) → yard.start-ensures p l k r t.head t.seats t.rows t.holders → r ≡ 0 ↔ SizesFit (sizes_of p l k) (found t)
@@ -209,10 +208,10 @@ module _ (lent : Yard) (h : History) (y : Yard) (made : Made lent h y) where
       permitted = (permits-step t c r z e).0 ∙ ap (λ (x : Yard). code_of (step c x).answer) f
 
       pub number-fair : (number : ℕ) → (number ≡ 0 → ⊥) → (number ≡ 255 → ⊥) → r ≡ number ↔ Cause fixed h c number
-      number-fair number z w = Iff·trans (number-refuses permitted number z w) (at-any-place (fair number))
+      number-fair number z w = Iff.trans (number-refuses permitted number z w) (at-any-place (fair number))
 
       pub number-wait : r ≡ 255 ↔ WaitCause fixed h c
-      number-wait = Iff·trans (number-waits permitted (no-wait y c)) fair-wait
+      number-wait = Iff.trans (number-waits permitted (no-wait y c)) fair-wait
 
     -- "A request is answered "serve" exactly if we don't choke and they are interested, else "drop"."
     pub serves-right : (bytes : ℕ) → (step c y).answer ≡ taken (serve bytes) ↔ Serves fixed h c bytes
@@ -245,7 +244,7 @@ module _ (lent : Yard) (h : History) (y : Yard) (made : Made lent h y) where
       → x.total ≡ 0 ↔ ((i p : ℕ) → i < seats → seated h i ≡ true → p < pieces h → announced h i p ≡ true)
   all-loaded first space x q =
       let t = page-total fixed h first space x (sym (answer-right (missing first space)) ∙ q) in
-      Iff·trans (same_answer t) (nobody-lacks seats (pieces h) (seated h) (announced h))
+      Iff.trans (same_answer t) (nobody-lacks seats (pieces h) (seated h) (announced h))
 
   -- as C sees it: where a page's number is 0, `total` of its record is 0 exactly then
   pub board-right : (t : Tables) → found t ≡ y → (first : ℕ) (page : Lent (List ℕ)) (told : Lent Told) → yard.missing-ensures t.seats t.rows t.holders first 0 t.head page told
@@ -253,7 +252,7 @@ module _ (lent : Yard) (h : History) (y : Yard) (made : Made lent h y) where
   board-right t f first page told e =
       let space = length (before page) in
       let (x, q, g) = page-told fixed h first space (ap (λ (z : Yard). (step (missing first space) z).answer) f ∙ answer-right (missing first space)) (before told) (after told) e.0 in
-      Iff·trans (same_answer g) (all-loaded first space x (sym (ap (λ (z : Yard). (step (missing first space) z).answer) f) ∙ q))
+      Iff.trans (same_answer g) (all-loaded first space x (sym (ap (λ (z : Yard). (step (missing first space) z).answer) f) ∙ q))
 
   -- ---- Document 02, ticket 7: "I print the missing list on any paper"
 

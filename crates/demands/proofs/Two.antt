@@ -6,7 +6,7 @@
 -- in demands_laws/specs/Texts.antt, those on where parts stand in Places.antt beside it.
 use Rattle.std.specs.Prelude.{◌≡◌, refl, ◌⊎◌, ◌↔◌, true, false, cond, List, [], ◌∷◌, ◌++◌, ℕ, suc, ◌+◌, ◌-◌, ◌*◌, ◌^◌, ◌≤◌, ◌<◌, min, ℤ, pos, length, get_or, take, drop}
 use Rattle.std.proofs.Common.{sym, ap, ap₂, ◌∙◌, subst, arith}
-use Rattle.std.proofs.Math.Logic.{Iff·trans}
+use mathlib.Core.Logic.Iff
 use Rattle.refusal.specs.BigEndian.{Bytes}
 use Rattle.refusal.specs.Limits.{most_text}
 use Rattle.refusal.specs.Paper.{taken, refused, map}
@@ -153,13 +153,12 @@ use Rattle.demands.specs.One.Doors.Wire as wire
 use Rattle.demands.specs.One.Doors.WireWriting as writing
 use Rattle.demands.specs.Two.{ReadsBack}
 
-
 -- ---- 5. "Taken exactly when its bytes are the BEP 3 encoding of a value that keeps the rules"; "an accepted text comes with its count of values, which equals the count in the decoded value."
 
 -- of bencode::check
 module _ (text : Lent (List ℕ)) (r : Checked) (c : bencode.check-ensures text r) where
   pub decode-exact : (n : ℕ) → count_paper r ≡ taken n ↔ ((v : Value) × Encodes (before text) v × (count v ≡ n))
-  decode-exact n = Iff·trans (same_answer c.0) (texts.count-exact (before text) n)
+  decode-exact n = Iff.trans (same_answer c.0) (texts.count-exact (before text) n)
 
 -- and a text is the encoding of one value at most
 pub one_value : (s : List ℕ) (v w : Value) → Encodes s v → Encodes s w → v ≡ w
@@ -184,11 +183,11 @@ module _ (text : Lent (List ℕ)) (at : ℕ) (r : Seen) (c : walk.look-ensures t
   -- "hands one outside 64 bits back as the text part with sign and digits": at any place of any text, the number told is the integer that stands there, for all of -2^63 to
   -- 2^63 - 1 (`in_range_of`), and every other is told by the bytes between its i and its e
   pub look-number : (z : ℤ) (q : ℕ) → seen_paper r ≡ taken (integer z q) ↔ ((in_range z ≡ true) × Stands (before text) d at (int z) × (q ≡ at + length (written_int z)))
-  look-number z q = Iff·trans (same_answer c) (telling.number-exact (before text) d at z q)
+  look-number z q = Iff.trans (same_answer c) (telling.number-exact (before text) d at z q)
 
   pub look-long : (p : Part) (q : ℕ) → seen_paper r ≡ taken (long p.from p.len q)
       ↔ ((z : ℤ) × (in_range z ≡ false) × Stands (before text) d at (int z) × (q ≡ at + length (written_int z)) × (p.from ≡ at + 1) × (p.len ≡ length (signed z)))
-  look-long p q = Iff·trans (same_answer c) (telling.long-exact (before text) d at p.from p.len q)
+  look-long p q = Iff.trans (same_answer c) (telling.long-exact (before text) d at p.from p.len q)
 
   -- which are its sign and digits
   pub long-bytes : (z : ℤ) → Stands (before text) d at (int z) → (b : Ref (List ℕ)) → walk.bytes-ensures text (record { from = at + 1; len = length (signed z) }) b → now b ≡ signed z
@@ -251,7 +250,7 @@ module _ (text : Lent (List ℕ)) (at : ℕ) (r : Past) (c : walk.skip-ensures t
 -- of torrent_metainfo::read
 module _ (text : Lent (List ℕ)) (r : Reading) (c : metainfo.read-ensures text r) where
   pub torrent-exact : ((x : Torrent) × (torrent_paper r ≡ taken x)) ↔ ((v : Value) × (t : TorrentSays) × Encodes (before text) v × IsTorrent v t)
-  torrent-exact = Iff·trans (some-answer c) (texts.torrent-exact (before text))
+  torrent-exact = Iff.trans (some-answer c) (texts.torrent-exact (before text))
 
   -- and the fields handed back are that value's: strings as the very part of the text, info as its dictionary is written, and the files one by one
   pub torrent-fields : (x : Torrent) → torrent_paper r ≡ taken x → (v : Value) (t : TorrentSays) → Encodes (before text) v → IsTorrent v t
@@ -332,7 +331,7 @@ torrent-says-one s v t u e i j = said.said-determined v 32 t u e.1 i j
 -- of tracker::read
 module _ (text : Lent (List ℕ)) (r : Reply) (c : tracker.read-ensures text r) where
   pub reply-exact : ((x : Answer ℕ) × (reply_paper r ≡ taken x)) ↔ ((v : Value) × (t : ReplySays) × Encodes (before text) v × IsReply v t)
-  reply-exact = Iff·trans (some-answer c) (texts.reply-exact (before text))
+  reply-exact = Iff.trans (some-answer c) (texts.reply-exact (before text))
 
   -- and what is handed back is that value's: why it failed, or the seconds and as many entries as it has; from the first entry's place on they can be
   -- walked in order, and tracker::peer gives each by its number
@@ -357,7 +356,7 @@ module _ (text : Lent (List ℕ)) (r : Reply) (c : tracker.read-ensures text r) 
 module _ (torrent sheet : Lent (List ℕ)) (r : address.Found) (c : sheets.find-ensures torrent sheet r) where
   -- taken exactly when the one text is the encoding of a torrent and the other that of a sheet, and both keep the limits
   pub sheet-exact : ((p : Part) × (address_paper r ≡ taken p)) ↔ (((v : Value) × (t : TorrentSays) × Encodes (before torrent) v × IsTorrent v t) × ((w : Value) × Encodes (before sheet) w × IsSheet w))
-  sheet-exact = Iff·trans (some-answer (ap (λ (x : Answered). x.what) c)) (sheets-laws.exact (before torrent) (before sheet))
+  sheet-exact = Iff.trans (some-answer (ap (λ (x : Answered). x.what) c)) (sheets-laws.exact (before torrent) (before sheet))
 
   module _ (v : Value) (t : TorrentSays) (e : Encodes (before torrent) v) (i : IsTorrent v t) where
     -- and the bytes of the part are the address by the two values
@@ -391,7 +390,7 @@ module _ (text : Lent (List ℕ)) (r : Linked) (hash name address : Lent (List �
   -- taken exactly when the text, of at most 1,048,576 bytes, is a link that says m, and both outputs have room for what it says
   pub link-exact : ((x : Sizes) × (link_paper r ≡ taken x))
       ↔ ((m : Meaning) × (length (before text) ≤ most_text) × IsLink (before text) m × (size_of m.name ≤ length (before name)) × (size_of m.address ≤ length (before address)))
-  link-exact = Iff·trans (some-answer (ap (λ (x : Linking). x.answer) c)) (links-laws.exact (before text) (before hash) (before name) (before address))
+  link-exact = Iff.trans (some-answer (ap (λ (x : Linking). x.answer) c)) (links-laws.exact (before text) (before hash) (before name) (before address))
 
   -- and what is handed back is what the link says: the hash; of name and address that they are absent or how many bytes they have, and those at the front of their
   -- outputs, which past them stay
@@ -414,7 +413,7 @@ module _ (torrent : Lent (List ℕ)) (r : Put) (out : Lent (List ℕ)) (c : link
   -- taken exactly when the text is the encoding of a torrent and keeps the limits, the torrent's link has at most 1,048,576 bytes, and there is room for it
   pub link-write-exact : (q : ℕ) → put_paper r ≡ taken q
       ↔ ((v : Value) × (t : TorrentSays) × Encodes (before torrent) v × IsTorrent v t × (length (link_of t) ≤ most_text) × (length (link_of t) ≤ length (before out)) × (q ≡ length (link_of t)))
-  link-write-exact q = Iff·trans (left-answer c) (links-laws.write-exact (before torrent) (before out) q)
+  link-write-exact q = Iff.trans (left-answer c) (links-laws.write-exact (before torrent) (before out) q)
 
   module _ (q : ℕ) (e : put_paper r ≡ taken q) (v : Value) (t : TorrentSays) (n : Encodes (before torrent) v) (i : IsTorrent v t) where
     -- and then the output begins with the link, and past it stays
@@ -438,11 +437,11 @@ module _ (torrent : Lent (List ℕ)) (r : Put) (out : Lent (List ℕ)) (c : link
 module _ (torrent : Lent (List ℕ)) (r : link-size.Sized) (c : links.size-ensures torrent r) where
   pub link-size-exact : (q : ℕ) → link_size_paper r ≡ taken q
       ↔ ((v : Value) × (t : TorrentSays) × Encodes (before torrent) v × IsTorrent v t × (length (link_of t) ≤ most_text) × (q ≡ length (link_of t)))
-  link-size-exact q = Iff·trans (same_answer c) (links-laws.size_exact (before torrent) q)
+  link-size-exact q = Iff.trans (same_answer c) (links-laws.size_exact (before torrent) q)
 
   -- and links::write writes so many bytes exactly where there is room for them
   pub link-sized : (p : Put) (out : Lent (List ℕ)) → links.write-ensures torrent p out → (q : ℕ) → put_paper p ≡ taken q ↔ ((link_size_paper r ≡ taken q) × (q ≤ length (before out)))
-  link-sized p out d q = rw c (Iff·trans (left-answer d) (links-laws.sized (before torrent) (before out) q))
+  link-sized p out d q = rw c (Iff.trans (left-answer d) (links-laws.sized (before torrent) (before out) q))
 
 -- ---- Change request 5: "First, four-byte big-endian numbers: the package number N (1 to 256); for each its offset, length and 20-byte info hash; then the bodies back to back in that order, the first right after
 -- the table, the last ending the file. Read it, write it, and list it". `file_of ps` is that file of packages ps, each a body and its hash, and `IsWeek s ps ts` says that s is it, that the bodies are torrents that
@@ -452,7 +451,7 @@ module _ (torrent : Lent (List ℕ)) (r : link-size.Sized) (c : links.size-ensur
 module _ (file : Lent (List ℕ)) (r : Weekly) (c : week.read-ensures file r) where
   -- taken exactly when the file, of numbers that are bytes, is a week's file
   pub week-exact : Bytes (before file) → ((w : Week) × (week_paper r ≡ taken w)) ↔ ((ps : List Package) × (ts : List TorrentSays) × IsWeek (before file) ps ts)
-  week-exact b = Iff·trans (some-answer c) (
+  week-exact b = Iff.trans (some-answer c) (
     λ (w, e). let (ps, ts, i, z) = week-laws.week-only (before file) b w e in (ps, ts, i),
     λ (ps, ts, i). (answer_of ts, week-laws.week-every (before file) ps ts i),
   )
@@ -494,7 +493,7 @@ module _ (bodies lengths : Lent (List ℕ)) (r : Put) (out : Lent (List ℕ)) (c
   -- taken exactly when the bodies, one after the other, and their lengths are those of a week's file, and there is room for it
   pub week-write-exact : (q : ℕ) → put_paper r ≡ taken q
       ↔ ((w : List ℕ) × (ps : List Package) × (ts : List TorrentSays) × IsWeek w ps ts × (bodies_of ps ≡ before bodies) × (lengths_of ps ≡ before lengths) × (length w ≤ length (before out)) × (q ≡ length w))
-  week-write-exact q = Iff·trans (left-answer c) (week-back.write-exact (before bodies) (before lengths) (before out) q)
+  week-write-exact q = Iff.trans (left-answer c) (week-back.write-exact (before bodies) (before lengths) (before out) q)
 
   -- and then the output begins with that file, and past it stays
   pub week-written : (q : ℕ) → put_paper r ≡ taken q → (ps : List Package) (ts : List TorrentSays) → IsWeek (file_of ps) ps ts → bodies_of ps ≡ before bodies → lengths_of ps ≡ before lengths
@@ -556,7 +555,7 @@ module _ (bytes : Lent (List ℕ)) (r : Read) (c : wire.read_frame-ensures bytes
   -- and its parts are those of the frame itself: `message_in` puts each after its id and the numbers before it
   pub frame-parts : (at : Message Part) (q : ℕ) → frame_paper r ≡ taken (found at q)
       ↔ ((Zero (before bytes) × (at ≡ keepalive) × (q ≡ 4)) ⊎ (All (before bytes) × Right (before bytes) × (at ≡ message_in (before bytes) (named (before bytes))) × (q ≡ 4 + named (before bytes))))
-  frame-parts at q = Iff·trans (same_answer c) (decided.exactly (before bytes) (taken (found at q)))
+  frame-parts at q = Iff.trans (same_answer c) (decided.exactly (before bytes) (taken (found at q)))
 
 -- frames written one after the other are read one after the other, each from where the one before ended, whatever follows
 pub stream-reads-back : (ms : List (Message (List ℕ))) → KeepAll ms → (rest : List ℕ) → stream_of (length ms) (encode_all ms ++ rest) ≡ record { messages = ms; after = rest }
@@ -584,7 +583,7 @@ pub handshake-exact : (bytes info : Lent (List ℕ)) (r : Greeting) → wire.rea
     × (free ≡ record { from = 20; len = 8 }) × (peer_id ≡ record { from = 48; len = 20 }) × (used ≡ 68))
 handshake-exact bytes info r c l free peer_id used =
     let x = shaking.shake-exactly (before info) (before bytes) l (taken (hello free peer_id used)) in
-    Iff·trans (same_answer c) (
+    Iff.trans (same_answer c) (
       λ e. let h = x.0 e in (h.0.0, h.0.1, h.0.2, h.1, h.2, h.3),
       λ (n, b, h, f, p, u). x.1 ((n, b, h), f, p, u),
     )
@@ -671,11 +670,11 @@ module _ (text : Lent (List ℕ)) (n : PieceNumber) (r : hash.Hash) (c : content
 module _ (text : Lent (List ℕ)) (n : PieceNumber) (bytes : Lent (List ℕ)) (r : piece.Checked) (c : contents.check_piece-ensures text n bytes r) where
   pub piece-check : check_paper r ≡ taken true
       ↔ ((v : Value) × (t : TorrentSays) × Encodes (before text) v × IsTorrent v t × IsPiece n.0 (before bytes) t × Agrees n.0 (before bytes) t)
-  piece-check = Iff·trans (same_answer c) (pieces.yes-exactly (before text) n.0 (before bytes))
+  piece-check = Iff.trans (same_answer c) (pieces.yes-exactly (before text) n.0 (before bytes))
 
   pub piece-check-no : check_paper r ≡ taken false
       ↔ ((v : Value) × (t : TorrentSays) × Encodes (before text) v × IsTorrent v t × IsPiece n.0 (before bytes) t × (Agrees n.0 (before bytes) t → ⊥))
-  piece-check-no = Iff·trans (same_answer c) (pieces.no-exactly (before text) n.0 (before bytes))
+  piece-check-no = Iff.trans (same_answer c) (pieces.no-exactly (before text) n.0 (before bytes))
 
 -- ---- 9. "Blocks map to file parts exactly."
 
@@ -704,7 +703,7 @@ parts-unique ns x n ps qs a b c d = covers-unique (joined_files ns) (joined-orde
 -- of torrent_blocks::piece_size: taken exactly when the numbers keep the rules and there is such a piece, and it is then the piece length, of the last piece what is left
 pub piece_size-exact : (lengths : Lent (List ℕ)) (pl : ℕ) (p : PieceNumber) (r : Size) → blocks.piece_size-ensures lengths pl p r → (k : ℕ)
     → size_paper r ≡ taken k ↔ (Lawful pl (before lengths) (pieces_of (sum (before lengths)) pl) × (p.0 < pieces_of (sum (before lengths)) pl) × (k ≡ min pl (sum (before lengths) - p.0 * pl)))
-piece_size-exact lengths pl p r c k = Iff·trans (same_answer c) (blocks-laws.size-taken (before lengths) pl p.0 k, blocks-laws.size-takes (before lengths) pl p.0 k)
+piece_size-exact lengths pl p r c k = Iff.trans (same_answer c) (blocks-laws.size-taken (before lengths) pl p.0 k, blocks-laws.size-takes (before lengths) pl p.0 k)
 
 -- of torrent_blocks::byte: byte o of file f. Its piece and offset are its place in the joined content, and the block of that one byte is that byte of that file
 module _ (lengths : Lent (List ℕ)) (pl f o : ℕ) (r : Place) (c : blocks.byte-ensures lengths pl f o r) where
@@ -714,4 +713,4 @@ module _ (lengths : Lent (List ℕ)) (pl f o : ℕ) (r : Place) (c : blocks.byte
 
   -- and every byte of every file has one
   pub byte-exact : ((x : Spot) × (place_paper r ≡ taken x)) ↔ (Lawful pl (before lengths) (pieces_of (sum (before lengths)) pl) × (f < length (before lengths)) × (o < get_or (before lengths) f 0))
-  byte-exact = Iff·trans (some-answer c) (λ (x, e). blocks-laws.byte-taken (before lengths) pl f o x e, blocks-laws.byte-takes (before lengths) pl f o)
+  byte-exact = Iff.trans (some-answer c) (λ (x, e). blocks-laws.byte-taken (before lengths) pl f o x e, blocks-laws.byte-takes (before lengths) pl f o)

@@ -1,35 +1,21 @@
 -- THE WORKED CASES: every ★ block, yard step and text of document 01 as one table, in its order and numbers, and what tickets 2 and 6 of document 02 add to the yard and ticket 8 to texts, each
 -- beside the answer that it is to have; and that the definitions give these answers, by computation. Assumes nothing.
-use Rattle.std.specs.Prelude.{◌≡◌, refl, Bool, true, false, List, [], ◌∷◌, ℕ, suc, length, get_or, replicate}
+use Rattle.std.specs.Prelude.{Bool, true, false, List, [], ◌∷◌, ℕ, suc, length, get_or, replicate}
 use Prim.Native.String.{String}
-use Rattle.refusal.specs.BigEndian.{big_endian_of, bytes_of as number_bytes}
 use Rattle.refusal.specs.Texts.{bytes}
 use Rattle.refusal.specs.Paper.{Outcome, taken, refused}
-use Rattle.bencode_scalar.specs.Written.{key_lt, decimal_in}
-use Rattle.bencode_scalar.specs.Reading.{digits_val, digits_len, string_of, closed_of, integer_of}
-use Rattle.bencode.specs.Value.{encode, count as count_in}
-use Rattle.bencode.specs.Decode.{decode, kind_of, key_of, items_of, entries_of, value_from}
 use Rattle.bencode.specs.Answers.{check_of}
-use Rattle.bencode_walk.specs.Lookup.{lookup, same_key}
-use Rattle.torrent_blocks.specs.Rules.{power_from, sum, file_lengths, lawful}
-use Rattle.torrent_blocks.specs.Spans.{Span, FilePart, part, joined_files, joined_from, lengths, end_from, parts_from, sizes as sizes_in}
+use Rattle.torrent_blocks.specs.Spans.{Span, FilePart, part, joined_files}
 use Rattle.torrent_blocks.specs.Answers.{Spot, spot, block_of, byte_of}
 use Rattle.peer_wire.specs.Message.{Message, keepalive, interested, not_interested, have, bitfield, request, other, encode as frame_of}
-use Rattle.peer_wire.specs.Frames.{least, most, sized_of, read_of, message_of as message_by}
-use Rattle.torrent_metainfo.specs.Rules.{clean, good_name, elements_of, file_of, lengths_of, info_of, top_of, torrent_of, sized_of as torrent_sized}
-use Rattle.bencode_writer.specs.Escaped.{escaped_by}
-use Rattle.torrent_lines.specs.Lines.{elements_in, files_in, file_lines, listing_of, slashed}
-use Rattle.yard_tables.specs.Counting.{each_from}
-use Rattle.yard_tables.specs.Rows.{or_bytes}
+use Rattle.torrent_lines.specs.Lines.{listing_of}
 use Rattle.yard_tables.specs.Seats.{cleared}
-use Rattle.yard_tables.specs.Tables.{Yard, Said, done, used, serve, dropped, seated, unchoked, Out, sizes_fit}
-use Rattle.yard_tables.specs.Rounds.{nobody, next_of, chosen, misplaced, round_of}
-use Rattle.yard_tables.specs.Frames.{over_top, announced, have_of, bitfield_of, block_of as block_frame, message_of, feed_of}
-use Rattle.yard_tables.specs.Seating.{start_of, lowest_free, seated_at, sit_of, at_zero_of, left, leave_of}
+use Rattle.yard_tables.specs.Tables.{Yard, Said, done, used, serve, dropped, seated, unchoked, Out}
+use Rattle.yard_tables.specs.Rounds.{nobody, next_of, chosen}
 use Rattle.yard_tables.specs.Step.{Call, start, sit, leave, feed, round, step}
-use Rattle.yard_laws.specs.History.{History, Fixed, entry, event, phase}
+use Rattle.yard_laws.specs.History.{History, Fixed, entry}
 use Rattle.yard_laws.specs.Says.{holders, complete_seats}
-use Rattle.yard_laws.specs.Expected.{answer, lowest_without}
+use Rattle.yard_laws.specs.Expected.{answer}
 
 -- ---- what a row is
 

@@ -15,7 +15,6 @@ use Rattle.bencode.proofs.Exact.{fine-taken}
 use Rattle.bencode_walk.specs.Lookup.{lookup, same_key}
 use Rattle.bencode_fields.specs.Values.{part_of, dictionary_at}
 use Rattle.bencode_writer.specs.Put.{put_of, left, paper as put_paper}
-use Rattle.torrent_blocks.specs.Answers.{keeps}
 use Rattle.tracker.specs.Keys.{interval, peers}
 use Rattle.tracker.specs.Entries.{PeerEntry}
 use Rattle.tracker.specs.Reply.{Answer, failure, compact, listing, counted, sixes, reply_in, reply_of}

@@ -10,7 +10,7 @@ use Rattle.refusal.specs.Paper.{Outcome, refused}
 use Rattle.refusal.specs.Limits.{most_text, longest_interval}
 use Rattle.bencode_writer.specs.Put.{Left, left}
 use Rattle.bencode_writer.specs.declared.Put.TheVariants.{Refused}
-use Rattle.bencode_writer.proofs.Laws.{put-none, refusal-keeps}
+use Rattle.bencode_writer.proofs.Laws.{put-none}
 use Rattle.tracker.specs.Writing.{text_of, write_of as reply_text}
 use Rattle.tracker.specs.Faults.{NotWritten, too-late, not-sixes, too_long, no_room}
 use Rattle.tracker.proofs.Rewriting as replies

@@ -6,7 +6,7 @@ use Rattle.bencode.specs.Value.{Items, Entries, str, list, dict, none, item, enc
 use Rattle.bencode_walk.specs.Lookup.{under, lookup}
 use Rattle.torrent_metainfo.specs.Keys.{path_key}
 use Rattle.torrent_contents.specs.declared.Entry.{Entry as FileEntry}
-use Rattle.tracker.specs.Keys.{failure_reason, peers, ip, peer_id, port}
+use Rattle.tracker.specs.Keys.{failure_reason, peers, ip, peer_id}
 use Rattle.tracker.specs.Entries.{PeerEntry, listed}
 use Rattle.tracker.specs.Reply.{Answer, failure, compact, listing}
 

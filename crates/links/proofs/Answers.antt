@@ -28,7 +28,7 @@ use Rattle.links.specs.Reading.{fed, finish, begun, read_of, size_of, stored_in,
 use Rattle.links.specs.Writing.{escaped, text_of, link_text, unless_long, written_of, write_of}
 use Rattle.links.specs.Places.{SpeltAt, HashAt, Holds, unheld, held, ScannedAs, found, unfound, given_in}
 use Rattle.links.specs.declared.Given.{Given}
-use Rattle.links.specs.declared.Given.TheVariants.{Bytes as Some}
+use Rattle.links.specs.declared.Given.TheVariants.{Bytes as Held}
 use Rattle.links.specs.declared.Linked.{Linked}
 use Rattle.links.specs.declared.Linked.TheVariants.{Is, Refused}
 use Rattle.links.specs.declared.scan.Spelt.{Spelt}
@@ -44,7 +44,7 @@ module _ {R : ℕ → List ℕ → Type 0} where
 
   held-given : {x : Spelt} {v : Said} → Holds R x v → given_in x ≡ given_of v
   held-given unheld = refl
-  held-given (held p k bs h r e) = rw (ne_eqb p 0 (λ z. omega arith)) (ap Some e)
+  held-given (held p k bs h r e) = rw (ne_eqb p 0 (λ z. omega arith)) (ap Held e)
 
 pub stored-length : (v : Said) (d : List ℕ) → length (stored_in v d) ≡ length d
 stored-length absent d = refl

@@ -11,7 +11,7 @@ use Rattle.torrent_contents.specs.declared.Found.TheVariants.{Is, Refused as Not
 use Rattle.torrent_contents.specs.declared.Element.{Element}
 use Rattle.torrent_contents.specs.declared.Element.TheVariants.{Is as ElementIs, End, Refused as NoElement}
 use Rattle.torrent_contents.specs.declared.Hash.{Hash}
-use Rattle.torrent_contents.specs.declared.Hash.TheVariants.{Stands, Refused as None}
+use Rattle.torrent_contents.specs.declared.Hash.TheVariants.{Stands, Refused as Absent}
 use Rattle.torrent_contents.specs.declared.Checked.{Checked}
 use Rattle.torrent_contents.specs.declared.Checked.TheVariants.{Yes, No, Refused}
 use Rattle.torrent_contents.specs.Files.{found_paper, entry_of}
@@ -39,11 +39,11 @@ element-again (NoElement r) = refl
 
 abbrev hash_as : Outcome Part → Hash
 hash_as (taken x) = Stands x
-hash_as (refused n p) = None (record { number = n; place = p })
+hash_as (refused n p) = Absent (record { number = n; place = p })
 
 hash-again : (r : Hash) → hash_as (hash_paper r) ≡ r
 hash-again (Stands x) = refl
-hash-again (None r) = refl
+hash-again (Absent r) = refl
 
 abbrev checked_as : Outcome Bool → Checked
 checked_as (taken true) = Yes

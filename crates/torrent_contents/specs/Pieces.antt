@@ -11,13 +11,13 @@ pub use Rattle.torrent_blocks.specs.Numberings.{piece_bytes_of}
 use Rattle.torrent_metainfo.specs.Reading.{read_of}
 use Rattle.torrent_metainfo.specs.declared.Torrent.{Torrent}
 use Rattle.torrent_contents.specs.declared.Hash.{Hash}
-use Rattle.torrent_contents.specs.declared.Hash.TheVariants.{Stands, Refused as None}
+use Rattle.torrent_contents.specs.declared.Hash.TheVariants.{Stands, Refused as Absent}
 use Rattle.torrent_contents.specs.declared.Checked.{Checked}
 use Rattle.torrent_contents.specs.declared.Checked.TheVariants.{Yes, No, Refused}
 
 abbrev pub hash_paper : Hash → Outcome Part
 hash_paper (Stands x) = taken x
-hash_paper (None r) = refusal r
+hash_paper (Absent r) = refusal r
 
 abbrev pub check_paper : Checked → Outcome Bool
 check_paper Yes = taken true

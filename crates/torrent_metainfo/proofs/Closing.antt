@@ -27,7 +27,7 @@ use Rattle.torrent_metainfo.specs.Reading.{listed_to, listing_paper, files_at, r
 use Rattle.torrent_metainfo.specs.Noted.{Goes, Noted}
 use Rattle.torrent_metainfo.specs.declared.Content.{Content}
 use Rattle.torrent_metainfo.specs.declared.Listing.{Listing}
-use Rattle.torrent_metainfo.specs.declared.Listing.TheVariants.{Are, Refused as None}
+use Rattle.torrent_metainfo.specs.declared.Listing.TheVariants.{Are, Refused as Absent}
 use Rattle.torrent_metainfo.proofs.Naming.{no_way}
 use Rattle.torrent_metainfo.proofs.Telling.{Told, tell, tell-first, tell-second}
 
@@ -137,7 +137,7 @@ module _ (s : List ℕ) (d : ℕ) (levels : d ≤ 32) (p : ℕ) (before : Prev) 
   -- past the files, all later keys are left, up to the same end
   passed : (w : Sought) (l : Listing) → Told s d levels p before es t files_key w → Goes s d p es (stop_of w) → listing_paper l ≡ must info (lookup p es files_key) files_at
       → Left s d p es (last files_key) (past_of w l) × Goes s d p es (past_of w l)
-  passed w (None r) a g e = (a.next, g)
+  passed w (Absent r) a g e = (a.next, g)
   passed w (Are c q) a g e = go (lookup p es files_key) refl e
     where
       go : (u : Under) → lookup p es files_key ≡ u → taken (listed_to q c) ≡ must info u files_at → Left s d p es (last files_key) q × Goes s d p es q

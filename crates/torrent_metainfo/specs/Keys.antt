@@ -8,7 +8,7 @@ use Rattle.bencode_walk.specs.Lookup.{Under, nothing, under}
 use Rattle.bencode_walk.specs.declared.Sought.{Sought}
 use Rattle.bencode_walk.specs.declared.Sought.TheVariants.{Found, Missing, Refused as Unread}
 use Rattle.torrent_metainfo.specs.declared.Listing.{Listing}
-use Rattle.torrent_metainfo.specs.declared.Listing.TheVariants.{Are, Refused as None}
+use Rattle.torrent_metainfo.specs.declared.Listing.TheVariants.{Are, Refused as Absent}
 
 abbrev pub announce_key : List ℕ
 announce_key = bytes "announce"
@@ -58,4 +58,4 @@ place_found (Unread r) = 0
 -- where the key after files is sought: past their list, if it was read
 abbrev pub past_of : Sought → Listing → ℕ
 past_of w (Are c q) = q
-past_of w (None r) = stop_of w
+past_of w (Absent r) = stop_of w

@@ -15,7 +15,7 @@ use Rattle.torrent_metainfo.specs.declared.Filed.{Filed}
 use Rattle.torrent_metainfo.specs.declared.Filed.TheVariants.{Is, Refused as Not}
 use Rattle.torrent_metainfo.specs.declared.Content.{Content}
 use Rattle.torrent_metainfo.specs.declared.Contents.{Contents}
-use Rattle.torrent_metainfo.specs.declared.Contents.TheVariants.{Are, Refused as None}
+use Rattle.torrent_metainfo.specs.declared.Contents.TheVariants.{Are, Refused as Absent}
 use Rattle.torrent_metainfo.specs.declared.Listing.{Listing}
 use Rattle.torrent_metainfo.specs.declared.Listing.TheVariants.{Are as AreTo, Refused as NoList}
 use Rattle.torrent_metainfo.specs.declared.Path.{Path}
@@ -35,7 +35,7 @@ file_paper (Not r) = refusal r
 
 abbrev pub content_paper : Contents → Outcome Content
 content_paper (Are c) = taken c
-content_paper (None r) = refusal r
+content_paper (Absent r) = refusal r
 
 -- files with the place past their list, and a path with the place past it
 abbrev pub listed_to : ℕ → Content → Content × ℕ

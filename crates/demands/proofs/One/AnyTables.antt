@@ -3,7 +3,7 @@
 -- (yard_laws/specs/View.antt). And what a round leaves of them, leaving of the free place, and what pages of the missing list yield. Assumes nothing.
 use Rattle.std.specs.Prelude.{◌≡◌, refl, ◌⊎◌, ◌↔◌, true, false, not, ◌&&◌, ◌||◌, List, ℕ, ◌≤◌, ◌<◌, eqb, length, get_or}
 use Rattle.std.proofs.Common.{sym, ap, ◌∙◌, arith}
-use Rattle.std.proofs.Math.Logic.{Iff·trans}
+use mathlib.Core.Logic.Iff
 use Rattle.paging_laws.specs.Pages.{Printed, Follows}
 use Rattle.yard_tables.specs.Counting.{count}
 use Rattle.yard_tables.specs.Seats.{on, cleared, we_choke, having}
@@ -26,13 +26,12 @@ use Rattle.demands.specs.One.Doors.Yard as yard
 use Rattle.demands.specs.Program.{Tables, found, Permits, Asks}
 use Rattle.demands.proofs.Program.{permits-step, asks-paged}
 
-
 module _ (t : Tables) (c : Call) (r : ℕ) (z : Yard) (e : Permits t c r z) where
   pub tables-refuse : (number : ℕ) → 1 ≤ number → number < 38 → r ≡ number ↔ (Fit (found t) × CauseBy (by_tables (found t)) c number)
   tables-refuse number a b = number-given (permits-step t c r z e).0 number a (omega arith) (on-tables (found t) c number b)
 
   pub tables-wait : r ≡ 255 ↔ (Fit (found t) × WaitBy (by_tables (found t)) c)
-  tables-wait = Iff·trans (number-waits (permits-step t c r z e).0 (no-wait (found t) c)) (tables.wait-exactly (found t) c)
+  tables-wait = Iff.trans (number-waits (permits-step t c r z e).0 (no-wait (found t) c)) (tables.wait-exactly (found t) c)
 
 -- ---- document 02, ticket 6: a round that is not refused. `free` has the free place then
 

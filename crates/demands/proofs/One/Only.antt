@@ -80,7 +80,6 @@ use Rattle.demands.specs.One.Doors.Blocks as blocks
 use Rattle.demands.specs.One.Doors.Wire as wire
 use Rattle.demands.specs.One.Doors.Sha1 as sha1
 
-
 -- ---- texts: "1" to "8" of the table
 
 -- of bencode::check

@@ -1,11 +1,8 @@
 -- Calls that a statement speaks of at once, each by its own contract, and what their contracts have in common. Assumes nothing.
-use Rattle.std.specs.Prelude.{◌≡◌, ◌↔◌, Bool, List, [], ◌∷◌, ℕ, ◌≤◌, ℤ}
-use Rattle.std.proofs.Common.{sym, ap, ◌∙◌}
-use Rattle.std.proofs.Math.Logic.{Iff·trans}
-use Rattle.refusal.specs.Paper.{Outcome, taken, refused, left}
+use Rattle.std.specs.Prelude.{◌≡◌, Bool, List, [], ◌∷◌, ℕ, ℤ}
+use Rattle.refusal.specs.Paper.{Outcome, taken, refused}
 use Rattle.refusal.specs.declared.Part.{Part}
 use Rattle.bencode_scalar.specs.Written.{decimal, written_string, written_int}
-use Rattle.bencode.specs.Decode.{decode}
 use Rattle.bencode.specs.Answers.{paper as count_paper}
 use Rattle.bencode.specs.declared.Checked.{Checked}
 use Rattle.bencode_walk.specs.Walk.{paper as look_paper, entry_paper, seek_paper, past_paper}
@@ -14,7 +11,7 @@ use Rattle.bencode_walk.specs.declared.Next.{Next}
 use Rattle.bencode_walk.specs.declared.Past.{Past}
 use Rattle.bencode_walk.specs.declared.Sought.{Sought}
 use Rattle.bencode_writer.specs.Escaped.{small_hex}
-use Rattle.bencode_writer.specs.Put.{put_of, paper as put_paper}
+use Rattle.bencode_writer.specs.Put.{paper as put_paper}
 use Rattle.bencode_writer.specs.declared.Put.{Put}
 use Rattle.hash_sha1.specs.Digest.{paper as hash_paper}
 use Rattle.hash_sha1.specs.declared.Hashed.{Hashed}
@@ -52,14 +49,9 @@ use Rattle.week.specs.Reading.{paper as week_paper, count_paper as table_paper, 
 use Rattle.week.specs.declared.Counted.{Counted}
 use Rattle.week.specs.declared.Told.{Told}
 use Rattle.week.specs.declared.Weekly.{Weekly}
-use Rattle.peer_wire.specs.Frames.{write_of}
 use Rattle.peer_wire.specs.Handshake.{handshake, zeros}
 use Rattle.peer_wire.specs.Message.{body, encode, keepalive, have, bitfield, request, piece, cancel}
-use Rattle.demands_laws.proofs.Refusals.{same_answer, left-answer}
-use Rattle.demands_laws.proofs.Readers as readers
-use Rattle.demands_laws.proofs.Sheets as sheets-laws
-use Rattle.demands_laws.proofs.Links as links-laws
-use Rattle.demands.specs.One.{Lent, before, after}
+use Rattle.demands.specs.One.{Lent, before}
 use Rattle.demands.specs.One.Doors.Bencode as bencode
 use Rattle.demands.specs.One.Doors.Walk as walk
 use Rattle.demands.specs.One.Doors.Metainfo as metainfo

@@ -1,13 +1,9 @@
 -- Demand 1 of `torrent_authoring`: torrents of one file, written. Assumes nothing.
-use Rattle.std.specs.Prelude.{List, ◌≡◌, ℕ}
-use Rattle.bencode_writer.specs.Put.{paper as put_paper, left}
-use Rattle.bencode_writer.specs.declared.Put.{Put}
-use Rattle.torrent_authoring.specs.Writing.{fields, write_of, size_of, paper}
-use Rattle.torrent_authoring.specs.declared.Sized.{Sized}
+use Rattle.std.specs.Prelude.{List, ℕ}
+use Rattle.bencode_writer.specs.Put.{paper as put_paper}
 use Rattle.torrent_authoring.proofs.Written as laws
-use Rattle.demands.specs.One.{Lent, now, Determined1, Keeps1, Refused, Determined}
+use Rattle.demands.specs.One.{Lent, Determined1, Keeps1, Refused, Determined}
 use Rattle.demands.specs.One.Doors.Authoring.{write-ensures, size-ensures}
-
 
 -- torrent_authoring::write
 pub write-determined : (announce name : Lent (List ℕ)) (piece_length : ℕ) (pieces : Lent (List ℕ)) (length : ℕ) → Determined1 (write-ensures announce name piece_length pieces length)

@@ -1,12 +1,8 @@
 -- Demand 1 of `bencode::check`: a text is bencode that keeps the limits, or why not. Assumes nothing.
-use Rattle.std.specs.Prelude.{List, ◌≡◌, ℕ}
-use Rattle.bencode.specs.Answers.{paper, check_of}
-use Rattle.bencode.specs.Exact.{Exactly}
-use Rattle.bencode.specs.declared.Checked.{Checked}
+use Rattle.std.specs.Prelude.{List, ℕ}
 use Rattle.bencode.proofs.Exact as laws
-use Rattle.demands.specs.One.{Lent, now, Determined}
+use Rattle.demands.specs.One.{Lent, Determined}
 use Rattle.demands.specs.One.Doors.Bencode.{check-ensures}
-
 
 -- bencode::check
 pub check-determined : (text : Lent (List ℕ)) → Determined (check-ensures text)

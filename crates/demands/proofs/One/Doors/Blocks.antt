@@ -1,16 +1,11 @@
 -- Demand 1 of `torrent_blocks`: where a block falls, where a byte lies, and how long a piece is. Assumes nothing.
-use Rattle.std.specs.Prelude.{List, ◌≡◌, ℕ}
-use Rattle.torrent_blocks.specs.Answers.{spot, parts_paper, block_of, left, parts_written, place_paper, byte_of, size_paper, size_of}
-use Rattle.torrent_blocks.specs.Spans.{joined_files}
-use Rattle.torrent_blocks.specs.declared.Parts.{Parts}
+use Rattle.std.specs.Prelude.{List, ℕ}
+use Rattle.torrent_blocks.specs.Answers.{parts_paper}
 use Rattle.torrent_blocks.specs.declared.PieceNumber.{PieceNumber}
 use Rattle.torrent_blocks.specs.declared.PieceOffset.{PieceOffset}
-use Rattle.torrent_blocks.specs.declared.Place.{Place}
-use Rattle.torrent_blocks.specs.declared.Size.{Size}
 use Rattle.torrent_blocks.proofs.Determined as laws
-use Rattle.demands.specs.One.{Lent, now, Determined1, Keeps1, Refused, Determined}
+use Rattle.demands.specs.One.{Lent, Determined1, Keeps1, Refused, Determined}
 use Rattle.demands.specs.One.Doors.Blocks.{block-ensures, byte-ensures, piece_size-ensures}
-
 
 -- torrent_blocks::block
 pub block-determined : (lengths : Lent (List ℕ)) (piece_length : ℕ) (piece : PieceNumber) (offset : PieceOffset) (count : ℕ) → Determined1 (block-ensures lengths piece_length piece offset count)

@@ -1,17 +1,9 @@
 -- Demand 1 of `torrent_contents`: what a torrent holds. Assumes nothing.
-use Rattle.std.specs.Prelude.{List, ◌≡◌, ℕ}
+use Rattle.std.specs.Prelude.{List, ℕ}
 use Rattle.torrent_blocks.specs.declared.PieceNumber.{PieceNumber}
-use Rattle.torrent_contents.specs.Files.{found_paper, entry_of}
-use Rattle.torrent_contents.specs.Paths.{element_paper, element_of}
-use Rattle.torrent_contents.specs.Pieces.{hash_paper, hash_of, check_paper, check_of}
-use Rattle.torrent_contents.specs.declared.Checked.{Checked}
-use Rattle.torrent_contents.specs.declared.Element.{Element}
-use Rattle.torrent_contents.specs.declared.Found.{Found}
-use Rattle.torrent_contents.specs.declared.Hash.{Hash}
 use Rattle.torrent_contents.proofs.Determined as laws
 use Rattle.demands.specs.One.{Lent, now, Determined}
 use Rattle.demands.specs.One.Doors.Contents.{file-ensures, element_at-ensures, piece_hash-ensures, check_piece-ensures}
-
 
 -- torrent_contents::file
 pub file-determined : (text : Lent (List ℕ)) (number : ℕ) → Determined (file-ensures text number)

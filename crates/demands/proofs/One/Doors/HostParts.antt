@@ -1,24 +1,9 @@
 -- Demand 1 of `wardrail`, for C: files, frames and blocks. Assumes nothing.
 use Rattle.std.specs.Prelude.{List, ◌≡◌, ℕ}
-use Rattle.refusal.specs.Paper.{map}
-use Rattle.peer_wire.specs.Frames.{read_of}
-use Rattle.peer_wire.specs.Handshake.{shake_of}
-use Rattle.torrent_blocks.specs.Answers.{spot, block_of, parts_written, byte_of, size_of}
-use Rattle.torrent_blocks.specs.Spans.{joined_files}
-use Rattle.torrent_metainfo.specs.Reading.{file_at}
-use Rattle.torrent_contents.specs.Files.{entry_of}
-use Rattle.torrent_contents.specs.Paths.{element_of}
-use Rattle.torrent_contents.specs.Pieces.{hash_of, check_of}
-use Rattle.wardrail.specs.Files.{file_detail, walked_detail, element_detail, part_detail, yes_detail}
-use Rattle.wardrail.specs.Frames.{frame_told, shake_told}
-use Rattle.wardrail.specs.Mapping.{spot_detail}
-use Rattle.wardrail.specs.Said.{Tells}
-use Rattle.wardrail.specs.Writers.{Wrote}
 use Rattle.wardrail.proofs.Determined as said
 use Rattle.wardrail.proofs.Keeping as kept
 use Rattle.demands.specs.One.{Lent, now, Determined1, Keeps1, Determined2, Keeps2}
 use Rattle.demands.specs.One.Doors.HostParts.{file-ensures, file_at-ensures, element_at-ensures, piece_hash-ensures, piece-check-ensures, frame-ensures, handshake-ensures, block-ensures, byte-ensures, piece_size-ensures}
-
 
 -- wardrail::files::wardrail_file
 pub file-determined : (text : Lent (List ℕ)) (number : ℕ) → Determined1 (file-ensures text number)

@@ -1,36 +1,18 @@
 -- Demand 1 of `wardrail`, for C: texts, torrents, replies and digests. Assumes nothing.
 use Rattle.std.specs.Prelude.{List, ◌≡◌, refl, ℕ, ◌<◌, ◌^◌}
 use Rattle.std.proofs.Common.{sym, ◌∙◌}
-use Rattle.refusal.specs.Paper.{Outcome, refused, then, map}
+use Rattle.refusal.specs.Paper.{Outcome, refused}
 use Rattle.refusal.specs.declared.Part.{Part}
-use Rattle.bencode.specs.Answers.{check_of}
-use Rattle.bencode_walk.specs.Walk.{look_of}
-use Rattle.hash_sha1.specs.Digest.{digest_of}
-use Rattle.hash_sha1.specs.Parts.{begun, add_of, finish_of}
-use Rattle.tracker.specs.Entries.{listed_at, packed_at}
-use Rattle.tracker.specs.Reply.{reply_of, nth_of, counted}
-use Rattle.torrent_metainfo.specs.Hashes.{info_hash_of}
-use Rattle.torrent_metainfo.specs.Reading.{read_of}
 use Rattle.sheets.specs.declared.Source.{Source}
-use Rattle.sheets.specs.Reading.{find_of}
-use Rattle.links.specs.Reading.{left_of}
-use Rattle.week.specs.Rules.{table_of, package_at, week_of, package_of}
-use Rattle.wardrail.specs.Hashing.{state_of, Holds, Digested}
-use Rattle.wardrail.specs.Looks.{look_detail}
-use Rattle.wardrail.specs.Peers.{peer_detail}
-use Rattle.wardrail.specs.Replies.{reply_detail, entry_detail}
-use Rattle.wardrail.specs.Said.{word_of, number_in, place_in, text_in, Tells}
-use Rattle.wardrail.specs.Addresses.{word_from, text_number, TellsOf}
-use Rattle.wardrail.specs.Magnets.{ReadTo}
-use Rattle.wardrail.specs.Torrents.{torrent_detail}
-use Rattle.wardrail.specs.Weeks.{week_detail, package_detail}
+use Rattle.wardrail.specs.Hashing.{state_of}
+use Rattle.wardrail.specs.Said.{word_of, number_in, place_in, text_in}
+use Rattle.wardrail.specs.Addresses.{word_from, text_number}
 use Rattle.wardrail.proofs.Determined as said
 use Rattle.wardrail.proofs.Keeping as kept
 use Rattle.wardrail.proofs.Said as told
 use Rattle.demands_laws.proofs.Digests as digests
 use Rattle.demands.specs.One.{Lent, now, Determined1, Keeps1, Determined2, Determined4, Keeps4}
 use Rattle.demands.specs.One.Doors.HostTexts.{check-ensures, look-ensures, address-ensures, link-ensures, week-ensures, week-package-ensures, week-table-ensures, week-package-at-ensures, sha1-ensures, sha1-start-ensures, sha1-add-ensures, sha1-finish-ensures, peer-ensures, reply-ensures, listed_at-ensures, packed_at-ensures, torrent-ensures, info_hash-ensures}
-
 
 -- ---- the word of a refusal gives its number back, and its place below 2^55
 

@@ -1,21 +1,9 @@
 -- Demand 1 of `wardrail`, for C: what is written. Assumes nothing.
-use Rattle.std.specs.Prelude.{List, ◌∷◌, ◌≡◌, ℕ, length}
-use Rattle.refusal.specs.Paper.{map}
-use Rattle.bencode_writer.specs.Put.{put_of}
-use Rattle.peer_wire.specs.Frames.{write_of as frame_of}
-use Rattle.peer_wire.specs.Handshake.{handshake, zeros}
-use Rattle.peer_wire.specs.Message.{keepalive, encode}
-use Rattle.tracker.specs.Writing.{write_of as reply_text_of}
-use Rattle.torrent_authoring.specs.Writing.{write_of as torrent_text_of, fields, size_of}
-use Rattle.links.specs.Writing.{written_of, write_of as link_text_of}
-use Rattle.week.specs.Writing.{write_of as week_text_of}
-use Rattle.wardrail.specs.Said.{Tells}
-use Rattle.wardrail.specs.Writers.{Wrote}
+use Rattle.std.specs.Prelude.{List, ◌≡◌, ℕ, length}
 use Rattle.wardrail.proofs.Determined as said
 use Rattle.wardrail.proofs.Keeping as kept
-use Rattle.demands.specs.One.{Lent, now, Determined2, Keeps2, Determined1, Keeps1}
+use Rattle.demands.specs.One.{Lent, Determined2, Keeps2, Determined1, Keeps1}
 use Rattle.demands.specs.One.Doors.HostWriters.{write-frame-ensures, write-keepalive-ensures, write-handshake-ensures, write-torrent-ensures, torrent-size-ensures, write-link-ensures, write-week-ensures, link-size-ensures, write-reply-ensures}
-
 
 -- wardrail::writers::wardrail_write_frame
 pub write-frame-determined : (id : ℕ) (payload : Lent (List ℕ)) → Determined2 (write-frame-ensures id payload)

@@ -1,20 +1,14 @@
 -- Demand 1 of `links`: magnet links, read and written. Assumes nothing.
-use Rattle.std.specs.Prelude.{List, ◌≡◌, ℕ, ◌≤◌, length}
-use Rattle.refusal.specs.Paper.{taken, map}
-use Rattle.bencode_writer.specs.Put.{left as put_left, paper as put_paper, Ran}
-use Rattle.bencode_writer.specs.declared.Put.{Put}
-use Rattle.links.specs.Reading.{left_of, left, paper}
-use Rattle.links.specs.Writing.{written_of, write_of, size_paper}
-use Rattle.links.specs.Line.{line_of, most_line}
-use Rattle.links.specs.declared.Linked.{Linked}
-use Rattle.links.specs.declared.Sized.{Sized}
+use Rattle.std.specs.Prelude.{List, ℕ}
+use Rattle.refusal.specs.Paper.{taken}
+use Rattle.bencode_writer.specs.Put.{paper as put_paper}
+use Rattle.links.specs.Reading.{paper}
 use Rattle.torrent_lines.proofs.Laws.{ran-determined}
 use Rattle.links.proofs.Answers as answers
 use Rattle.links_laws.proofs.Laws as laws
 use Rattle.refusal.proofs.Outcomes.{not-refused}
 use Rattle.demands.specs.One.{Lent, now, Determined, Determined1, Determined3, Keeps1, Keeps3, Takes1, Refused}
 use Rattle.demands.specs.One.Doors.Links.{read-ensures, write-ensures, size-ensures, line-ensures}
-
 
 -- links::read
 pub read-determined : (text : Lent (List ℕ)) → Determined3 (read-ensures text)

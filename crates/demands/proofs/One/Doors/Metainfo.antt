@@ -1,20 +1,14 @@
 -- Demand 1 of `torrent_metainfo`: torrents, read. Assumes nothing.
-use Rattle.std.specs.Prelude.{List, ◌≡◌, ℕ, ◌+◌, min, length}
+use Rattle.std.specs.Prelude.{List, ℕ}
 use Rattle.std.proofs.Common.{sym, ◌∙◌}
-use Rattle.refusal.specs.Parts.{bytes_at}
-use Rattle.hash_sha1.specs.Digest.{paper as hash_paper, left}
-use Rattle.hash_sha1.specs.declared.Hashed.{Hashed}
-use Rattle.torrent_metainfo.specs.Hashes.{info_hash_of}
-use Rattle.torrent_metainfo.specs.Reading.{paper, read_of, announce_in, name_in_of, file_paper, file_at}
-use Rattle.torrent_metainfo.specs.declared.Filed.{Filed}
-use Rattle.torrent_metainfo.specs.declared.Reading.{Reading}
+use Rattle.hash_sha1.specs.Digest.{paper as hash_paper}
+use Rattle.torrent_metainfo.specs.Reading.{read_of}
 use Rattle.torrent_metainfo.proofs.Determined as laws
 use Rattle.torrent_metainfo.proofs.Hashing as hashing
 use Rattle.demands_laws.proofs.Digests.{hash-kept}
 use Rattle.demands_laws.proofs.Refusals.{one-part}
-use Rattle.demands.specs.One.{Lent, now, Determined, Ref, ref, Determined1, Keeps1, Refused}
+use Rattle.demands.specs.One.{Lent, now, Determined, ref, Determined1, Keeps1, Refused}
 use Rattle.demands.specs.One.Doors.Metainfo.{read-ensures, announce-ensures, name-ensures, info_hash-ensures, file_at-ensures}
-
 
 -- torrent_metainfo::read
 pub read-determined : (text : Lent (List ℕ)) → Determined (read-ensures text)

@@ -1,15 +1,11 @@
 -- Demand 1 of `hash_sha1`: a digest of a slice or in parts, and digests compared. Assumes nothing.
-use Rattle.std.specs.Prelude.{List, ◌≡◌, ℕ}
+use Rattle.std.specs.Prelude.{List, ℕ}
 use Rattle.std.proofs.Common.{sym, ◌∙◌}
-use Rattle.hash_sha1.specs.Digest.{paper, left, digest_of, agreement_paper, agreement_of}
-use Rattle.hash_sha1.specs.Parts.{begun, add_of, finish_of}
-use Rattle.hash_sha1.specs.declared.Agreement.{Agreement}
-use Rattle.hash_sha1.specs.declared.Hashed.{Hashed}
+use Rattle.hash_sha1.specs.Digest.{paper}
 use Rattle.hash_sha1.specs.declared.stream.Stream.{Stream}
 use Rattle.hash_sha1.proofs.Determined as laws
-use Rattle.demands.specs.One.{Lent, now, Determined1, Keeps1, Refused, Determined}
+use Rattle.demands.specs.One.{Lent, Determined1, Keeps1, Refused, Determined}
 use Rattle.demands.specs.One.Doors.Sha1.{digest-ensures, agrees-ensures, start-ensures, add-ensures, finish-ensures}
-
 
 -- hash_sha1::digest
 pub digest-determined : (message : Lent (List ℕ)) → Determined1 (digest-ensures message)

@@ -1,18 +1,10 @@
 -- Demand 1 of `tracker`: replies and their entries, read. Assumes nothing.
-use Rattle.std.specs.Prelude.{List, ◌≡◌, ℕ}
+use Rattle.std.specs.Prelude.{List, ℕ}
 use Rattle.std.proofs.Common.{sym, ◌∙◌}
-use Rattle.refusal.specs.Paper.{map, then}
-use Rattle.tracker.specs.Entries.{packed_paper, packed_at, listed_paper, listed_at}
-use Rattle.tracker.specs.Reading.{paper, peer_paper, entry_count}
-use Rattle.tracker.specs.Reply.{counted, reply_of, nth_of}
-use Rattle.tracker.specs.declared.Found.{Found}
 use Rattle.tracker.specs.declared.Reply.{Reply}
-use Rattle.tracker.specs.declared.compact.Packing.{Packing}
-use Rattle.tracker.specs.declared.listed.Listing.{Listing}
 use Rattle.tracker.proofs.Determined as laws
-use Rattle.demands.specs.One.{Lent, now, Determined}
+use Rattle.demands.specs.One.{Lent, Determined}
 use Rattle.demands.specs.One.Doors.Tracker.{read-ensures, peer-ensures, entries-ensures, packed_at-ensures, listed_at-ensures}
-
 
 -- tracker::read
 pub read-determined : (text : Lent (List ℕ)) → Determined (read-ensures text)

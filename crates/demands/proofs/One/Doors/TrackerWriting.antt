@@ -1,12 +1,9 @@
 -- Demand 1 of `tracker::writing`: replies, written. Assumes nothing.
-use Rattle.std.specs.Prelude.{List, ◌≡◌, ℕ}
-use Rattle.bencode_writer.specs.Put.{paper, left}
-use Rattle.bencode_writer.specs.declared.Put.{Put}
-use Rattle.tracker.specs.Writing.{write_of}
+use Rattle.std.specs.Prelude.{List, ℕ}
+use Rattle.bencode_writer.specs.Put.{paper}
 use Rattle.tracker.proofs.Rewriting as laws
-use Rattle.demands.specs.One.{Lent, now, Determined1, Keeps1, Refused}
+use Rattle.demands.specs.One.{Lent, Determined1, Keeps1, Refused}
 use Rattle.demands.specs.One.Doors.TrackerWriting.{write-ensures}
-
 
 -- tracker::writing::write
 pub write-determined : (interval : ℕ) (peers : Lent (List ℕ)) → Determined1 (write-ensures interval peers)

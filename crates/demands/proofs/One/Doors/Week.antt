@@ -1,21 +1,12 @@
 -- Demand 1 of `week`: a week's packages in one file, read, walked over, written and listed. Assumes nothing.
-use Rattle.std.specs.Prelude.{List, ◌≡◌, ℕ, ◌≤◌}
+use Rattle.std.specs.Prelude.{List, ℕ}
 use Rattle.refusal.specs.Paper.{taken}
-use Rattle.bencode_writer.specs.Put.{left, paper as put_paper, Ran}
-use Rattle.bencode_writer.specs.declared.Put.{Put}
+use Rattle.bencode_writer.specs.Put.{paper as put_paper}
 use Rattle.torrent_lines.proofs.Laws.{ran-determined}
-use Rattle.week.specs.Rules.{table_of, package_at, week_of, package_of}
-use Rattle.week.specs.Reading.{paper, count_paper, told_paper}
-use Rattle.week.specs.Writing.{write_of}
-use Rattle.week.specs.Lines.{listing_of, most_listing}
-use Rattle.week.specs.declared.Counted.{Counted}
-use Rattle.week.specs.declared.Told.{Told}
-use Rattle.week.specs.declared.Weekly.{Weekly}
 use Rattle.week.proofs.Answers as answers
 use Rattle.refusal.proofs.Outcomes.{not-refused}
 use Rattle.demands.specs.One.{Lent, now, Determined, Determined1, Keeps1, Takes1, Refused}
 use Rattle.demands.specs.One.Doors.Week.{read-ensures, package-ensures, table-ensures, package_at-ensures, write-ensures, listing-ensures}
-
 
 -- week::read
 pub read-determined : (file : Lent (List ℕ)) → Determined (read-ensures file)

@@ -1,13 +1,8 @@
 -- Demand 1 of `peer_wire`: frames and the handshake, read. Assumes nothing.
-use Rattle.std.specs.Prelude.{List, ◌≡◌, ℕ}
-use Rattle.peer_wire.specs.Frames.{read_of, paper}
-use Rattle.peer_wire.specs.Handshake.{paper as shaken, shake_of}
-use Rattle.peer_wire.specs.declared.Greeting.{Greeting}
-use Rattle.peer_wire.specs.declared.Read.{Read}
+use Rattle.std.specs.Prelude.{List, ℕ}
 use Rattle.peer_wire.proofs.Determined as laws
-use Rattle.demands.specs.One.{Lent, now, Determined}
+use Rattle.demands.specs.One.{Lent, Determined}
 use Rattle.demands.specs.One.Doors.Wire.{read_frame-ensures, read_handshake-ensures}
-
 
 -- peer_wire::read_frame
 pub read_frame-determined : (bytes : Lent (List ℕ)) → Determined (read_frame-ensures bytes)

@@ -1,17 +1,12 @@
 -- Demand 1 of `peer_wire::write`: frames and the handshake, written. Assumes nothing.
-use Rattle.std.specs.Prelude.{List, ◌∷◌, [], ◌≡◌, ℕ}
-use Rattle.bencode_writer.specs.Put.{paper, left, put_of}
-use Rattle.bencode_writer.specs.declared.Put.{Put}
+use Rattle.std.specs.Prelude.{List, ℕ}
+use Rattle.bencode_writer.specs.Put.{paper}
 use Rattle.torrent_blocks.specs.declared.PieceNumber.{PieceNumber}
 use Rattle.torrent_blocks.specs.declared.PieceOffset.{PieceOffset}
-use Rattle.peer_wire.specs.Frames.{write_of}
-use Rattle.peer_wire.specs.Handshake.{handshake, zeros}
-use Rattle.peer_wire.specs.Message.{keepalive, encode, have, body, bitfield, request, piece, cancel}
 use Rattle.peer_wire.proofs.Written as laws
 use Rattle.bencode_writer.proofs.Laws as puts
-use Rattle.demands.specs.One.{Lent, now, Determined1, Keeps1, Refused}
+use Rattle.demands.specs.One.{Lent, Determined1, Keeps1, Refused}
 use Rattle.demands.specs.One.Doors.WireWriting.{keepalive-ensures, raw-ensures, plain-ensures, have-ensures, bitfield-ensures, request-ensures, piece-ensures, cancel-ensures, handshake-ensures}
-
 
 -- peer_wire::write::keepalive
 pub keepalive-determined : Determined1 keepalive-ensures

@@ -1,8 +1,6 @@
 -- Demand 1 of `torrent_blocks`: the three numberings, and the number rules for torrents. Assumes nothing.
-use Rattle.std.specs.Prelude.{Bool, ◌≡◌, ℕ, ◌+◌, min}
+use Rattle.std.specs.Prelude.{ℕ}
 use Rattle.std.proofs.Common.{sym, ◌∙◌}
-use Rattle.torrent_blocks.specs.Rules.{piece_length_of, file_length, file_count, largest, pieces_of, total_and}
-use Rattle.torrent_blocks.specs.Numberings.{widest, content_offset, piece_number, piece_offset, piece_bytes_of}
 use Rattle.torrent_blocks.specs.declared.ContentOffset.{ContentOffset}
 use Rattle.torrent_blocks.specs.declared.PieceNumber.{PieceNumber}
 use Rattle.torrent_blocks.specs.declared.PieceOffset.{PieceOffset}
@@ -10,7 +8,6 @@ use Rattle.torrent_blocks.specs.declared.rules.Total.{Total}
 use Rattle.torrent_blocks.proofs.Determined as laws
 use Rattle.demands.specs.One.{Determined}
 use Rattle.demands.specs.One.Inner.Blocks.{content_offset-ensures, piece_number-ensures, piece_numbered-ensures, piece_offset-ensures, piece_bytes-ensures, legal_piece_length-ensures, legal_file_length-ensures, legal_file_count-ensures, with_file-ensures, pieces-ensures, legal_total-ensures}
-
 
 -- torrent_blocks::content_offset
 pub content_offset-determined : (piece_length : ℕ) (piece : PieceNumber) (offset : PieceOffset) → Determined (content_offset-ensures piece_length piece offset)

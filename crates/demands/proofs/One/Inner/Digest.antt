@@ -1,11 +1,8 @@
 -- Demand 1 of `hash_digest`: words of 32 bits and blocks of a message. Assumes nothing.
-use Rattle.std.specs.Prelude.{List, ◌++◌, ◌≡◌, ℕ, ◌%◌, ◌/◌, length, take}
+use Rattle.std.specs.Prelude.{List, ℕ, length}
 use Rattle.std.proofs.Common.{sym, ◌∙◌}
-use Rattle.hash_digest.specs.Message.{filled, padding}
-use Rattle.hash_digest.specs.Words.{add32, ch, parity, maj, rotl}
-use Rattle.demands.specs.One.{Lent, now, Determined}
+use Rattle.demands.specs.One.{Lent, Determined}
 use Rattle.demands.specs.One.Inner.Digest.{gathered-ensures, ended-ensures, add-ensures, choose-ensures, odd-ensures, most-ensures, rotl1-ensures, rotl5-ensures, rotl30-ensures, byte3-ensures, byte2-ensures, byte1-ensures, byte0-ensures}
-
 
 -- hash_digest::message::gathered
 pub gathered-determined : (held part : Lent (List ℕ)) → Determined (gathered-ensures held part)

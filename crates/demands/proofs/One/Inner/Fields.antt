@@ -1,17 +1,9 @@
 -- Demand 1 of `bencode_fields`: typed looks. Assumes nothing.
-use Rattle.std.specs.Prelude.{List, ◌≡◌, ℕ}
-use Rattle.bencode.specs.Decode.{unless_long}
-use Rattle.bencode_walk.specs.Walk.{seek_paper}
+use Rattle.std.specs.Prelude.{List, ℕ}
 use Rattle.bencode_walk.specs.declared.Sought.{Sought}
-use Rattle.bencode_fields.specs.Looks.{string_paper, string_of, natural_paper, natural_of, number_paper, number_of, inside_paper, list_of, dictionary_of, needed, sought_after}
-use Rattle.bencode_fields.specs.declared.Bytes.{Bytes}
-use Rattle.bencode_fields.specs.declared.Inside.{Inside}
-use Rattle.bencode_fields.specs.declared.Natural.{Natural}
-use Rattle.bencode_fields.specs.declared.Number.{Number}
 use Rattle.bencode_fields.proofs.Determined as laws
-use Rattle.demands.specs.One.{Lent, now, Determined}
+use Rattle.demands.specs.One.{Lent, Determined}
 use Rattle.demands.specs.One.Inner.Fields.{string_at-ensures, natural_at-ensures, number_at-ensures, list_at-ensures, dictionary_at-ensures, string_under-ensures, natural_under-ensures, list_under-ensures, dictionary_under-ensures, seek_after-ensures}
-
 
 -- bencode_fields::string_at
 pub string_at-determined : (text : Lent (List ℕ)) (at : ℕ) → Determined (string_at-ensures text at)

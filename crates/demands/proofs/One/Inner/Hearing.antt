@@ -1,17 +1,13 @@
 -- Demand 1 of `yard_hearing`: a frame for a seat, by value. Assumes nothing.
-use Rattle.std.specs.Prelude.{List, ◌≡◌, ℕ}
+use Rattle.std.specs.Prelude.{List, ℕ}
 use Rattle.std.proofs.Common.{sym, ◌∙◌}
-use Rattle.yard_tables.specs.Frames.{feed_of}
-use Rattle.yard_tables.specs.Seats.{counted}
-use Rattle.yard_tables.specs.Tables.{around, turn, paper}
+use Rattle.yard_tables.specs.Tables.{paper}
 use Rattle.yard_tables.specs.declared.Head.{Head}
 use Rattle.yard_tables.specs.declared.Seat.{Seat}
-use Rattle.yard_tables.specs.declared.Stepped.{Stepped}
 use Rattle.yard_hearing.proofs.Determined as laws
 use Rattle.demands_laws.proofs.Keeping.{unspoken}
 use Rattle.demands.specs.One.{Lent, now, Determined, Determined2, Unused, Keeps2}
 use Rattle.demands.specs.One.Inner.Hearing.{feed_step-ensures, heard_head-ensures}
-
 
 -- yard_hearing::feed_step
 pub feed_step-determined : (h : Head) (s : Seat) (i n : ℕ) (bytes : Lent (List ℕ)) → Determined2 (feed_step-ensures h s i n bytes)

@@ -1,13 +1,9 @@
 -- Demand 1 of `refusal`: a refusal made, the lesser of two, four bytes as a number, and numbers of two, four and eight bytes at a place. Assumes nothing.
-use Rattle.std.specs.Prelude.{Bool, false, List, [], ◌∷◌, ◌≡◌, ℕ, min}
+use Rattle.std.specs.Prelude.{Bool, false, List, ◌≡◌, ℕ}
 use Rattle.std.proofs.Common.{◌∙◌, sym}
-use Rattle.refusal.specs.BigEndian.{big_endian_of, number_at, fits, number_written}
-use Rattle.refusal.specs.declared.Refusal.{Refusal}
-use Rattle.refusal.specs.declared.big_endian.Number.{Number}
 use Rattle.refusal.proofs.Places as laws
 use Rattle.demands.specs.One.{Lent, now, Determined, Determined1, Keeps1}
 use Rattle.demands.specs.One.Inner.Refusal.{refuse-ensures, least-ensures, read2-ensures, read4-ensures, read8-ensures, joined-ensures, write2-ensures, write4-ensures, write8-ensures}
-
 
 -- refusal::refuse
 pub refuse-determined : (number place : ℕ) → Determined (refuse-ensures number place)

@@ -1,15 +1,9 @@
 -- Demand 1 of `bencode_scalar`: strings and integers at a place, and the order of keys. Assumes nothing.
-use Rattle.std.specs.Prelude.{Bool, List, ◌≡◌, ℕ, length, drop}
+use Rattle.std.specs.Prelude.{List, ℕ}
 use Rattle.std.proofs.Common.{sym, ◌∙◌}
-use Rattle.bencode_scalar.specs.Answers.{text_of, integer_is}
-use Rattle.bencode_scalar.specs.Reading.{is_digit, string_at, integer_at}
-use Rattle.bencode_scalar.specs.Written.{key_lt}
-use Rattle.bencode_scalar.specs.declared.Int.{Int}
-use Rattle.bencode_scalar.specs.declared.Text.{Text}
 use Rattle.bencode_scalar.proofs.Determined as laws
 use Rattle.demands.specs.One.{Determined, Lent, now}
 use Rattle.demands.specs.One.Inner.Scalar.{digit-ensures, string-ensures, integer-ensures, precedes-ensures}
-
 
 -- bencode_scalar::digit
 pub digit-determined : (b : ℕ) → Determined (digit-ensures b)

@@ -1,25 +1,16 @@
 -- Demand 1 of `yard_scans`: one seat taken out or put back, and the passes over all. Assumes nothing.
-use Rattle.std.specs.Prelude.{Bool, cond, List, ◌≡◌, refl, ℕ, get_or, set, length, replicate}
+use Rattle.std.specs.Prelude.{Bool, List, refl, ℕ}
 use Rattle.std.proofs.Common.{sym, ◌∙◌}
-use Rattle.std.proofs.lemmas.List.Edits.{sets}
 use Rattle.refusal.specs.Paper.{taken}
 use Rattle.refusal.proofs.Outcomes.{not-refused}
-use Rattle.yard_tables.specs.Counting.{each}
-use Rattle.yard_tables.specs.Looks.{page_of, lines_of}
-use Rattle.yard_tables.specs.Ranks.{ranked, mark_step}
-use Rattle.yard_tables.specs.Seating.{lowest_free}
-use Rattle.yard_tables.specs.Seats.{cleared}
 use Rattle.yard_tables.specs.Tables.{listed}
 use Rattle.yard_tables.specs.declared.Head.{Head}
 use Rattle.yard_tables.specs.declared.Page.{Page}
 use Rattle.yard_tables.specs.declared.Seat.{Seat}
-use Rattle.yard_tables.specs.declared.rank.Ranking.{Ranking}
 use Rattle.yard_tables.specs.declared.round.Marks.{Marks}
-use Rattle.yard_scans.specs.Pages.{as_lines}
 use Rattle.yard_scans.specs.declared.Asked.{Asked}
-use Rattle.demands.specs.One.{Lent, now, Determined, Determined1, Takes1}
+use Rattle.demands.specs.One.{Lent, Determined, Determined1, Takes1}
 use Rattle.demands.specs.One.Inner.Scans.{seat_get-ensures, seat_set-ensures, lowest_free-ensures, clear_seats-ensures, rank_seats-ensures, mark_seats-ensures, list_missing-ensures}
-
 
 -- yard_scans::seat_get
 pub seat_get-determined : (seats : Lent (List Seat)) (i : ℕ) → Determined (seat_get-ensures seats i)

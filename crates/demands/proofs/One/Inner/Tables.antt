@@ -1,28 +1,15 @@
 -- Demand 1 of `yard_tables`: what the yard's calls share. Assumes nothing.
-use Rattle.std.specs.Prelude.{Bool, ◌≡◌, ℕ, ◌+◌, ◌-◌, ◌%◌, ◌^◌, min}
+use Rattle.std.specs.Prelude.{Bool, ℕ}
 use Rattle.std.proofs.Common.{sym, ◌∙◌}
-use Rattle.refusal.specs.Paper.{taken}
 use Rattle.torrent_blocks.specs.declared.PieceNumber.{PieceNumber}
 use Rattle.torrent_blocks.specs.declared.PieceOffset.{PieceOffset}
-use Rattle.yard_tables.specs.Counting.{bit}
-use Rattle.yard_tables.specs.Frames.{block_fits, requested}
-use Rattle.yard_tables.specs.Replies.{stepped, refusing, block_step, piece_step, head_at_zero}
-use Rattle.yard_tables.specs.Rounds.{misplaced}
-use Rattle.yard_tables.specs.Ranks.{unranked, rank_step, free_of, turned, choke_step, unchoke_step}
-use Rattle.yard_tables.specs.Rows.{digit}
-use Rattle.yard_tables.specs.Seating.{given_up}
-use Rattle.yard_tables.specs.Seats.{on, cleared, arrived, spoken, they_choke, they_want}
-use Rattle.yard_tables.specs.Tables.{paper, sizes_fit}
 use Rattle.yard_tables.specs.declared.Answer.{Answer}
 use Rattle.yard_tables.specs.declared.Head.{Head}
 use Rattle.yard_tables.specs.declared.Seat.{Seat}
 use Rattle.yard_tables.specs.declared.rank.Ranking.{Ranking}
-use Rattle.yard_tables.specs.declared.round.Turned.{Turned}
-use Rattle.yard_tables.specs.declared.Stepped.{Stepped}
 use Rattle.yard_tables.proofs.Telling.{paper-tells}
 use Rattle.demands.specs.One.{Determined}
 use Rattle.demands.specs.One.Inner.Tables.{cleared_seat-ensures, arrived_seat-ensures, bit_of-ensures, mask-ensures, end_of-ensures, block_step-ensures, piece_step-ensures, asked-ensures, lies_within-ensures, head_at_zero-ensures, give_up-ensures, lower_to-ensures, unranked-ensures, rank_step-ensures, misplaced-ensures, free_place-ensures, turn-ensures, choke-ensures, unchoke-ensures, refused-ensures, waiting-ensures, taken-ensures, passed-ensures, spoken-ensures, they_choke-ensures, they_want-ensures, sizes_fit-ensures, on-ensures, held-ensures, wide-ensures}
-
 
 -- yard_tables::cleared_seat
 pub cleared_seat-determined : Determined cleared_seat-ensures

@@ -1,11 +1,8 @@
 -- Demand 1 of `tracker`: how many entries stand from a place on. Assumes nothing.
-use Rattle.std.specs.Prelude.{List, ◌≡◌, ℕ}
-use Rattle.tracker.specs.Entries.{count_paper, count_of}
-use Rattle.tracker.specs.declared.listed.Counted.{Counted}
+use Rattle.std.specs.Prelude.{List, ℕ}
 use Rattle.tracker.proofs.Determined as laws
-use Rattle.demands.specs.One.{Lent, now, Determined}
+use Rattle.demands.specs.One.{Lent, Determined}
 use Rattle.demands.specs.One.Inner.Tracker.{count-ensures}
-
 
 -- tracker::listed::count
 pub count-determined : (text : Lent (List ℕ)) (first : ℕ) → Determined (count-ensures text first)

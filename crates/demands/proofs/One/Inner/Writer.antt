@@ -1,14 +1,11 @@
 -- Demand 1 of `bencode_writer`: what the writers put one after the other. Assumes nothing.
-use Rattle.std.specs.Prelude.{List, ◌≡◌, ℕ, ◌≤◌, ℤ, length}
+use Rattle.std.specs.Prelude.{List, ℕ, ℤ}
 use Rattle.std.proofs.Common.{sym, ◌∙◌}
-use Rattle.bencode_scalar.specs.Written.{decimal, written_string, written_int}
-use Rattle.bencode_writer.specs.Escaped.{percent, small_hex}
-use Rattle.bencode_writer.specs.Put.{paper, left, put_of, place_past}
+use Rattle.bencode_writer.specs.Put.{paper}
 use Rattle.bencode_writer.specs.declared.Put.{Put}
 use Rattle.bencode_writer.proofs.Laws as laws
-use Rattle.demands.specs.One.{Lent, now, Determined, Determined1, Keeps1, Refused}
+use Rattle.demands.specs.One.{Lent, Determined, Determined1, Keeps1, Refused}
 use Rattle.demands.specs.One.Inner.Writer.{literal-ensures, small_hex-ensures, decimal-ensures, string-ensures, integer-ensures, digits-ensures, end-ensures, escape-ensures}
-
 
 -- bencode_writer::literal
 pub literal-determined : (at : ℕ) (bytes : Lent (List ℕ)) → Determined1 (literal-ensures at bytes)

@@ -4,8 +4,7 @@ use Rattle.bencode_writer.specs.Put.{paper as put_paper, left}
 use Rattle.bencode_writer.specs.declared.Put.{Put}
 use Rattle.torrent_authoring.specs.Writing.{fields, write_of, size_of, paper}
 use Rattle.torrent_authoring.specs.declared.Sized.{Sized}
-use Rattle.torrent_authoring.proofs.Written as laws
-use Rattle.demands.specs.One.{Lent, now, Determined1, Keeps1, Refused, Determined}
+use Rattle.demands.specs.One.{Lent, now}
 
 -- torrent_authoring::write
 abbrev pub write-ensures : (announce name : Lent (List ℕ)) (piece_length : ℕ) (pieces : Lent (List ℕ)) (length : ℕ) → Put → Lent (List ℕ) → Type 0

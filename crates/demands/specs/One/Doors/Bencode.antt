@@ -3,8 +3,7 @@ use Rattle.std.specs.Prelude.{List, ◌≡◌, ℕ}
 use Rattle.bencode.specs.Answers.{paper, check_of}
 use Rattle.bencode.specs.Exact.{Exactly}
 use Rattle.bencode.specs.declared.Checked.{Checked}
-use Rattle.bencode.proofs.Exact as laws
-use Rattle.demands.specs.One.{Lent, now, Determined}
+use Rattle.demands.specs.One.{Lent, now}
 
 -- bencode::check
 abbrev pub check-ensures : (text : Lent (List ℕ)) → Checked → Type 0

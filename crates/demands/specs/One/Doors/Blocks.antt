@@ -7,8 +7,7 @@ use Rattle.torrent_blocks.specs.declared.PieceNumber.{PieceNumber}
 use Rattle.torrent_blocks.specs.declared.PieceOffset.{PieceOffset}
 use Rattle.torrent_blocks.specs.declared.Place.{Place}
 use Rattle.torrent_blocks.specs.declared.Size.{Size}
-use Rattle.torrent_blocks.proofs.Determined as laws
-use Rattle.demands.specs.One.{Lent, now, Determined1, Keeps1, Refused, Determined}
+use Rattle.demands.specs.One.{Lent, now}
 
 -- torrent_blocks::block
 abbrev pub block-ensures : (lengths : Lent (List ℕ)) (piece_length : ℕ) (piece : PieceNumber) (offset : PieceOffset) (count : ℕ) → Parts → Lent (List ℕ) → Type 0

@@ -8,8 +8,7 @@ use Rattle.torrent_contents.specs.declared.Checked.{Checked}
 use Rattle.torrent_contents.specs.declared.Element.{Element}
 use Rattle.torrent_contents.specs.declared.Found.{Found}
 use Rattle.torrent_contents.specs.declared.Hash.{Hash}
-use Rattle.torrent_contents.proofs.Determined as laws
-use Rattle.demands.specs.One.{Lent, now, Determined}
+use Rattle.demands.specs.One.{Lent, now}
 
 -- torrent_contents::file
 abbrev pub file-ensures : (text : Lent (List ℕ)) (number : ℕ) → Found → Type 0

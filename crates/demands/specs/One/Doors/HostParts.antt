@@ -1,5 +1,5 @@
 -- Demand 1 of `wardrail`, for C: files, frames and blocks. Assumes nothing.
-use Rattle.std.specs.Prelude.{List, ◌≡◌, ℕ}
+use Rattle.std.specs.Prelude.{List, ℕ}
 use Rattle.refusal.specs.Paper.{map}
 use Rattle.peer_wire.specs.Frames.{read_of}
 use Rattle.peer_wire.specs.Handshake.{shake_of}
@@ -14,9 +14,7 @@ use Rattle.wardrail.specs.Frames.{frame_told, shake_told}
 use Rattle.wardrail.specs.Mapping.{spot_detail}
 use Rattle.wardrail.specs.Said.{Tells}
 use Rattle.wardrail.specs.Writers.{Wrote}
-use Rattle.wardrail.proofs.Determined as said
-use Rattle.wardrail.proofs.Keeping as kept
-use Rattle.demands.specs.One.{Lent, now, Determined1, Keeps1, Determined2, Keeps2}
+use Rattle.demands.specs.One.{Lent, now}
 
 -- wardrail::files::wardrail_file
 abbrev pub file-ensures : (text : Lent (List ℕ)) (number : ℕ) → ℕ → Lent (List ℕ) → Type 0

@@ -1,8 +1,6 @@
 -- Demand 1 of `wardrail`, for C: texts, torrents, replies and digests. Assumes nothing.
-use Rattle.std.specs.Prelude.{List, ◌≡◌, refl, ℕ, ◌<◌, ◌^◌}
-use Rattle.std.proofs.Common.{sym, ◌∙◌}
-use Rattle.refusal.specs.Paper.{Outcome, refused, then, map}
-use Rattle.refusal.specs.declared.Part.{Part}
+use Rattle.std.specs.Prelude.{List, ℕ}
+use Rattle.refusal.specs.Paper.{then, map}
 use Rattle.bencode.specs.Answers.{check_of}
 use Rattle.bencode_walk.specs.Walk.{look_of}
 use Rattle.hash_sha1.specs.Digest.{digest_of}
@@ -11,7 +9,6 @@ use Rattle.tracker.specs.Entries.{listed_at, packed_at}
 use Rattle.tracker.specs.Reply.{reply_of, nth_of, counted}
 use Rattle.torrent_metainfo.specs.Hashes.{info_hash_of}
 use Rattle.torrent_metainfo.specs.Reading.{read_of}
-use Rattle.sheets.specs.declared.Source.{Source}
 use Rattle.sheets.specs.Reading.{find_of}
 use Rattle.links.specs.Reading.{left_of}
 use Rattle.week.specs.Rules.{table_of, package_at, week_of, package_of}
@@ -19,16 +16,12 @@ use Rattle.wardrail.specs.Hashing.{state_of, Holds, Digested}
 use Rattle.wardrail.specs.Looks.{look_detail}
 use Rattle.wardrail.specs.Peers.{peer_detail}
 use Rattle.wardrail.specs.Replies.{reply_detail, entry_detail}
-use Rattle.wardrail.specs.Said.{word_of, number_in, place_in, text_in, Tells}
-use Rattle.wardrail.specs.Addresses.{word_from, text_number, TellsOf}
+use Rattle.wardrail.specs.Said.{Tells}
+use Rattle.wardrail.specs.Addresses.{TellsOf}
 use Rattle.wardrail.specs.Magnets.{ReadTo}
 use Rattle.wardrail.specs.Torrents.{torrent_detail}
 use Rattle.wardrail.specs.Weeks.{week_detail, package_detail}
-use Rattle.wardrail.proofs.Determined as said
-use Rattle.wardrail.proofs.Keeping as kept
-use Rattle.wardrail.proofs.Said as told
-use Rattle.demands_laws.proofs.Digests as digests
-use Rattle.demands.specs.One.{Lent, now, Determined1, Keeps1, Determined2, Determined4, Keeps4}
+use Rattle.demands.specs.One.{Lent, now}
 
 -- ---- the calls
 

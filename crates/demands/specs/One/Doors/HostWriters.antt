@@ -1,5 +1,5 @@
 -- Demand 1 of `wardrail`, for C: what is written. Assumes nothing.
-use Rattle.std.specs.Prelude.{List, ◌∷◌, ◌≡◌, ℕ, length}
+use Rattle.std.specs.Prelude.{List, ◌∷◌, ℕ, length}
 use Rattle.refusal.specs.Paper.{map}
 use Rattle.bencode_writer.specs.Put.{put_of}
 use Rattle.peer_wire.specs.Frames.{write_of as frame_of}
@@ -11,9 +11,7 @@ use Rattle.links.specs.Writing.{written_of, write_of as link_text_of}
 use Rattle.week.specs.Writing.{write_of as week_text_of}
 use Rattle.wardrail.specs.Said.{Tells}
 use Rattle.wardrail.specs.Writers.{Wrote}
-use Rattle.wardrail.proofs.Determined as said
-use Rattle.wardrail.proofs.Keeping as kept
-use Rattle.demands.specs.One.{Lent, now, Determined2, Keeps2, Determined1, Keeps1}
+use Rattle.demands.specs.One.{Lent, now}
 
 -- wardrail::writers::wardrail_write_frame
 abbrev pub write-frame-ensures : (id : ℕ) (payload : Lent (List ℕ)) → ℕ → Lent (List ℕ) → Lent ℕ → Type 0

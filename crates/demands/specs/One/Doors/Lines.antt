@@ -1,13 +1,10 @@
 -- Demand 1 of `torrent_lines`: the listing. Assumes nothing.
 use Rattle.std.specs.Prelude.{List, ◌≡◌, ℕ, ◌≤◌, length}
-use Rattle.std.proofs.Common.{sym, ◌∙◌}
 use Rattle.refusal.specs.Paper.{taken}
 use Rattle.bencode_writer.specs.Put.{paper as put_paper, left, put_of, Ran}
 use Rattle.bencode_writer.specs.declared.Put.{Put}
 use Rattle.torrent_lines.specs.Lines.{most_printed, refused_line, listing_of}
-use Rattle.torrent_lines.proofs.Laws as laws
-use Rattle.refusal.proofs.Outcomes.{not-refused}
-use Rattle.demands.specs.One.{Lent, now, Determined1, Keeps1, Takes1, Refused, Determined}
+use Rattle.demands.specs.One.{Lent, now}
 
 -- torrent_lines::listing
 abbrev pub listing-ensures : (text : Lent (List ℕ)) → Put → Lent (List ℕ) → Type 0

@@ -1,6 +1,5 @@
 -- Demand 1 of `torrent_metainfo`: torrents, read. Assumes nothing.
 use Rattle.std.specs.Prelude.{List, ◌≡◌, ℕ, ◌+◌, min, length}
-use Rattle.std.proofs.Common.{sym, ◌∙◌}
 use Rattle.refusal.specs.Parts.{bytes_at}
 use Rattle.hash_sha1.specs.Digest.{paper as hash_paper, left}
 use Rattle.hash_sha1.specs.declared.Hashed.{Hashed}
@@ -8,11 +7,7 @@ use Rattle.torrent_metainfo.specs.Hashes.{info_hash_of}
 use Rattle.torrent_metainfo.specs.Reading.{paper, read_of, announce_in, name_in_of, file_paper, file_at}
 use Rattle.torrent_metainfo.specs.declared.Filed.{Filed}
 use Rattle.torrent_metainfo.specs.declared.Reading.{Reading}
-use Rattle.torrent_metainfo.proofs.Determined as laws
-use Rattle.torrent_metainfo.proofs.Hashing as hashing
-use Rattle.demands_laws.proofs.Digests.{hash-kept}
-use Rattle.demands_laws.proofs.Refusals.{one-part}
-use Rattle.demands.specs.One.{Lent, now, Determined, Ref, ref, Determined1, Keeps1, Refused}
+use Rattle.demands.specs.One.{Lent, now, Ref}
 
 -- torrent_metainfo::read
 abbrev pub read-ensures : (text : Lent (List ℕ)) → Reading → Type 0

@@ -1,13 +1,11 @@
 -- Demand 1 of `hash_sha1`: a digest of a slice or in parts, and digests compared. Assumes nothing.
 use Rattle.std.specs.Prelude.{List, ◌≡◌, ℕ}
-use Rattle.std.proofs.Common.{sym, ◌∙◌}
 use Rattle.hash_sha1.specs.Digest.{paper, left, digest_of, agreement_paper, agreement_of}
 use Rattle.hash_sha1.specs.Parts.{begun, add_of, finish_of}
 use Rattle.hash_sha1.specs.declared.Agreement.{Agreement}
 use Rattle.hash_sha1.specs.declared.Hashed.{Hashed}
 use Rattle.hash_sha1.specs.declared.stream.Stream.{Stream}
-use Rattle.hash_sha1.proofs.Determined as laws
-use Rattle.demands.specs.One.{Lent, now, Determined1, Keeps1, Refused, Determined}
+use Rattle.demands.specs.One.{Lent, now}
 
 -- hash_sha1::digest
 abbrev pub digest-ensures : (message : Lent (List ℕ)) → Hashed → Lent (List ℕ) → Type 0

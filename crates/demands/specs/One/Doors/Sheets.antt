@@ -1,11 +1,8 @@
 -- Demand 1 of `sheets`: the tracker's address for a torrent, by a sheet. Assumes nothing.
 use Rattle.std.specs.Prelude.{List, ◌≡◌, ℕ}
-use Rattle.std.proofs.Common.{sym, ◌∙◌}
 use Rattle.sheets.specs.Reading.{told, find_of, chosen, handed, handed_at}
 use Rattle.sheets.specs.declared.Found.{Found}
-use Rattle.sheets.proofs.Answers as laws
-use Rattle.demands_laws.proofs.Refusals.{one-part}
-use Rattle.demands.specs.One.{Lent, now, Determined, Ref, ref}
+use Rattle.demands.specs.One.{Lent, now, Ref}
 
 -- sheets::find
 abbrev pub find-ensures : (torrent sheet : Lent (List ℕ)) → Found → Type 0

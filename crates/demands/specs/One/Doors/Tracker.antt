@@ -1,6 +1,5 @@
 -- Demand 1 of `tracker`: replies and their entries, read. Assumes nothing.
 use Rattle.std.specs.Prelude.{List, ◌≡◌, ℕ}
-use Rattle.std.proofs.Common.{sym, ◌∙◌}
 use Rattle.refusal.specs.Paper.{map, then}
 use Rattle.tracker.specs.Entries.{packed_paper, packed_at, listed_paper, listed_at}
 use Rattle.tracker.specs.Reading.{paper, peer_paper, entry_count}
@@ -9,8 +8,7 @@ use Rattle.tracker.specs.declared.Found.{Found}
 use Rattle.tracker.specs.declared.Reply.{Reply}
 use Rattle.tracker.specs.declared.compact.Packing.{Packing}
 use Rattle.tracker.specs.declared.listed.Listing.{Listing}
-use Rattle.tracker.proofs.Determined as laws
-use Rattle.demands.specs.One.{Lent, now, Determined}
+use Rattle.demands.specs.One.{Lent, now}
 
 -- tracker::read
 abbrev pub read-ensures : (text : Lent (List ℕ)) → Reply → Type 0

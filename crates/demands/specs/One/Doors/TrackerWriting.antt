@@ -3,8 +3,7 @@ use Rattle.std.specs.Prelude.{List, ◌≡◌, ℕ}
 use Rattle.bencode_writer.specs.Put.{paper, left}
 use Rattle.bencode_writer.specs.declared.Put.{Put}
 use Rattle.tracker.specs.Writing.{write_of}
-use Rattle.tracker.proofs.Rewriting as laws
-use Rattle.demands.specs.One.{Lent, now, Determined1, Keeps1, Refused}
+use Rattle.demands.specs.One.{Lent, now}
 
 -- tracker::writing::write
 abbrev pub write-ensures : (interval : ℕ) (peers : Lent (List ℕ)) → Put → Lent (List ℕ) → Type 0

@@ -1,6 +1,5 @@
 -- Demand 1 of `bencode_walk`: the steps over a text. Assumes nothing.
 use Rattle.std.specs.Prelude.{List, ◌≡◌, ℕ, suc, ◌+◌, min, length}
-use Rattle.std.proofs.Common.{sym, ◌∙◌}
 use Rattle.refusal.specs.Parts.{bytes_at}
 use Rattle.refusal.specs.declared.Part.{Part}
 use Rattle.bencode_walk.specs.Walk.{paper, look_of, entry_paper, entry_of, seek_paper, seek_of, past_paper, skip_of}
@@ -8,9 +7,7 @@ use Rattle.bencode_walk.specs.declared.Next.{Next}
 use Rattle.bencode_walk.specs.declared.Past.{Past}
 use Rattle.bencode_walk.specs.declared.Seen.{Seen}
 use Rattle.bencode_walk.specs.declared.Sought.{Sought}
-use Rattle.bencode_walk.proofs.Determined as laws
-use Rattle.demands_laws.proofs.Refusals.{one-part}
-use Rattle.demands.specs.One.{Lent, now, Determined, Ref, ref}
+use Rattle.demands.specs.One.{Lent, now, Ref}
 
 -- bencode_walk::look
 abbrev pub look-ensures : (text : Lent (List ℕ)) (at : ℕ) → Seen → Type 0

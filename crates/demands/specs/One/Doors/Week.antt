@@ -1,9 +1,7 @@
 -- Demand 1 of `week`: a week's packages in one file, read, walked over, written and listed. Assumes nothing.
 use Rattle.std.specs.Prelude.{List, ◌≡◌, ℕ, ◌≤◌}
-use Rattle.refusal.specs.Paper.{taken}
 use Rattle.bencode_writer.specs.Put.{left, paper as put_paper, Ran}
 use Rattle.bencode_writer.specs.declared.Put.{Put}
-use Rattle.torrent_lines.proofs.Laws.{ran-determined}
 use Rattle.week.specs.Rules.{table_of, package_at, week_of, package_of}
 use Rattle.week.specs.Reading.{paper, count_paper, told_paper}
 use Rattle.week.specs.Writing.{write_of}
@@ -11,9 +9,7 @@ use Rattle.week.specs.Lines.{listing_of, most_listing}
 use Rattle.week.specs.declared.Counted.{Counted}
 use Rattle.week.specs.declared.Told.{Told}
 use Rattle.week.specs.declared.Weekly.{Weekly}
-use Rattle.week.proofs.Answers as answers
-use Rattle.refusal.proofs.Outcomes.{not-refused}
-use Rattle.demands.specs.One.{Lent, now, Determined, Determined1, Keeps1, Takes1, Refused}
+use Rattle.demands.specs.One.{Lent, now}
 
 -- week::read
 abbrev pub read-ensures : (file : Lent (List ℕ)) → Weekly → Type 0

@@ -4,8 +4,7 @@ use Rattle.peer_wire.specs.Frames.{read_of, paper}
 use Rattle.peer_wire.specs.Handshake.{paper as shaken, shake_of}
 use Rattle.peer_wire.specs.declared.Greeting.{Greeting}
 use Rattle.peer_wire.specs.declared.Read.{Read}
-use Rattle.peer_wire.proofs.Determined as laws
-use Rattle.demands.specs.One.{Lent, now, Determined}
+use Rattle.demands.specs.One.{Lent, now}
 
 -- peer_wire::read_frame
 abbrev pub read_frame-ensures : (bytes : Lent (List ℕ)) → Read → Type 0

@@ -7,9 +7,7 @@ use Rattle.torrent_blocks.specs.declared.PieceOffset.{PieceOffset}
 use Rattle.peer_wire.specs.Frames.{write_of}
 use Rattle.peer_wire.specs.Handshake.{handshake, zeros}
 use Rattle.peer_wire.specs.Message.{keepalive, encode, have, body, bitfield, request, piece, cancel}
-use Rattle.peer_wire.proofs.Written as laws
-use Rattle.bencode_writer.proofs.Laws as puts
-use Rattle.demands.specs.One.{Lent, now, Determined1, Keeps1, Refused}
+use Rattle.demands.specs.One.{Lent, now}
 
 -- peer_wire::write::keepalive
 abbrev pub keepalive-ensures : Put → Lent (List ℕ) → Type 0

@@ -1,6 +1,5 @@
 -- Demand 1 of `yard`: the calls over lent tables, for C. Assumes nothing.
 use Rattle.std.specs.Prelude.{Bool, List, ◌≡◌, ℕ, length}
-use Rattle.std.proofs.Common.{sym, ◌∙◌}
 use Rattle.std.proofs.lemmas.List.Edits.{sets}
 use Rattle.yard_tables.specs.Step.{Call, step, written}
 use Rattle.yard_tables.specs.Tables.{yard_of}
@@ -8,8 +7,7 @@ use Rattle.yard_tables.specs.declared.Head.{Head}
 use Rattle.yard_tables.specs.declared.Seat.{Seat}
 use Rattle.yard_telling.specs.Telling.{Steps, Tells, Looks, Shows}
 use Rattle.yard_telling.specs.declared.Told.{Told}
-use Rattle.demands_laws.proofs.Keeping.{same_tables, tables-kept, told-kept, shown-kept, put-kept, choke-speaks, interest-speaks, page-speaks}
-use Rattle.demands.specs.One.{Lent, now, Determined4, Keeps4, Determined5, Keeps5, Determined3, Keeps3, Determined2, Keeps2}
+use Rattle.demands.specs.One.{Lent, now}
 
 -- yard::wardrail_yard_start
 abbrev pub start-ensures : (pieces piece_length last_length : ℕ) → ℕ → Lent Head → Lent (List Seat) → Lent (List ℕ) → Lent (List ℕ) → Type 0

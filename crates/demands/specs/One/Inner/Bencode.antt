@@ -1,11 +1,10 @@
 -- Demand 1 of `bencode::value`: one value at a place. Assumes nothing.
 use Rattle.std.specs.Prelude.{List, ◌≡◌, ℕ, length, drop}
-use Rattle.std.proofs.Common.{sym, ◌∙◌}
 use Rattle.bencode.specs.Answers.{step_of}
 use Rattle.bencode.specs.Decode.{value_from}
 use Rattle.bencode.specs.declared.Cursor.{Cursor}
 use Rattle.bencode.specs.declared.Step.{Step}
-use Rattle.demands.specs.One.{Lent, now, Determined}
+use Rattle.demands.specs.One.{Lent, now}
 
 -- bencode::value
 abbrev pub value-ensures : (text : Lent (List ℕ)) (c : Cursor) (levels : ℕ) → Step → Type 0

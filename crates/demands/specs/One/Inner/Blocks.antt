@@ -1,14 +1,11 @@
 -- Demand 1 of `torrent_blocks`: the three numberings, and the number rules for torrents. Assumes nothing.
 use Rattle.std.specs.Prelude.{Bool, ◌≡◌, ℕ, ◌+◌, min}
-use Rattle.std.proofs.Common.{sym, ◌∙◌}
 use Rattle.torrent_blocks.specs.Rules.{piece_length_of, file_length, file_count, largest, pieces_of, total_and}
 use Rattle.torrent_blocks.specs.Numberings.{widest, content_offset, piece_number, piece_offset, piece_bytes_of}
 use Rattle.torrent_blocks.specs.declared.ContentOffset.{ContentOffset}
 use Rattle.torrent_blocks.specs.declared.PieceNumber.{PieceNumber}
 use Rattle.torrent_blocks.specs.declared.PieceOffset.{PieceOffset}
 use Rattle.torrent_blocks.specs.declared.rules.Total.{Total}
-use Rattle.torrent_blocks.proofs.Determined as laws
-use Rattle.demands.specs.One.{Determined}
 
 -- torrent_blocks::content_offset
 abbrev pub content_offset-ensures : (piece_length : ℕ) (piece : PieceNumber) (offset : PieceOffset) → ContentOffset → Type 0

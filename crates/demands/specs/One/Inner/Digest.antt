@@ -1,9 +1,8 @@
 -- Demand 1 of `hash_digest`: words of 32 bits and blocks of a message. Assumes nothing.
 use Rattle.std.specs.Prelude.{List, ◌++◌, ◌≡◌, ℕ, ◌%◌, ◌/◌, length, take}
-use Rattle.std.proofs.Common.{sym, ◌∙◌}
 use Rattle.hash_digest.specs.Message.{filled, padding}
 use Rattle.hash_digest.specs.Words.{add32, ch, parity, maj, rotl}
-use Rattle.demands.specs.One.{Lent, now, Determined}
+use Rattle.demands.specs.One.{Lent, now}
 
 -- hash_digest::message::gathered
 abbrev pub gathered-ensures : (held part : Lent (List ℕ)) → List ℕ → Type 0

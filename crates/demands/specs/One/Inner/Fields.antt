@@ -8,8 +8,7 @@ use Rattle.bencode_fields.specs.declared.Bytes.{Bytes}
 use Rattle.bencode_fields.specs.declared.Inside.{Inside}
 use Rattle.bencode_fields.specs.declared.Natural.{Natural}
 use Rattle.bencode_fields.specs.declared.Number.{Number}
-use Rattle.bencode_fields.proofs.Determined as laws
-use Rattle.demands.specs.One.{Lent, now, Determined}
+use Rattle.demands.specs.One.{Lent, now}
 
 -- bencode_fields::string_at
 abbrev pub string_at-ensures : (text : Lent (List ℕ)) (at : ℕ) → Bytes → Type 0

@@ -1,15 +1,12 @@
 -- Demand 1 of `yard_hearing`: a frame for a seat, by value. Assumes nothing.
 use Rattle.std.specs.Prelude.{List, ◌≡◌, ℕ}
-use Rattle.std.proofs.Common.{sym, ◌∙◌}
 use Rattle.yard_tables.specs.Frames.{feed_of}
 use Rattle.yard_tables.specs.Seats.{counted}
-use Rattle.yard_tables.specs.Tables.{around, turn, paper}
+use Rattle.yard_tables.specs.Tables.{around, turn}
 use Rattle.yard_tables.specs.declared.Head.{Head}
 use Rattle.yard_tables.specs.declared.Seat.{Seat}
 use Rattle.yard_tables.specs.declared.Stepped.{Stepped}
-use Rattle.yard_hearing.proofs.Determined as laws
-use Rattle.demands_laws.proofs.Keeping.{unspoken}
-use Rattle.demands.specs.One.{Lent, now, Determined, Determined2, Unused, Keeps2}
+use Rattle.demands.specs.One.{Lent, now}
 
 -- yard_hearing::feed_step
 abbrev pub feed_step-ensures : (h : Head) (s : Seat) (i n : ℕ) (bytes : Lent (List ℕ)) → Stepped → Lent (List ℕ) → Lent (List ℕ) → Type 0

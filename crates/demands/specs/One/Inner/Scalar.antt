@@ -1,13 +1,11 @@
 -- Demand 1 of `bencode_scalar`: strings and integers at a place, and the order of keys. Assumes nothing.
 use Rattle.std.specs.Prelude.{Bool, List, ◌≡◌, ℕ, length, drop}
-use Rattle.std.proofs.Common.{sym, ◌∙◌}
 use Rattle.bencode_scalar.specs.Answers.{text_of, integer_is}
 use Rattle.bencode_scalar.specs.Reading.{is_digit, string_at, integer_at}
 use Rattle.bencode_scalar.specs.Written.{key_lt}
 use Rattle.bencode_scalar.specs.declared.Int.{Int}
 use Rattle.bencode_scalar.specs.declared.Text.{Text}
-use Rattle.bencode_scalar.proofs.Determined as laws
-use Rattle.demands.specs.One.{Determined, Lent, now}
+use Rattle.demands.specs.One.{Lent, now}
 
 -- bencode_scalar::digit
 abbrev pub digit-ensures : (b : ℕ) → Bool → Type 0

@@ -1,24 +1,19 @@
 -- Demand 1 of `yard_seating`: starting, sitting down, leaving, our own marks and the looks, by value. Assumes nothing.
-use Rattle.std.specs.Prelude.{Bool, List, ◌≡◌, ℕ, length, replicate}
-use Rattle.std.proofs.Common.{ap, ◌∙◌}
-use Rattle.std.proofs.lemmas.List.{length-replicate}
+use Rattle.std.specs.Prelude.{Bool, List, ◌≡◌, ℕ, length}
 use Rattle.std.proofs.lemmas.List.Edits.{sets}
 use Rattle.torrent_blocks.specs.declared.PieceNumber.{PieceNumber}
 use Rattle.yard_tables.specs.Looks.{scarcest_of, seat_of, has_of, count_of}
 use Rattle.yard_tables.specs.Seating.{start_of, sit_of, leave_of, mark_of}
-use Rattle.yard_tables.specs.Seats.{we_choke, we_want, cleared}
+use Rattle.yard_tables.specs.Seats.{we_choke, we_want}
 use Rattle.yard_tables.specs.Step.{choke_frame, if_taken, interest_frame}
 use Rattle.yard_tables.specs.Tables.{yard_of, sizes_fit, around, turn, paper}
 use Rattle.yard_tables.specs.declared.Answer.{Answer}
 use Rattle.yard_tables.specs.declared.Head.{Head}
 use Rattle.yard_tables.specs.declared.Seat.{Seat}
 use Rattle.yard_tables.specs.declared.Stepped.{Stepped}
-use Rattle.yard_tables.proofs.Keeping.{sit-keeps, leave-keeps}
 use Rattle.yard_seating.specs.Steps.{begun, empty_head}
 use Rattle.yard_seating.specs.declared.Begun.{Begun}
-use Rattle.yard_seating.proofs.Determined as laws
-use Rattle.demands_laws.proofs.Keeping.{turn-kept, start-kept}
-use Rattle.demands.specs.One.{Lent, now, Determined2, Keeps2, Refused, Determined1, Keeps1, Determined}
+use Rattle.demands.specs.One.{Lent, now}
 
 -- yard_seating::start_step
 abbrev pub start_step-ensures : (h : Head) (pieces piece_length last_length n : ℕ) → Begun → Lent (List ℕ) → Lent (List ℕ) → Type 0

@@ -1,6 +1,5 @@
 -- Demand 1 of `yard_tables`: what the yard's calls share. Assumes nothing.
 use Rattle.std.specs.Prelude.{Bool, ◌≡◌, ℕ, ◌+◌, ◌-◌, ◌%◌, ◌^◌, min}
-use Rattle.std.proofs.Common.{sym, ◌∙◌}
 use Rattle.refusal.specs.Paper.{taken}
 use Rattle.torrent_blocks.specs.declared.PieceNumber.{PieceNumber}
 use Rattle.torrent_blocks.specs.declared.PieceOffset.{PieceOffset}
@@ -19,8 +18,6 @@ use Rattle.yard_tables.specs.declared.Seat.{Seat}
 use Rattle.yard_tables.specs.declared.rank.Ranking.{Ranking}
 use Rattle.yard_tables.specs.declared.round.Turned.{Turned}
 use Rattle.yard_tables.specs.declared.Stepped.{Stepped}
-use Rattle.yard_tables.proofs.Telling.{paper-tells}
-use Rattle.demands.specs.One.{Determined}
 
 -- yard_tables::cleared_seat
 abbrev pub cleared_seat-ensures : Seat → Type 0

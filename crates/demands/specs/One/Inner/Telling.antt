@@ -1,12 +1,10 @@
 -- Demand 1 of `yard_telling`: the yard's answers for C. Assumes nothing.
 use Rattle.std.specs.Prelude.{◌≡◌, ℕ}
-use Rattle.std.proofs.Common.{sym, ◌∙◌}
 use Rattle.yard_tables.specs.Tables.{paper}
 use Rattle.yard_tables.specs.declared.Answer.{Answer}
 use Rattle.yard_tables.specs.declared.Seat.{Seat}
 use Rattle.yard_telling.specs.Telling.{code_of, told_of, shown_of}
 use Rattle.yard_telling.specs.declared.Told.{Told}
-use Rattle.demands.specs.One.{Determined}
 
 -- yard_telling::code
 abbrev pub code-ensures : (a : Answer) → ℕ → Type 0

@@ -2,8 +2,7 @@
 use Rattle.std.specs.Prelude.{List, ◌≡◌, ℕ}
 use Rattle.tracker.specs.Entries.{count_paper, count_of}
 use Rattle.tracker.specs.declared.listed.Counted.{Counted}
-use Rattle.tracker.proofs.Determined as laws
-use Rattle.demands.specs.One.{Lent, now, Determined}
+use Rattle.demands.specs.One.{Lent, now}
 
 -- tracker::listed::count
 abbrev pub count-ensures : (text : Lent (List ℕ)) (first : ℕ) → Counted → Type 0

@@ -1,12 +1,10 @@
 -- Demand 1 of `bencode_writer`: what the writers put one after the other. Assumes nothing.
 use Rattle.std.specs.Prelude.{List, ◌≡◌, ℕ, ◌≤◌, ℤ, length}
-use Rattle.std.proofs.Common.{sym, ◌∙◌}
 use Rattle.bencode_scalar.specs.Written.{decimal, written_string, written_int}
 use Rattle.bencode_writer.specs.Escaped.{percent, small_hex}
 use Rattle.bencode_writer.specs.Put.{paper, left, put_of, place_past}
 use Rattle.bencode_writer.specs.declared.Put.{Put}
-use Rattle.bencode_writer.proofs.Laws as laws
-use Rattle.demands.specs.One.{Lent, now, Determined, Determined1, Keeps1, Refused}
+use Rattle.demands.specs.One.{Lent, now}
 
 -- bencode_writer::literal
 abbrev pub literal-ensures : (at : ℕ) (bytes : Lent (List ℕ)) → Put → Lent (List ℕ) → Type 0
