@@ -1,6 +1,5 @@
 #!/usr/bin/env python3
-"""Holds the exports to the library's functions: each has its words, parameters, answer and contract, and every name in these from the same definitions.
-Holds the headers of host/ to the sources: each export is declared with the parameters of its source, in their order and by their names; an answer
+"""Holds the headers of host/ to the sources: each export is declared with the parameters of its source, in their order and by their names; an answer
 that its source writes as a row of numbers is the struct of that call, as many numbers of 64 bits with no gap; and a record that both name has the
 same fields in their order. Prints C that compiles only if every field lies where the source has it.
 
@@ -15,9 +14,6 @@ CRATES = Path(__file__).resolve().parent.parent / "crates"
 EXPORT = re.compile(r'pub extern "C" fn (\w+)\((.*?)\)(?: -> (\w+))?\n', re.S)
 RECORDS = ("Head", "Seat", "Told")
 RECORD = re.compile(rf"#\[repr\(C\)\]\n(?:#\[derive\([^\n]*\)\]\n)?pub struct ({'|'.join(RECORDS)}) \{{\n(.*?)\n\}}", re.S)
-# a function that C calls, with its contract: of the library, or of the crate NAME_c that exports it
-CALLED = re.compile(r'^pub (?:extern "C" )?fn (wardrail_\w+)(\(.*?)^\{', re.S | re.M)
-NAMED = re.compile(r"^ghost use (\S+)\.\{([^}]*)\};", re.M)
 DECLARED = re.compile(r"\b(uint64_t|void) (wardrail_\w+)\(([^;]*?)\);", re.S)
 STRUCT = re.compile(r"struct (wardrail_\w+) \{((?:[^{}]|\{[^{}]*\})*)\};")
 MEMBER = re.compile(r"union \{([^{}]*)\};|((?:struct )?\w+) ([^;{}]+);")
@@ -28,8 +24,6 @@ SIZES = {"uint8_t": 1, "uint16_t": 2, "uint32_t": 4, "uint64_t": 8}
 
 def main():
     header = sys.stdin.read()
-    for exporting in sorted(CRATES.glob("*_c")):
-        check_exports(CRATES / exporting.name.removesuffix("_c"), exporting)
     structs = {f"struct {name}": list(members(body)) for name, body in STRUCT.findall(header)}
     sources = [path.read_text() for path in sorted(CRATES.glob("*/src/**/*.rt"))]
     exports = {name: (words, answer) for source in sources for name, words, answer in EXPORT.findall(source)}
@@ -46,24 +40,6 @@ def main():
         sys.exit(f"of {RECORDS} those laid out as in C are {[name for name, _ in records]}")
     for name, body in records:
         check_record(name, re.findall(r"^    pub (\w+): (\w+),", body, re.M), structs)
-
-
-def check_exports(library, exporting):
-    for ours, theirs in zip(called(library), called(exporting), strict=True):
-        name = theirs[0]
-        if ours[:2] != theirs[:2]:
-            sys.exit(f"{exporting.name}: {name} has other words than {library.name}'s {ours[0]}")
-        if not theirs[2].items() <= ours[2].items():
-            sys.exit(f"{exporting.name}: {name} takes names from other definitions than {library.name}'s: {theirs[2].items() - ours[2].items()}")
-
-
-def called(crate):
-    """The functions of a crate that C calls, by name: each with its words, and what the names that its file takes stand for."""
-    found = []
-    for source in (path.read_text() for path in crate.glob("src/**/*.rt")):
-        taken = {item.strip(): module for module, items in NAMED.findall(source) for item in items.split(",") if item.strip()}
-        found += [(name, " ".join(words.split()).replace(", )", ")").replace("( ", "("), taken) for name, words in CALLED.findall(source)]
-    return sorted(found, key=lambda function: function[0])
 
 
 def members(body):
