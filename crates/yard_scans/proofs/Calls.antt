@@ -1,4 +1,4 @@
--- What the straight lines of calls come to. Each law takes what the walk of its function has: the parameters, what the lent slices hold at exit, what each
+-- What the straight lines of calls come to. Each law takes what a proof of its function has: the parameters, what the lent slices hold at exit, what each
 -- call answers, and what its contract says, in the order of the calls. Assumes nothing.
 use mathlib.Core.Path.{◌≡◌, ap, ◌∙◌}
 use mathlib.Core.Bool.{Bool}

@@ -13,7 +13,7 @@ use Rattle.torrent_authoring.proofs.Steps.{at_least, hashes-right, hashes-wrong,
 use mathlib.Core.Path.{ap}
 use mathlib.Core.Bool.{not}
 use Rattle.torrent_authoring.proofs.size.Goals as goal
-use Rattle.torrent_authoring.proofs.size.Goals.{Else-not-legal_file_length, Else-not-legal_name, Else-not-legal_piece_length, Else-not-legal_total, Else-pieces-count, Start}
+use Rattle.torrent_authoring.proofs.size.Goals.{Else-not-legal_file_length, Else-not-legal_name, Else-not-legal_piece_length, Else-not-legal_total, Else-pieces-count}
 
 -- what each test that was passed says
 good : (c : Else-not-legal_name) → good_name c.args.name.now ≡ true

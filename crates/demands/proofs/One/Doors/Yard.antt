@@ -100,5 +100,5 @@ pub round-determined : (rows holders : Lent (List ℕ)) → Determined3 (round-e
 round-determined rows holders head seats told r r' head₁ head₂ seats₁ seats₂ told₁ told₂ e f =
     let t = same_tables e.2 f.2 in (e.0 ∙ sym f.0, t.0, t.1, e.1 ∙ sym f.1)
 
-pub round_keeps : (rows holders : Lent (List ℕ)) → Keeps3 (round-ensures rows holders) (λ (r : ℕ). r ≡ 0 → ⊥)
-round_keeps rows holders r head seats told e k = let t = tables-kept Call.round _ _ _ _ e.0 k e.2 in (t.0, t.1, told-kept Call.round _ _ _ _ e.0 k e.1)
+pub round-keeps : (rows holders : Lent (List ℕ)) → Keeps3 (round-ensures rows holders) (λ (r : ℕ). r ≡ 0 → ⊥)
+round-keeps rows holders r head seats told e k = let t = tables-kept Call.round _ _ _ _ e.0 k e.2 in (t.0, t.1, told-kept Call.round _ _ _ _ e.0 k e.1)

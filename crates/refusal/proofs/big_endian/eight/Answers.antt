@@ -1,7 +1,6 @@
 -- `eight` meets its contract: a law over the width joins the halves, and each half is below 256 to its width. Assumes nothing.
 use Prim.Native.Nat.{◌+◌, ◌<◌, ◌^◌}
 use native.Mathlib.Omega.{arith}
-use borrow.Author.Rules.{rules}
 use Rattle.refusal.proofs.Places.{below, halves}
 use Rattle.refusal.proofs.big_endian.eight.Goals as goal
 use Rattle.refusal.proofs.big_endian.eight.Goals.{After-four-low}

@@ -1,7 +1,6 @@
 -- `four` meets its contract: these are the four bytes at the place. Assumes nothing.
 use native.Mathlib.Omega.{arith}
 use Rattle.refusal.proofs.Places.{four-there}
-use borrow.Author.Rules.{rules}
 use Rattle.refusal.proofs.big_endian.four.Goals as goal
 
 pub returns : goal.returns

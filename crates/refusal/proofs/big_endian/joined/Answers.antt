@@ -1,7 +1,6 @@
 -- `joined` meets its contract: what the four bytes stand for is this sum. Assumes nothing.
 use native.Mathlib.Omega.{arith}
 use Rattle.refusal.specs.BigEndian.{big_endian_of}
-use borrow.Author.Rules.{rules}
 use Rattle.refusal.proofs.big_endian.joined.Goals as goal
 
 pub returns : goal.returns

@@ -2,7 +2,6 @@
 use native.Mathlib.Nat.{div-one}
 use native.Mathlib.Numerals.{add-one}
 use native.Mathlib.Omega.{arith}
-use borrow.Author.Rules.{rules}
 use lib.ListN.{length-set}
 use Rattle.refusal.specs.BigEndian.{bytes_of}
 use Rattle.refusal.proofs.big_endian.put2.Goals as goal

@@ -1,5 +1,4 @@
 -- `put8` meets its contract: a law over the width joins the halves. Assumes nothing.
-use borrow.Author.Rules.{rules}
 use Rattle.refusal.proofs.Places.{halves-written}
 use Rattle.refusal.proofs.big_endian.put8.Goals as goal
 

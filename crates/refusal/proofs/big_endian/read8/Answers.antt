@@ -1,7 +1,6 @@
 -- `read8` meets its contract: a law over the width for the bytes that are there, and one for those that are not. Assumes nothing.
 use mathlib.Core.Path.{sym, ◌∙◌}
 use native.Mathlib.Omega.{arith}
-use borrow.Author.Rules.{rules}
 use borrow.Author.Tests.{leb-true}
 use Rattle.refusal.proofs.Places.{read_is, read-cut}
 use Rattle.refusal.proofs.big_endian.read8.Goals as goal

@@ -2,7 +2,6 @@
 use native.Mathlib.Omega.{arith}
 use Rattle.refusal.specs.BigEndian.{big_endian_of}
 use Rattle.refusal.proofs.Places.{two-there}
-use borrow.Author.Rules.{rules}
 use Rattle.refusal.proofs.big_endian.two.Goals as goal
 
 pub returns : goal.returns

@@ -1,7 +1,6 @@
 -- `write8` meets its contract: a law over the width for the bytes that fit, and one for those that do not. Assumes nothing.
 use mathlib.Core.Path.{sym, ◌∙◌}
 use native.Mathlib.Omega.{arith}
-use borrow.Author.Rules.{rules}
 use borrow.Author.Tests.{leb-true}
 use Rattle.refusal.proofs.Places.{write_done, write-left}
 use Rattle.refusal.proofs.big_endian.write8.Goals as goal
