@@ -13,7 +13,7 @@ import re
 import subprocess
 import sys
 
-KIT = os.path.realpath("/opt/rattle/rattle")
+KIT = os.path.join(os.path.dirname(os.path.realpath(subprocess.run(["rt", "doc"], capture_output=True, text=True, check=True).stdout.strip())), "rattle")
 SINGLE = set()  # functions of one word
 WORD = re.compile(r"(?<![\w·'-])[A-Za-z_][\w'₀-₉-]*")
 
