@@ -1,4 +1,5 @@
 -- Decode-exact: a text is taken for a value exactly when it is that value as BEP 3 writes it and the value keeps the limits. Assumes nothing.
+use Rattle.std.specs.Prelude.{Err, Ok, Result}
 use mathlib.Core.Path.{◌≡◌, refl, sym, ap, ◌∙◌, subst}
 use mathlib.Core.Bool.{Bool, true, false, cond}
 use mathlib.Core.List.{List, [], ◌∷◌, ◌++◌, append-nil}
@@ -8,19 +9,16 @@ use lib.Dec.{ltb}
 use lib.ListN.{length, drop, drop_of_length-le}
 use lib.Seq.{drop-cons}
 use borrow.Author.Tests.{lt-ltb, le-ltb, ltb-false}
-use Rattle.refusal.specs.Paper.{Outcome, taken, refused, map}
+use Rattle.refusal.specs.Paper.{paper, Outcome, taken, refused, map}
 use Rattle.refusal.specs.Numbers.{after, long}
 use Rattle.refusal.specs.declared.Refusal.{Refusal}
 use Rattle.bencode_scalar.specs.Reading.{Got, got, bad}
 use Rattle.bencode_scalar.proofs.Sound.{Holds}
 use Rattle.bencode.specs.Value.{Value, encode, count, Keeps}
 use Rattle.bencode.specs.Decode.{value_from, whole_of, decode}
-use Rattle.bencode.specs.Answers.{paper, check_of, step_of}
+use Rattle.bencode.specs.Answers.{check_of, step_of}
 use Rattle.bencode.specs.Exact.{Fine, Exactly}
 use Rattle.bencode.specs.declared.Cursor.{Cursor}
-use Rattle.bencode.specs.declared.Step.TheVariants.{Past, Refused as Bad}
-use Rattle.bencode.specs.declared.Checked.{Checked}
-use Rattle.bencode.specs.declared.Checked.TheVariants.{Taken, Refused}
 use Rattle.bencode.proofs.Sound.{Took, value-sound}
 use Rattle.bencode.proofs.Complete.{complete}
 use Rattle.bencode.proofs.Turns.{past-got, bad-got}
@@ -82,7 +80,7 @@ unfolding decode
 check-long s h = rw (lt-ltb 1048576 (length s) h)
 
 module _ (s : List ℕ) (h : length s ≤ 1048576) where
-  pub check-bad : (r : Refusal) → Bad r ≡ step_of (value_from 32 (length s) s 0 0) → paper (Refused r) ≡ check_of s
+  pub check-bad : (r : Refusal) → Err r ≡ step_of (value_from 32 (length s) s 0 0) → paper (Err r) ≡ check_of s
   unfolding decode
   check-bad r e = rw (le-ltb 1048576 (length s) h, bad-got (value_from 32 (length s) s 0 0) r e)
 
@@ -94,7 +92,7 @@ module _ (s : List ℕ) (h : length s ≤ 1048576) where
   unfolding decode
   more-with v p m e l = rw (le-ltb 1048576 (length s) h, e, drop-cons s p 0 l)
 
-  module _ (c : Cursor) (e : Past c ≡ step_of (value_from 32 (length s) s 0 0)) where
+  module _ (c : Cursor) (e : Ok c ≡ step_of (value_from 32 (length s) s 0 0)) where
     pub check-more : c.at < length s → refused after c.at ≡ check_of s
     check-more l = let w = past-got s 32 0 0 (omega arith) c e in more-with w.what c.at c.count w.is l
 
@@ -102,14 +100,14 @@ module _ (s : List ℕ) (h : length s ≤ 1048576) where
     check-taken l = let w = past-got s 32 0 0 (omega arith) c e in taken-with w.what c.at c.count w.is (omega (arith, w.counted)) l
 
 -- two answers that the contract permits for one text are the same
-pub paper-tells : (r t : Checked) → paper r ≡ paper t → r ≡ t
-paper-tells (Taken m) (Taken n) e = cc
-paper-tells (Taken m) (Refused q) e = absurd (let z : ◌≡◌ {A = ℕ} 0 1 = cc in omega arith)
-paper-tells (Refused q) (Taken n) e = absurd (let z : ◌≡◌ {A = ℕ} 0 1 = cc in omega arith)
-paper-tells (Refused q) (Refused r) e =
+pub paper-tells : (r t : Result ℕ Refusal) → paper r ≡ paper t → r ≡ t
+paper-tells (Ok m) (Ok n) e = cc
+paper-tells (Ok m) (Err q) e = absurd (let z : ◌≡◌ {A = ℕ} 0 1 = cc in omega arith)
+paper-tells (Err q) (Ok n) e = absurd (let z : ◌≡◌ {A = ℕ} 0 1 = cc in omega arith)
+paper-tells (Err q) (Err r) e =
     let x : q.number ≡ r.number = cc in
     let y : q.place ≡ r.place = cc in
     rw (x, y)
 
-pub check-determined : (s : List ℕ) (r t : Checked) → paper r ≡ check_of s → paper t ≡ check_of s → r ≡ t
+pub check-determined : (s : List ℕ) (r t : Result ℕ Refusal) → paper r ≡ check_of s → paper t ≡ check_of s → r ≡ t
 check-determined s r t e f = paper-tells r t (e ∙ sym f)

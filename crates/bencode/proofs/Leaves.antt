@@ -1,4 +1,5 @@
 -- The short ways past a string or an integer at a place p of a text s come to what the definitions read there. Assumes nothing.
+use Rattle.std.specs.Prelude.{Ok}
 use mathlib.Core.Path.{◌≡◌, refl, sym, ap, ◌∙◌}
 use mathlib.Core.Bool.{Bool, true, false}
 use mathlib.Core.List.{List}
@@ -10,11 +11,9 @@ use lib.ListN.{length, get_or, drop}
 use borrow.Author.Tests.{ne_eqb, eqb-true}
 use Rattle.bencode_scalar.specs.Reading.{is_digit, num_val, num_len, digits_val, digits_len, string_at, closed_of, minus_at, integer_at}
 use Rattle.bencode_scalar.specs.Answers.{text_of}
-use Rattle.bencode_scalar.specs.declared.Text.TheVariants.{Whole}
 use Rattle.bencode_scalar.proofs.Decimal.{cap, Passing, passing-stop, Reading, digit-range, val-more, val-stop, len_more, len-stop, reading-stop}
 use Rattle.bencode_scalar.proofs.Forms.{string-whole, closed-whole, minus-here, int-plus, int-minus}
 use Rattle.bencode.specs.Answers.{step_of, Held, Ended}
-use Rattle.bencode.specs.declared.Step.TheVariants.{Past}
 
 -- a number of one digit b, before q, and of two
 module _ (s : List ℕ) (b q : ℕ) (l : q < length s) where
@@ -35,13 +34,13 @@ module _ (s : List ℕ) (b q : ℕ) (l : q < length s) where
 -- a string by its colon at c, whose digits stand for v
 module _ (s : List ℕ) (p n c v : ℕ) (l : p < length s) (m : length s < cap) (d : is_digit (get_or s p 0) ≡ true) where
   string-by : c ≡ p + 1 + num_len (get_or s p 0) (drop (p + 1) s) → v ≡ num_val (get_or s p 0) (drop (p + 1) s) → c < length s → get_or s c 0 ≡ 58 → c + 1 + v ≤ length s
-      → text_of s n (Whole (c + 1) v) ≡ string_at (length s) (drop p s) p n
+      → text_of s n (Ok (record { from = c + 1; len = v })) ≡ string_at (length s) (drop p s) p n
   string-by hc hv k x f = string-whole s p n l d c v hc (omega arith) k m x (omega arith)
 
 -- one whose length has one or two digits, by what `within` answers
 module _ (s : List ℕ) (p n r : ℕ) (m : length s < cap) (d : is_digit (get_or s p 0) ≡ true) where
   pub one-whole : p + 1 < length s → get_or s (p + 1) 0 ≡ 58 → (z : ℕ) → z ≡ get_or s p 0 - 48 → (r < 100 → (r ≡ z) × (p + 2 + z ≤ length s)) → r < 100
-      → text_of s n (Whole (p + 2) r) ≡ string_at (length s) (drop p s) p n
+      → text_of s n (Ok (record { from = p + 2; len = r })) ≡ string_at (length s) (drop p s) p n
   one-whole h x z y w k =
       let u = one s (get_or s p 0) (p + 1) h (rw x) in
       let v : r ≡ z = (w k).0 in
@@ -51,7 +50,7 @@ module _ (s : List ℕ) (p n r : ℕ) (m : length s < cap) (d : is_digit (get_or
 
   pub two-whole : p + 2 < length s → (get_or s p 0 ≡ 48 → ⊥) → is_digit (get_or s (p + 1) 0) ≡ true → get_or s (p + 2) 0 ≡ 58
       → (z : ℕ) → z ≡ (get_or s p 0 - 48) * 10 + (get_or s (p + 1) 0 - 48) → (r < 100 → (r ≡ z) × (p + 3 + z ≤ length s)) → r < 100
-      → text_of s n (Whole (p + 3) r) ≡ string_at (length s) (drop p s) p n
+      → text_of s n (Ok (record { from = p + 3; len = r })) ≡ string_at (length s) (drop p s) p n
   two-whole h q e x z y w k =
       let a : p + 1 + 1 ≡ p + 2 = omega arith in
       let u = two s (get_or s p 0) (p + 1) (omega arith) q e (omega arith) (rw (a, x)) in
@@ -70,7 +69,7 @@ held-digits s at acc i v r m w l x e =
 
 module _ (s : List ℕ) (p n r : ℕ) (l : p < length s) (m : length s < cap) (d : is_digit (get_or s p 0) ≡ true) where
   abbrev read-string : Type 0
-  read-string = Past (record { at = r; count = n }) ≡ step_of (string_at (length s) (drop p s) p n)
+  read-string = Ok (record { at = r; count = n }) ≡ step_of (string_at (length s) (drop p s) p n)
 
   held_by : (c v : ℕ) → c ≡ p + 1 + num_len (get_or s p 0) (drop (p + 1) s) → v ≡ num_val (get_or s p 0) (drop (p + 1) s) → Held s c v r → read-string
   held_by c v hc hv e = rw e.past (ap step_of (string-by s p n c v l m d hc hv e.here e.colon e.ends))
@@ -90,7 +89,7 @@ ended-digits s at i r w l x e = rw (← (passing-stop s at w l x)) e
 -- an integer whose i stands at p
 module _ (s : List ℕ) (p n r : ℕ) (h : p + 2 < length s) (x : get_or s p 0 ≡ 105) where
   abbrev goal : Type 0
-  goal = Past (record { at = r; count = n }) ≡ step_of (integer_at (length s) (drop p s) p n)
+  goal = Ok (record { at = r; count = n }) ≡ step_of (integer_at (length s) (drop p s) p n)
 
   plus-by : is_digit (get_or s (p + 1) 0) ≡ true → (c : ℕ) → c ≡ p + 2 + num_len (get_or s (p + 1) 0) (drop (p + 2) s) → Ended s c r → goal
   plus-by d c k e =
@@ -105,7 +104,7 @@ module _ (s : List ℕ) (p n r : ℕ) (h : p + 2 < length s) (x : get_or s p 0 �
   pub plus-past : (get_or s (p + 1) 0 ≡ 48 → ⊥) → is_digit (get_or s (p + 1) 0) ≡ true → Ended s (p + 2 + digits_len (drop (p + 2) s)) r → goal
   plus-past z d e = let o = ne_eqb (get_or s (p + 1) 0) 48 z in plus-by d (p + 2 + digits_len (drop (p + 2) s)) (rw o) e
 
-  pub below-past : get_or s (p + 1) 0 ≡ 45 → Past (record { at = r; count = n }) ≡ step_of (minus_at (length s) (drop (p + 2) s) (p + 2) n) → goal
+  pub below-past : get_or s (p + 1) 0 ≡ 45 → Ok (record { at = r; count = n }) ≡ step_of (minus_at (length s) (drop (p + 2) s) (p + 2) n) → goal
   below-past y e =
       let a : p + 1 + 1 ≡ p + 2 = omega arith in
       let i : integer_at (length s) (drop p s) p n ≡ minus_at (length s) (drop (p + 2) s) (p + 2) n = int-minus s p n (omega arith) x (omega arith) y ∙ rw a in
@@ -113,7 +112,7 @@ module _ (s : List ℕ) (p n r : ℕ) (h : p + 2 < length s) (x : get_or s p 0 �
 
 -- the digits after a minus before p
 pub minus-past : (s : List ℕ) (p n r : ℕ) → p < length s → (get_or s p 0 ≡ 48 → ⊥) → is_digit (get_or s p 0) ≡ true → Ended s (p + 1 + digits_len (drop (p + 1) s)) r
-    → Past (record { at = r; count = n }) ≡ step_of (minus_at (length s) (drop p s) p n)
+    → Ok (record { at = r; count = n }) ≡ step_of (minus_at (length s) (drop p s) p n)
 minus-past s p n r l z d e =
     let t = ne_eqb (get_or s p 0) 48 z in
     let k : p + 1 + digits_len (drop (p + 1) s) ≡ p + 1 + num_len (get_or s p 0) (drop (p + 1) s) = rw t in

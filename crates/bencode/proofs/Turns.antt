@@ -1,4 +1,5 @@
 -- What the value at a place p of a text s, and the turns of a list and of a dictionary, come to as the code goes through them. Assumes nothing.
+use Rattle.std.specs.Prelude.{Err, Ok, Result, Option, Some, None}
 use mathlib.Core.Path.{◌≡◌, refl, sym, ap, ◌∙◌, subst}
 use mathlib.Core.Bool.{Bool, true, false, cond}
 use mathlib.Core.List.{List, [], ◌∷◌}
@@ -16,20 +17,15 @@ use Rattle.refusal.proofs.Cases.{by-test, no_way}
 use Rattle.bencode_scalar.specs.Written.{decimal, written_string, in_range}
 use Rattle.bencode_scalar.specs.Reading.{Got, got, bad, and_then, map_got, is_digit, string_of, string_at, integer_of, integer_at}
 use Rattle.bencode_scalar.specs.Answers.{text_of, integer_is}
-use Rattle.bencode_scalar.specs.declared.Text.TheVariants.{Whole, Refused as Broken}
 use Rattle.bencode_scalar.specs.declared.Int.{Int}
-use Rattle.bencode_scalar.specs.declared.Int.TheVariants.{Is, Large, Refused as Unread}
+use Rattle.bencode_scalar.specs.declared.Int.TheVariants.{Is, Large}
 use Rattle.bencode_scalar.proofs.Forms.{at_head, at_byte}
 use Rattle.bencode_scalar.proofs.Sound.{Holds, At as Stood, at_left, IntP, integer-at-sound}
 use Rattle.bencode.specs.Value.{Value, Items, Entries, str, int, list, dict, item, entry, count, Prev, start, last, follows}
 use Rattle.bencode.specs.Decode.{Kind, digit, letter_i, letter_l, letter_d, other, kind_of, begun, value_by, closes, items_of, ordered, key_of, entries_of, value_from}
-use Rattle.bencode.specs.Answers.{step_of, prev_of, key_is, told, inside}
+use Rattle.bencode.specs.Answers.{step_of, Inside, prev_of, key_is, told, inside}
 use Rattle.bencode.specs.declared.Cursor.{Cursor}
-use Rattle.bencode.specs.declared.Key.{Key}
-use Rattle.bencode.specs.declared.Found.{Found}
-use Rattle.bencode.specs.declared.Found.TheVariants.{At, Refused as Not}
-use Rattle.bencode.specs.declared.Step.{Step}
-use Rattle.bencode.specs.declared.Step.TheVariants.{Past, Refused as Bad}
+use Rattle.refusal.specs.declared.Part.{Part}
 use Rattle.bencode.proofs.Sound.{Took, value-sound, KeyP, key-sound}
 use Rattle.bencode.proofs.Complete.{encode-pos, kind-digit}
 
@@ -38,23 +34,23 @@ step_map f (got v l q m) = refl
 step_map f (bad r q) = refl
 
 -- a step told by a number and what is left in a cell
-pub told-past : (r n : ℕ) → r < 2 ^ 63 → told r n ≡ Past (record { at = r; count = n })
+pub told-past : (r n : ℕ) → r < 2 ^ 63 → told r n ≡ Ok (record { at = r; count = n })
 unfolding told
 told-past r n h = rw (lt-ltb r (2 ^ 63) h)
 
-pub told-bad : (r n : ℕ) → 2 ^ 63 ≤ r → told r n ≡ Bad (record { number = r % 256; place = n })
+pub told-bad : (r n : ℕ) → 2 ^ 63 ≤ r → told r n ≡ Err (record { number = r % 256; place = n })
 unfolding told
 told-bad r n h = rw (le-ltb r (2 ^ 63) h)
 
-pub told-number : (r p : ℕ) → r < 256 → told (9223372036854775808 + r) p ≡ Bad (record { number = r; place = p })
+pub told-number : (r p : ℕ) → r < 256 → told (9223372036854775808 + r) p ≡ Err (record { number = r; place = p })
 told-number r p h =
     let e : (9223372036854775808 + r) % 256 ≡ r = omega arith in
     told-bad (9223372036854775808 + r) p (omega arith) ∙ rw e
 
-pub told-on : {r n : ℕ} {t : Step} → r < 2 ^ 63 → told r n ≡ t → Past (record { at = r; count = n }) ≡ t
+pub told-on : {r n : ℕ} {t : Result Cursor Refusal} → r < 2 ^ 63 → told r n ≡ t → Ok (record { at = r; count = n }) ≡ t
 told-on {r} {n} h e = sym (told-past r n h) ∙ e
 
-pub told-off : (r n : ℕ) {t u : Step} → 2 ^ 63 ≤ r → told r n ≡ t → ((b : Refusal) → Bad b ≡ t → Bad b ≡ u) → told r n ≡ u
+pub told-off : (r n : ℕ) {t u : Result Cursor Refusal} → 2 ^ 63 ≤ r → told r n ≡ t → ((b : Refusal) → Err b ≡ t → Err b ≡ u) → told r n ≡ u
 told-off r n h e f = told-bad r n h ∙ f (record { number = r % 256; place = n }) (sym (told-bad r n h) ∙ e)
 
 -- what was read at p, as the code's answer tells it
@@ -67,14 +63,14 @@ pub record Read (s : List ℕ) (d p n : ℕ) (c : Cursor) (g : Got Value) : Type
 rest-is : (s : List ℕ) {r w : List ℕ} {p q : ℕ} → Stood (drop p s) p r q w → r ≡ drop q s
 rest-is s {r} {w} {p} {q} a = sym (ap (λ (i : ℕ). drop i s) a.place ∙ sym (drop-drop (length w) p s) ∙ ap (drop (length w)) a.text ∙ drop-append_seam w r)
 
-past_by : (s : List ℕ) (d p n : ℕ) (c : Cursor) (g : Got Value) → Past c ≡ step_of g → Holds (Took (drop p s) d p n) g → Read s d p n c g
+past_by : (s : List ℕ) (d p n : ℕ) (c : Cursor) (g : Got Value) → Ok c ≡ step_of g → Holds (Took (drop p s) d p n) g → Read s d p n c g
 past_by s d p n c (got v r q m) e h =
     let x : q ≡ c.at = cc in
     let y : m ≡ c.count = cc in
     record { what = v; is = rw (rest-is s h.at, x, y); further = omega (arith, h.at.place, encode-pos v); counted = omega (arith, h.counted) }
 past_by s d p n c (bad r q) e h = no_way (cc)
 
-pub past-got : (s : List ℕ) (d p n : ℕ) → p ≤ length s → (c : Cursor) → Past c ≡ step_of (value_from d (length s) (drop p s) p n) → Read s d p n c (value_from d (length s) (drop p s) p n)
+pub past-got : (s : List ℕ) (d p n : ℕ) → p ≤ length s → (c : Cursor) → Ok c ≡ step_of (value_from d (length s) (drop p s) p n) → Read s d p n c (value_from d (length s) (drop p s) p n)
 past-got s d p n h c e = past_by s d p n c (value_from d (length s) (drop p s) p n) e (value-sound d (length s) (drop p s) p n (omega (arith, length-drop p s)))
 
 inside-by : (s : List ℕ) (d p n : ℕ) → p ≤ length s → length s < 2 ^ 63 → (g : Got Value) → Holds (Took (drop p s) d p n) g → inside (step_of g)
@@ -84,10 +80,10 @@ inside-by s d p n h k (got v r q m) w =
 inside-by s d p n h k (bad r q) w = tt
 
 -- a value ends within the text, so that the number of its place is below 2 ^ 63
-pub value-inside : (s : List ℕ) (d p n : ℕ) → p ≤ length s → length s < 2 ^ 63 → (t : Step) → t ≡ step_of (value_from d (length s) (drop p s) p n) → inside t
+pub value-inside : (s : List ℕ) (d p n : ℕ) → p ≤ length s → length s < 2 ^ 63 → (t : Result Cursor Refusal) → t ≡ step_of (value_from d (length s) (drop p s) p n) → inside t
 value-inside s d p n h k t e = subst inside (sym e) (inside-by s d p n h k (value_from d (length s) (drop p s) p n) (value-sound d (length s) (drop p s) p n (omega (arith, length-drop p s))))
 
-pub bad-got : {A : Type 0} (g : Got A) (r : Refusal) → Bad r ≡ step_of g → g ≡ bad r.number r.place
+pub bad-got : {A : Type 0} (g : Got A) (r : Refusal) → Err r ≡ step_of g → g ≡ bad r.number r.place
 bad-got (got v l p m) r e = no_way (cc)
 bad-got (bad a b) r e =
     let x : a ≡ r.number = cc in
@@ -139,7 +135,7 @@ pub kind-opens : (b : ℕ) → begun (kind_of b) ≡ true → (b ≡ 105 → ⊥
 kind-opens b h x d = opens_by b h x d (eqb b 108) refl
 
 module _ (s : List ℕ) (p n : ℕ) where
-  abbrev here : ℕ → Step
+  abbrev here : ℕ → Result Cursor Refusal
   here d = step_of (value_from d (length s) (drop p s) p n)
 
   pub value_out : (d : ℕ) → length s ≤ p → value_from d (length s) (drop p s) p n ≡ bad cut (length s)
@@ -227,18 +223,18 @@ pub list-start : (s : List ℕ) (d p n : ℕ) → ListTurn s d p n p n
 list-start s d p n = record { left = suc (length s); enough = omega arith; same = refl }
 
 module _ (s : List ℕ) (d p₀ n₀ p n : ℕ) where
-  abbrev goal : Step
+  abbrev goal : Result Cursor Refusal
   goal = step_of (items_of (suc (length s)) (value_from d (length s)) (length s) (drop p₀ s) p₀ n₀)
 
   abbrev turn : ℕ → Got Items
   turn f = items_of f (value_from d (length s)) (length s) (drop p s) p n
 
-  close-with : (f : ℕ) → length s < p + f → p < length s → get_or s p 0 ≡ 101 → Past (record { at = p + 1; count = n }) ≡ step_of (turn f)
+  close-with : (f : ℕ) → length s < p + f → p < length s → get_or s p 0 ≡ 101 → Ok (record { at = p + 1; count = n }) ≡ step_of (turn f)
   unfolding items_of
   close-with zero h l x = absurd (omega arith)
   close-with (suc f) h l x = rw (at_byte s p 101 l x)
 
-  pub list_close : ListTurn s d p₀ n₀ p n → p < length s → get_or s p 0 ≡ 101 → Past (record { at = p + 1; count = n }) ≡ goal
+  pub list_close : ListTurn s d p₀ n₀ p n → p < length s → get_or s p 0 ≡ 101 → Ok (record { at = p + 1; count = n }) ≡ goal
   list_close t l x = close-with t.left t.enough l x ∙ t.same
 
   items-turn : (f : ℕ) → closes (drop p s) ≡ false
@@ -246,22 +242,22 @@ module _ (s : List ℕ) (d p₀ n₀ p n : ℕ) where
   unfolding items_of
   items-turn f a = rw a
 
-  bad-with : (f : ℕ) (r : Refusal) → length s < p + f → p < length s → closes (drop p s) ≡ false → Bad r ≡ step_of (value_from d (length s) (drop p s) p n) → Bad r ≡ step_of (turn f)
+  bad-with : (f : ℕ) (r : Refusal) → length s < p + f → p < length s → closes (drop p s) ≡ false → Err r ≡ step_of (value_from d (length s) (drop p s) p n) → Err r ≡ step_of (turn f)
   bad-with zero r h l x e = absurd (omega arith)
   bad-with (suc f) r h l x e = rw (items-turn f x, bad-got (value_from d (length s) (drop p s) p n) r e)
 
-  pub list-bad : ListTurn s d p₀ n₀ p n → (r : Refusal) → p < length s → (get_or s p 0 ≡ 101 → ⊥) → Bad r ≡ step_of (value_from d (length s) (drop p s) p n) → Bad r ≡ goal
+  pub list-bad : ListTurn s d p₀ n₀ p n → (r : Refusal) → p < length s → (get_or s p 0 ≡ 101 → ⊥) → Err r ≡ step_of (value_from d (length s) (drop p s) p n) → Err r ≡ goal
   list-bad t r l x e = bad-with t.left r t.enough l (closes-no s p l x) e ∙ t.same
 
-  out-with : (f : ℕ) → length s ≤ p → Bad (record { number = cut; place = length s }) ≡ step_of (turn f)
+  out-with : (f : ℕ) → length s ≤ p → Err (record { number = cut; place = length s }) ≡ step_of (turn f)
   unfolding items_of
   out-with zero h = refl
   out-with (suc f) h = rw (closes-out s p h, value_out s p n d h)
 
-  pub list-out : ListTurn s d p₀ n₀ p n → length s ≤ p → Bad (record { number = cut; place = length s }) ≡ goal
+  pub list-out : ListTurn s d p₀ n₀ p n → length s ≤ p → Err (record { number = cut; place = length s }) ≡ goal
   list-out t h = out-with t.left h ∙ t.same
 
-  more-with : (f : ℕ) → length s < p + f → step_of (turn f) ≡ goal → p < length s → closes (drop p s) ≡ false → (c : Cursor) → Past c ≡ step_of (value_from d (length s) (drop p s) p n)
+  more-with : (f : ℕ) → length s < p + f → step_of (turn f) ≡ goal → p < length s → closes (drop p s) ≡ false → (c : Cursor) → Ok c ≡ step_of (value_from d (length s) (drop p s) p n)
       → (p < c.at) × ListTurn s d p₀ n₀ c.at c.count
   more-with zero h e l x c g = absurd (omega arith)
   more-with (suc f) h e l x c g =
@@ -274,12 +270,12 @@ module _ (s : List ℕ) (d p₀ n₀ p n : ℕ) where
         },
       )
 
-  pub list-more : ListTurn s d p₀ n₀ p n → p < length s → (get_or s p 0 ≡ 101 → ⊥) → (c : Cursor) → Past c ≡ step_of (value_from d (length s) (drop p s) p n)
+  pub list-more : ListTurn s d p₀ n₀ p n → p < length s → (get_or s p 0 ≡ 101 → ⊥) → (c : Cursor) → Ok c ≡ step_of (value_from d (length s) (drop p s) p n)
       → (p < c.at) × ListTurn s d p₀ n₀ c.at c.count
   list-more t l x c g = more-with t.left t.enough t.same l (closes-no s p l x) c g
 
 -- a key that the code found
-pub key-further : (s : List ℕ) (before : Prev) (p n a m : ℕ) → p ≤ length s → key_is s n (At a m) ≡ key_of (length s) before (drop p s) p n → (p < a + m) × (a + m ≤ length s) × (n < 16384)
+pub key-further : (s : List ℕ) (before : Prev) (p n a m : ℕ) → p ≤ length s → key_is s n (Ok (record { from = a; len = m })) ≡ key_of (length s) before (drop p s) p n → (p < a + m) × (a + m ≤ length s) × (n < 16384)
 key-further s before p n a m h e =
     let w = key-sound (length s) before (drop p s) p n (omega (arith, length-drop p s)) in
     let v : KeyP (drop p s) before p n (take m (drop a s)) (drop (a + m) s) (a + m) (n + 1) = subst (Holds (KeyP (drop p s) before p n)) (sym e) w in
@@ -288,63 +284,63 @@ key-further s before p n a m h e =
     (omega (arith, v.0.0.place), omega (arith, length-drop (a + m) s), v.2)
 
 -- the turns of a dictionary
-pub record DictTurn (s : List ℕ) (d p₀ n₀ : ℕ) (p n : ℕ) (before : Key) : Type 0 where
+pub record DictTurn (s : List ℕ) (d p₀ n₀ : ℕ) (p n : ℕ) (before : Option Part) : Type 0 where
   pub left : ℕ
   pub enough : length s < p + left
-  pub within : before.from + before.size ≤ length s
+  pub within : Inside s before
   pub same : step_of (entries_of left (value_from d (length s)) (length s) (prev_of s before) (drop p s) p n) ≡ step_of (entries_of (suc (length s)) (value_from d (length s)) (length s) start (drop p₀ s) p₀ n₀)
 
-pub dict-start : (s : List ℕ) (d p n : ℕ) → DictTurn s d p n p n (record { some = false; from = 0; size = 0 })
-dict-start s d p n = record { left = suc (length s); enough = omega arith; within = omega arith; same = refl }
+pub dict-start : (s : List ℕ) (d p n : ℕ) → DictTurn s d p n p n None
+dict-start s d p n = record { left = suc (length s); enough = omega arith; within = tt; same = refl }
 
-module _ (s : List ℕ) (d p₀ n₀ p n : ℕ) (before : Key) where
-  abbrev goal-dict : Step
+module _ (s : List ℕ) (d p₀ n₀ p n : ℕ) (before : Option Part) where
+  abbrev goal-dict : Result Cursor Refusal
   goal-dict = step_of (entries_of (suc (length s)) (value_from d (length s)) (length s) start (drop p₀ s) p₀ n₀)
 
   abbrev turn-dict : ℕ → Got Entries
   turn-dict f = entries_of f (value_from d (length s)) (length s) (prev_of s before) (drop p s) p n
 
-  dclose-with : (f : ℕ) → length s < p + f → p < length s → get_or s p 0 ≡ 101 → Past (record { at = p + 1; count = n }) ≡ step_of (turn-dict f)
+  dclose-with : (f : ℕ) → length s < p + f → p < length s → get_or s p 0 ≡ 101 → Ok (record { at = p + 1; count = n }) ≡ step_of (turn-dict f)
   unfolding entries_of
   dclose-with zero h l x = absurd (omega arith)
   dclose-with (suc f) h l x = rw (at_byte s p 101 l x)
 
-  pub dict-close : DictTurn s d p₀ n₀ p n before → p < length s → get_or s p 0 ≡ 101 → Past (record { at = p + 1; count = n }) ≡ goal-dict
+  pub dict-close : DictTurn s d p₀ n₀ p n before → p < length s → get_or s p 0 ≡ 101 → Ok (record { at = p + 1; count = n }) ≡ goal-dict
   dict-close t l x = dclose-with t.left t.enough l x ∙ t.same
 
-  dout-with : (f : ℕ) → length s ≤ p → Bad (record { number = cut; place = length s }) ≡ step_of (turn-dict f)
+  dout-with : (f : ℕ) → length s ≤ p → Err (record { number = cut; place = length s }) ≡ step_of (turn-dict f)
   unfolding entries_of key_of
   dout-with zero h = refl
   dout-with (suc f) h = rw (drop_of_length-le s h)
 
-  pub dict-out : DictTurn s d p₀ n₀ p n before → length s ≤ p → Bad (record { number = cut; place = length s }) ≡ goal-dict
+  pub dict-out : DictTurn s d p₀ n₀ p n before → length s ≤ p → Err (record { number = cut; place = length s }) ≡ goal-dict
   dict-out t h = dout-with t.left h ∙ t.same
 
   -- what is left of a turn, by the key that the code found
-  entries-turn : (f : ℕ) → closes (drop p s) ≡ false → (k : Found) → key_is s n k ≡ key_of (length s) (prev_of s before) (drop p s) p n
+  entries-turn : (f : ℕ) → closes (drop p s) ≡ false → (k : Result Part Refusal) → key_is s n k ≡ key_of (length s) (prev_of s before) (drop p s) p n
       → turn-dict (suc f) ≡ and_then (key_is s n k) (λ j l₁ p₁ n₁. and_then (value_from d (length s) l₁ p₁ n₁) (λ v l₂ p₂ n₂. map_got (entry j v) (entries_of f (value_from d (length s)) (length s) (last j) l₂ p₂ n₂)))
   unfolding entries_of
   entries-turn f x k e = rw (x, ← e)
 
   -- at a key
   module _ (t : DictTurn s d p₀ n₀ p n before) (l : p < length s) (x : get_or s p 0 ≡ 101 → ⊥) where
-    dnot-with : (f : ℕ) (r : Refusal) → length s < p + f → key_is s n (Not r) ≡ key_of (length s) (prev_of s before) (drop p s) p n → Bad r ≡ step_of (turn-dict f)
+    dnot-with : (f : ℕ) (r : Refusal) → length s < p + f → key_is s n (Err r) ≡ key_of (length s) (prev_of s before) (drop p s) p n → Err r ≡ step_of (turn-dict f)
     dnot-with zero r h e = absurd (omega arith)
-    dnot-with (suc f) r h e = rw (entries-turn f (closes-no s p l x) (Not r) e)
+    dnot-with (suc f) r h e = rw (entries-turn f (closes-no s p l x) (Err r) e)
 
-    pub dict-not : (r : Refusal) → key_is s n (Not r) ≡ key_of (length s) (prev_of s before) (drop p s) p n → Bad r ≡ goal-dict
+    pub dict-not : (r : Refusal) → key_is s n (Err r) ≡ key_of (length s) (prev_of s before) (drop p s) p n → Err r ≡ goal-dict
     dict-not r e = dnot-with t.left r t.enough e ∙ t.same
 
-    module _ (a m : ℕ) (e : key_is s n (At a m) ≡ key_of (length s) (prev_of s before) (drop p s) p n) where
-      dbad-with : (f : ℕ) (r : Refusal) → length s < p + f → Bad r ≡ step_of (value_from d (length s) (drop (a + m) s) (a + m) (n + 1)) → Bad r ≡ step_of (turn-dict f)
+    module _ (a m : ℕ) (e : key_is s n (Ok (record { from = a; len = m })) ≡ key_of (length s) (prev_of s before) (drop p s) p n) where
+      dbad-with : (f : ℕ) (r : Refusal) → length s < p + f → Err r ≡ step_of (value_from d (length s) (drop (a + m) s) (a + m) (n + 1)) → Err r ≡ step_of (turn-dict f)
       dbad-with zero r h y = absurd (omega arith)
-      dbad-with (suc f) r h y = rw (entries-turn f (closes-no s p l x) (At a m) e, bad-got (value_from d (length s) (drop (a + m) s) (a + m) (n + 1)) r y)
+      dbad-with (suc f) r h y = rw (entries-turn f (closes-no s p l x) (Ok (record { from = a; len = m })) e, bad-got (value_from d (length s) (drop (a + m) s) (a + m) (n + 1)) r y)
 
-      pub dict-bad : (r : Refusal) → Bad r ≡ step_of (value_from d (length s) (drop (a + m) s) (a + m) (n + 1)) → Bad r ≡ goal-dict
+      pub dict-bad : (r : Refusal) → Err r ≡ step_of (value_from d (length s) (drop (a + m) s) (a + m) (n + 1)) → Err r ≡ goal-dict
       dict-bad r y = dbad-with t.left r t.enough y ∙ t.same
 
-      dmore-with : (f : ℕ) → length s < p + f → step_of (turn-dict f) ≡ goal-dict → (c : Cursor) → Past c ≡ step_of (value_from d (length s) (drop (a + m) s) (a + m) (n + 1))
-          → (p < c.at) × DictTurn s d p₀ n₀ c.at c.count (record { some = true; from = a; size = m })
+      dmore-with : (f : ℕ) → length s < p + f → step_of (turn-dict f) ≡ goal-dict → (c : Cursor) → Ok c ≡ step_of (value_from d (length s) (drop (a + m) s) (a + m) (n + 1))
+          → (p < c.at) × DictTurn s d p₀ n₀ c.at c.count (Some (record { from = a; len = m }))
       dmore-with zero h z c y = absurd (omega arith)
       dmore-with (suc f) h z c y =
           let u = key-further s (prev_of s before) p n a m (omega arith) e in
@@ -355,12 +351,12 @@ module _ (s : List ℕ) (d p₀ n₀ p n : ℕ) (before : Key) where
               enough = omega (arith, w.further, u.0);
               within = u.1;
               same = sym (step_map (entry (take m (drop a s)) w.what) (entries_of f (value_from d (length s)) (length s) (last (take m (drop a s))) (drop c.at s) c.at c.count))
-                  ∙ (rw (entries-turn f (closes-no s p l x) (At a m) e, w.is) at z);
+                  ∙ (rw (entries-turn f (closes-no s p l x) (Ok (record { from = a; len = m })) e, w.is) at z);
             },
           )
 
-      pub dict-more : (c : Cursor) → Past c ≡ step_of (value_from d (length s) (drop (a + m) s) (a + m) (n + 1))
-          → (p < c.at) × DictTurn s d p₀ n₀ c.at c.count (record { some = true; from = a; size = m })
+      pub dict-more : (c : Cursor) → Ok c ≡ step_of (value_from d (length s) (drop (a + m) s) (a + m) (n + 1))
+          → (p < c.at) × DictTurn s d p₀ n₀ c.at c.count (Some (record { from = a; len = m }))
       dict-more c y = dmore-with t.left t.enough t.same c y
 
 -- a key at p, by the string that the code found
@@ -378,11 +374,17 @@ module _ (s : List ℕ) (before : Prev) (p n : ℕ) (l : p < length s) where
     unfolding key_of
     key_here h = rw (at_head s p l, d, lt-ltb n 16384 h)
 
-    pub key-broken : n < 16384 → (r : Refusal) → text_of s (n + 1) (Broken r) ≡ string_at (length s) (drop p s) p (n + 1) → key_is s n (Not r) ≡ key_of (length s) before (drop p s) p n
-    key-broken h r e = sym (key_here h ∙ ap (ordered before p) (sym e))
-
-    pub key-found : n < 16384 → (a m : ℕ) → text_of s (n + 1) (Whole a m) ≡ string_at (length s) (drop p s) p (n + 1) → follows before (take m (drop a s)) ≡ true → key_is s n (At a m) ≡ key_of (length s) before (drop p s) p n
+    pub key-found : n < 16384 → (a m : ℕ) → text_of s (n + 1) (Ok (record { from = a; len = m })) ≡ string_at (length s) (drop p s) p (n + 1) → follows before (take m (drop a s)) ≡ true → key_is s n (Ok (record { from = a; len = m })) ≡ key_of (length s) before (drop p s) p n
     key-found h a m e o = sym (key_here h ∙ ap (ordered before p) (sym e) ∙ rw o)
+
+-- any string is a first key
+pub key-read : (s : List ℕ) (p n : ℕ) → p < length s → is_digit (get_or s p 0) ≡ true → n < 16384 → (r : Result Part Refusal)
+    → text_of s (n + 1) r ≡ string_at (length s) (drop p s) p (n + 1) → key_is s n r ≡ key_of (length s) start (drop p s) p n
+key-read s p n l d h r e = go r e ∙ sym (key_here s start p n l d h)
+  where
+    go : (r : Result Part Refusal) → text_of s (n + 1) r ≡ string_at (length s) (drop p s) p (n + 1) → key_is s n r ≡ ordered start p (string_at (length s) (drop p s) p (n + 1))
+    go (Ok k) e = ap (ordered start p) e
+    go (Err r) e = ap (ordered start p) e
 
 -- a key is one that could be the first, and greater than the one before
 key-ordered : (e : ℕ) (before : Prev) (l : List ℕ) (p n : ℕ) → ordered before p (key_of e start l p n) ≡ key_of e before l p n
@@ -398,29 +400,29 @@ key-ordered e before (b ∷ t) p n = go (is_digit b) (ltb n most_values) (string
     go true true (bad r q) = refl
 
 module _ (s : List ℕ) (before : Prev) (p n : ℕ) where
-  ordered-by : (k : Found) → key_is s n k ≡ key_of (length s) start (drop p s) p n → ordered before p (key_is s n k) ≡ key_of (length s) before (drop p s) p n
+  ordered-by : (k : Result Part Refusal) → key_is s n k ≡ key_of (length s) start (drop p s) p n → ordered before p (key_is s n k) ≡ key_of (length s) before (drop p s) p n
   ordered-by k e = ap (ordered before p) e ∙ key-ordered (length s) before (drop p s) p n
 
-  pub key-refused : (r : Refusal) → key_is s n (Not r) ≡ key_of (length s) start (drop p s) p n → key_is s n (Not r) ≡ key_of (length s) before (drop p s) p n
-  key-refused r e = ordered-by (Not r) e
+  pub key-refused : (r : Refusal) → key_is s n (Err r) ≡ key_of (length s) start (drop p s) p n → key_is s n (Err r) ≡ key_of (length s) before (drop p s) p n
+  key-refused r e = ordered-by (Err r) e
 
-  module _ (a m : ℕ) (e : key_is s n (At a m) ≡ key_of (length s) start (drop p s) p n) where
-    pub key-follows : follows before (take m (drop a s)) ≡ true → key_is s n (At a m) ≡ key_of (length s) before (drop p s) p n
-    key-follows o = sym (rw o) ∙ ordered-by (At a m) e
+  module _ (a m : ℕ) (e : key_is s n (Ok (record { from = a; len = m })) ≡ key_of (length s) start (drop p s) p n) where
+    pub key-follows : follows before (take m (drop a s)) ≡ true → key_is s n (Ok (record { from = a; len = m })) ≡ key_of (length s) before (drop p s) p n
+    key-follows o = sym (rw o) ∙ ordered-by (Ok (record { from = a; len = m })) e
 
     pub key-order : follows before (take m (drop a s)) ≡ false → bad order p ≡ key_of (length s) before (drop p s) p n
-    key-order o = sym (rw o) ∙ ordered-by (At a m) e
+    key-order o = sym (rw o) ∙ ordered-by (Ok (record { from = a; len = m })) e
 
 -- an integer that the code read, as value number n
 module _ (p n : ℕ) where
-  abbrev by_int : Int → Step
-  by_int (Is z q) = Past (record { at = q; count = n })
-  by_int (Large q) = Past (record { at = q; count = n })
-  by_int (Unread r) = Bad r
+  abbrev by_int : Result Int Refusal → Result Cursor Refusal
+  by_int (Ok (Is z q)) = Ok (record { at = q; count = n })
+  by_int (Ok (Large q)) = Ok (record { at = q; count = n })
+  by_int (Err r) = Err r
 
   int-by : (l : List ℕ) (g : Got ℤ) → Holds (IntP l p n) g → by_int (integer_is g) ≡ step_of g
-  int-by l (got z r q m) h = by-test (λ (i : Int). by_int i ≡ Past (record { at = q; count = m })) (in_range z) (λ e. rw h.1) (λ e. rw h.1)
+  int-by l (got z r q m) h = by-test (λ (i : Result Int Refusal). by_int i ≡ Ok (record { at = q; count = m })) (in_range z) (λ e. rw h.1) (λ e. rw h.1)
   int-by l (bad r o) h = refl
 
-  pub int_at : (s : List ℕ) (i : Int) → i ≡ integer_is (integer_at (length s) (drop p s) p n) → by_int i ≡ step_of (integer_at (length s) (drop p s) p n)
+  pub int_at : (s : List ℕ) (i : Result Int Refusal) → i ≡ integer_is (integer_at (length s) (drop p s) p n) → by_int i ≡ step_of (integer_at (length s) (drop p s) p n)
   int_at s i e = ap by_int e ∙ int-by (drop p s) (integer_at (length s) (drop p s) p n) (integer-at-sound (length s) (drop p s) p n)

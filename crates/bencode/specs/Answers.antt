@@ -1,53 +1,46 @@
 -- What the code's answers say in the paper's words. Assumes nothing: these are definitions.
--- From `prev_is` on they serve inner contracts alone and need not be believed: the contracts of `check` and `value` speak of those before and of Decode.antt.
-use Rattle.std.specs.Prelude.{◌≡◌, Bool, true, false, cond, List, ℕ, ◌+◌, ◌%◌, ◌^◌, ◌<◌, ◌≤◌, ltb, length, get_or, take, drop}
-use Rattle.refusal.specs.Paper.{Outcome, taken, refusal, map}
+-- From `prev_of` on they serve inner contracts alone and need not be believed: the contracts of `check` and `value` speak of those before and of Decode.antt.
+use Rattle.bencode.specs.declared.Cursor.{Cursor}
+use Rattle.refusal.specs.declared.Refusal.{Refusal}
+use Rattle.std.specs.Prelude.{◌≡◌, cond, List, ℕ, ◌+◌, ◌%◌, ◌^◌, ◌<◌, ◌≤◌, ltb, length, get_or, drop, Err, Ok, Result, Option, Some, None}
+use Rattle.refusal.specs.Paper.{Outcome, map}
 use Rattle.bencode_scalar.specs.Reading.{Got, got, bad}
 use Rattle.bencode.specs.Value.{Prev, start, last, count}
 use Rattle.bencode.specs.Decode.{decode}
-use Rattle.bencode.specs.declared.Step.{Step}
-use Rattle.bencode.specs.declared.Step.TheVariants.{Past, Refused as Bad}
-use Rattle.bencode.specs.declared.Key.{Key}
-use Rattle.bencode.specs.declared.Found.{Found}
-use Rattle.bencode.specs.declared.Found.TheVariants.{At, Refused as Not}
-use Rattle.bencode.specs.declared.Checked.{Checked}
-use Rattle.bencode.specs.declared.Checked.TheVariants.{Taken, Refused}
-
--- `check` answers the count of values, or the refusal
-abbrev pub paper : Checked → Outcome ℕ
-paper (Taken n) = taken n
-paper (Refused r) = refusal r
+use Rattle.refusal.specs.declared.Part.{Part}
+use Rattle.refusal.specs.Parts.{bytes_at}
 
 -- what `check` is to answer
 abbrev pub check_of : List ℕ → Outcome ℕ
 check_of s = map count (decode s)
 
 -- a reader's answer: the next place and the values begun so far, or the refusal
-abbrev pub step_of : {A : Type 0} → Got A → Step
-step_of (got v l p n) = Past (record { at = p; count = n })
-step_of (bad r p) = Bad (record { number = r; place = p })
+abbrev pub step_of : {A : Type 0} → Got A → Result Cursor Refusal
+step_of (got v l p n) = Ok (record { at = p; count = n })
+step_of (bad r p) = Err (record { number = r; place = p })
 
--- the key before as the code keeps it
-abbrev pub prev_is : List ℕ → Bool → ℕ → ℕ → Prev
-prev_is s false a m = start
-prev_is s true a m = last (take m (drop a s))
+-- the key before as the code keeps it, if there is one: its part is inside the text
+abbrev pub prev_of : List ℕ → Option Part → Prev
+prev_of s None = start
+prev_of s (Some k) = last (bytes_at s k)
 
-abbrev pub prev_of : List ℕ → Key → Prev
-prev_of s k = prev_is s k.some k.from k.size
+abbrev pub Inside : List ℕ → Option Part → Type 0
+Inside s None = Unit
+Inside s (Some k) = k.from + k.len ≤ length s
 
 -- a key's answer, after n other values
-abbrev pub key_is : List ℕ → ℕ → Found → Got (List ℕ)
-key_is s n (At a m) = got (take m (drop a s)) (drop (a + m) s) (a + m) (n + 1)
-key_is s n (Not r) = bad r.number r.place
+abbrev pub key_is : List ℕ → ℕ → Result Part Refusal → Got (List ℕ)
+key_is s n (Ok k) = got (bytes_at s k) (drop (k.from + k.len) s) (k.from + k.len) (n + 1)
+key_is s n (Err r) = bad r.number r.place
 
 -- a step told by a number r and what is left in a cell n: the place past and the count, or a refusal's number over 2 ^ 63 and its place
-unfoldable pub told : ℕ → ℕ → Step
-told r n = cond (ltb r (2 ^ 63)) (Past (record { at = r; count = n })) (Bad (record { number = r % 256; place = n }))
+unfoldable pub told : ℕ → ℕ → Result Cursor Refusal
+told r n = cond (ltb r (2 ^ 63)) (Ok (record { at = r; count = n })) (Err (record { number = r % 256; place = n }))
 
 -- a place past that is told so
-abbrev pub inside : Step → Type 0
-inside (Past c) = c.at < 2 ^ 63
-inside (Bad r) = Unit
+abbrev pub inside : Result Cursor Refusal → Type 0
+inside (Ok c) = c.at < 2 ^ 63
+inside (Err r) = Unit
 
 -- a string's colon at c, with v bytes after it; r is past them
 pub record Held (s : List ℕ) (c v r : ℕ) : Type 0 where

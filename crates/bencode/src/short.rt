@@ -1,11 +1,9 @@
 // The short ways past a string or an integer, which `value` reads too. Each answer is one number, which stays in a register; an enum's goes through memory.
-ghost use Rattle.std.specs.Prelude.{◌≡◌, true, ℕ, ◌+◌, ◌*◌, ◌-◌, ◌<◌, ◌≤◌, length, get_or, drop};
+ghost use Rattle.std.specs.Prelude.{Ok, ◌≡◌, true, ℕ, ◌+◌, ◌*◌, ◌-◌, ◌<◌, ◌≤◌, length, get_or, drop};
 ghost use Rattle.bencode_scalar.specs.Reading.{is_digit, digits_val, digits_len, string_at, minus_at, integer_at};
 ghost use Rattle.bencode_scalar.specs.Answers.{text_of};
-ghost use Rattle.bencode_scalar.specs.declared.Text.TheVariants.{Whole};
 ghost use Rattle.bencode.specs.Decode.{value_from};
 ghost use Rattle.bencode.specs.Answers.{step_of, Held, Ended};
-ghost use Rattle.bencode.specs.declared.Step.TheVariants.{Past};
 
 use refusal::limit;
 
@@ -26,7 +24,7 @@ pub fn plain(text: &[u8], at: usize) -> bool
 // The place past the string or integer at `at`, after `count` values, where it is whole and no integer of more than 19 digits; 0 where `value` is to tell.
 pub fn leaf(text: &[u8], at: usize, count: usize) -> usize
     requires { at < length text.now }
-    ensures { (result ≡ 0 → ⊥) → (count < 16384) × ((levels : ℕ) → Past (record { at = result; count = count + 1 }) ≡ step_of (value_from levels (length text.now) (drop at text.now) at count)) }
+    ensures { (result ≡ 0 → ⊥) → (count < 16384) × ((levels : ℕ) → Ok (record { at = result; count = count + 1 }) ≡ step_of (value_from levels (length text.now) (drop at text.now) at count)) }
 {
     if limit::VALUES <= count {
         return 0;
@@ -44,7 +42,7 @@ pub fn leaf(text: &[u8], at: usize, count: usize) -> usize
 // How many bytes the string at `at` has, where it is whole and its length has one digit; 100 where not.
 pub fn one_digit(text: &[u8], at: usize) -> usize
     requires { at < length text.now }
-    ensures { (n : ℕ) → result < 100 → text_of text.now n (Whole (at + 2) result) ≡ string_at (length text.now) (drop at text.now) at n }
+    ensures { (n : ℕ) → result < 100 → text_of text.now n (Ok (record { from = at + 2; len = result })) ≡ string_at (length text.now) (drop at text.now) at n }
 {
     if text.len() - at < 2 {
         return 100;
@@ -61,7 +59,7 @@ pub fn one_digit(text: &[u8], at: usize) -> usize
 // The same where its length has two digits.
 pub fn two_digits(text: &[u8], at: usize) -> usize
     requires { at < length text.now }
-    ensures { (n : ℕ) → result < 100 → text_of text.now n (Whole (at + 3) result) ≡ string_at (length text.now) (drop at text.now) at n }
+    ensures { (n : ℕ) → result < 100 → text_of text.now n (Ok (record { from = at + 3; len = result })) ≡ string_at (length text.now) (drop at text.now) at n }
 {
     if text.len() - at < 3 {
         return 100;
@@ -110,7 +108,7 @@ fn tens(a: u8, b: u8) -> usize
 // The place past the string whose first digit stands at `at`, where it is whole; 0 where not.
 fn string(text: &[u8], at: usize) -> usize
     requires { (at < length text.now) × (is_digit (get_or text.now at 0) ≡ true) }
-    ensures { (n : ℕ) → (result ≡ 0 → ⊥) → Past (record { at = result; count = n }) ≡ step_of (string_at (length text.now) (drop at text.now) at n) }
+    ensures { (n : ℕ) → (result ≡ 0 → ⊥) → Ok (record { at = result; count = n }) ≡ step_of (string_at (length text.now) (drop at text.now) at n) }
 {
     let b = text[at];
     if b == b'0' {
@@ -124,19 +122,16 @@ fn sized(text: &[u8], at: usize, acc: usize) -> usize
     requires { (at ≤ length text.now) × (acc < 10) }
     ensures { (result ≡ 0 → ⊥) → Held text.now (at + digits_len (drop at text.now)) (digits_val acc (drop at text.now)) result }
 {
-    let mut i = at;
     let mut size = acc;
-    while i < text.len() {
+    for i in at..text.len() {
         let b = text[i];
-        if bencode_scalar::digit(b) {
-            if 1000000000000000000 <= size {
-                return 0;
-            }
-            size = size * 10 + units(b);
-            i += 1;
-        } else {
+        if !bencode_scalar::digit(b) {
             return held(text, i, size);
         }
+        if 1000000000000000000 <= size {
+            return 0;
+        }
+        size = size * 10 + units(b);
     }
     0
 }
@@ -160,7 +155,7 @@ fn held(text: &[u8], at: usize, size: usize) -> usize
 // The place past the integer whose i stands at `at`, where it is whole and has at most 19 digits; 0 where not.
 fn integer(text: &[u8], at: usize) -> usize
     requires { (at < length text.now) × (get_or text.now at 0 ≡ 105) }
-    ensures { (n : ℕ) → (result ≡ 0 → ⊥) → Past (record { at = result; count = n }) ≡ step_of (integer_at (length text.now) (drop at text.now) at n) }
+    ensures { (n : ℕ) → (result ≡ 0 → ⊥) → Ok (record { at = result; count = n }) ≡ step_of (integer_at (length text.now) (drop at text.now) at n) }
 {
     if text.len() - at < 3 {
         return 0;
@@ -181,7 +176,7 @@ fn integer(text: &[u8], at: usize) -> usize
 // The place past the integer whose minus stands before `at`, where it is whole and has at most 19 digits; 0 where not.
 fn negative(text: &[u8], at: usize) -> usize
     requires { at < length text.now }
-    ensures { (n : ℕ) → (result ≡ 0 → ⊥) → Past (record { at = result; count = n }) ≡ step_of (minus_at (length text.now) (drop at text.now) at n) }
+    ensures { (n : ℕ) → (result ≡ 0 → ⊥) → Ok (record { at = result; count = n }) ≡ step_of (minus_at (length text.now) (drop at text.now) at n) }
 {
     let b = text[at];
     if b == b'0' {
@@ -198,16 +193,13 @@ fn digits(text: &[u8], at: usize) -> usize
     requires { at ≤ length text.now }
     ensures { (result ≡ 0 → ⊥) → Ended text.now (at + digits_len (drop at text.now)) result }
 {
-    let mut i = at;
-    while i < text.len() {
-        if bencode_scalar::digit(text[i]) {
-            // past these `value` goes in one go, and a run that has no end is not read twice
-            if 18 <= i - at {
-                return 0;
-            }
-            i += 1;
-        } else {
+    for i in at..text.len() {
+        if !bencode_scalar::digit(text[i]) {
             return closing(text, i);
+        }
+        // past these `value` goes in one go, and a run that has no end is not read twice
+        if 18 <= i - at {
+            return 0;
         }
     }
     0

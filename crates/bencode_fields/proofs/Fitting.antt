@@ -1,28 +1,14 @@
 -- An integer that is seen, as the code takes it and tests it. Assumes nothing.
-use mathlib.Core.Path.{◌≡◌, refl, sym, ap, ◌∙◌}
+use mathlib.Core.Path.{◌≡◌, refl}
 use mathlib.Core.Bool.{true, false}
-use mathlib.Core.List.{List}
 use Prim.Native.Nat.{ℕ, ◌<◌, ◌≤◌}
 use native.Mathlib.Omega.{arith}
 use lib.IntN.{ℤ, pos, negsuc, nat_abs}
 use lib.Signed.{lt_z}
-use mir.Syntax.{w64}
-use mir.Val.{to_z, of_z}
-use mir.ValLaws.{to_z-of_z}
 use borrow.Author.Tests.{ltb-true, le-leb, lt-leb}
 use Rattle.refusal.specs.Paper.{Outcome, taken, refused, map, then}
-use Rattle.bencode_walk.proofs.Seeing.{range-fits}
-use Rattle.bencode_walk.proofs.Telling.{number-exact}
-use Rattle.bencode_walk.specs.Walk.{Head, string, integer, long, list, dictionary, end, paper, look_of}
-use Rattle.bencode_walk.specs.declared.Seen.{Seen}
-use Rattle.bencode_walk.specs.declared.Seen.TheVariants.{Integer}
+use Rattle.bencode_walk.specs.Walk.{Head, string, integer, long, list, dictionary, end}
 use Rattle.bencode_fields.specs.Looks.{ending_at, ranged, natural_in, number_in}
-
--- the machine's word for an integer that was seen is that integer
-pub number-seen : (most : ℕ) (s : List ℕ) (p : ℕ) (r : Seen) (z : ℤ) (q : ℕ) → paper r ≡ look_of s p → r ≡ Integer z q → map (ending_at q) (ranged most p (to_z w64 (of_z w64 z))) ≡ then (look_of s p) (number_in most p)
-number-seen most s p r z q e f =
-    let g : look_of s p ≡ taken (integer z q) = sym e ∙ ap paper f in
-    ap (λ (x : ℤ). map (ending_at q) (ranged most p x)) (to_z-of_z w64 z (range-fits z ((number-exact s 0 p z q).0 g).0)) ∙ sym (ap (λ (o : Outcome Head). then o (number_in most p)) g)
 
 -- a number without its place
 pub only-number : (most p : ℕ) (o : Outcome Head) → map (λ (x : ℕ × ℕ). x.0) (then o (number_in most p)) ≡ then o (natural_in most p)

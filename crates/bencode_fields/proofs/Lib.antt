@@ -1,5 +1,4 @@
 -- What the proofs of several functions and crates use.
-pub mod Looking
 pub mod Fitting
 pub mod Standing
 pub mod Seeking

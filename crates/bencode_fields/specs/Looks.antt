@@ -1,39 +1,14 @@
 -- What a typed look finds at a place of any text. Assumes nothing: these are definitions.
 -- They serve the contracts inside readers and need not be believed: `string-is`, `natural-is`, `list-is` and `dictionary-is` of bencode_fields/proofs/Standing.antt tie them to Values.antt.
 use Rattle.std.specs.Prelude.{cond, List, ℕ, suc, leb, length, ℤ, pos, negsuc}
-use Rattle.refusal.specs.Paper.{Outcome, taken, refused, refusal, map, then}
+use Rattle.refusal.specs.Paper.{Outcome, taken, refused, map, then}
 use Rattle.refusal.specs.Numbers.{byte, kind, range}
 use Rattle.refusal.specs.declared.Part.{Part}
 use Rattle.bencode_walk.specs.Walk.{Head, string, integer, long, list, dictionary, end, look_of, Hit, found, missing, seek_of}
-use Rattle.bencode_fields.specs.declared.Bytes.{Bytes}
-use Rattle.bencode_fields.specs.declared.Bytes.TheVariants.{Are, Refused as Unread}
-use Rattle.bencode_fields.specs.declared.Natural.{Natural}
-use Rattle.bencode_fields.specs.declared.Natural.TheVariants.{Is, Refused as Not}
-use Rattle.bencode_fields.specs.declared.Number.{Number}
-use Rattle.bencode_fields.specs.declared.Number.TheVariants.{Is as IsTo, Refused as NotOne}
-use Rattle.bencode_fields.specs.declared.Inside.{Inside}
-use Rattle.bencode_fields.specs.declared.Inside.TheVariants.{At, Refused as Absent}
-
--- the answers in document 01's words
-abbrev pub string_paper : Bytes → Outcome Part
-string_paper (Are p) = taken p
-string_paper (Unread r) = refusal r
-
-abbrev pub natural_paper : Natural → Outcome ℕ
-natural_paper (Is n) = taken n
-natural_paper (Not r) = refusal r
 
 -- a number n and the place q past it
 abbrev pub ending_at : ℕ → ℕ → ℕ × ℕ
 ending_at q n = (n, q)
-
-abbrev pub number_paper : Number → Outcome (ℕ × ℕ)
-number_paper (IsTo n q) = taken (ending_at q n)
-number_paper (NotOne r) = refusal r
-
-abbrev pub inside_paper : Inside → Outcome ℕ
-inside_paper (At p) = taken p
-inside_paper (Absent r) = refusal r
 
 -- the integer z at p as a number from 0 to most; else 11
 abbrev pub ranged : ℕ → ℕ → ℤ → Outcome ℕ

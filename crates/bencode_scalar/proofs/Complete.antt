@@ -1,11 +1,5 @@
 -- A string or an integer that is written so is read. Assumes nothing.
-use mathlib.Core.Path.{◌≡◌, refl, ◌∙◌}
-use mathlib.Core.Bool.{true, false}
-use mathlib.Core.List.{List, [], ◌∷◌, ◌++◌, append_assoc}
-use Prim.Native.Nat.{ℕ, suc, ◌+◌, ◌-◌, ◌≤◌}
-use native.Mathlib.Omega.{arith}
-use lib.IntN.{ℤ, pos, negsuc}
-use lib.ListN.{length, length-append}
+use Rattle.std.proofs.Common.{◌≡◌, refl, ◌∙◌, true, false, List, [], ◌∷◌, ◌++◌, append_assoc, ℕ, suc, ◌+◌, ◌-◌, ◌≤◌, arith, ℤ, pos, negsuc, length, length-append}
 use lib.Seq.{drop-append_seam, take-append_seam}
 use borrow.Author.Tests.{le-leb, ne_eqb}
 use Rattle.bencode_scalar.specs.Written.{decimal, written_string, signed, written_int}

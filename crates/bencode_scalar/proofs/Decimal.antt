@@ -1,19 +1,11 @@
 -- The laws of the digits at a place of a text. Assumes nothing.
-use mathlib.Core.Path.{◌≡◌, refl, ◌∙◌}
-use mathlib.Core.Bool.{Bool, true, false, cond}
-use mathlib.Core.List.{List, [], ◌∷◌}
-use Prim.Native.Nat.{ℕ, suc, ◌+◌, ◌*◌, ◌-◌, ◌<◌, ◌≤◌, min}
-use native.Mathlib.Omega.{arith}
-use native.Mathlib.Numerals.{add-one}
-use lib.Dec.{ltb}
-use lib.ListN.{length, get_or, drop, drop_of_length-le}
+use Rattle.std.proofs.Common.{◌≡◌, refl, ◌∙◌, Bool, true, false, cond, List, ℕ, suc, ◌+◌, ◌*◌, ◌-◌, ◌<◌, ◌≤◌, min, arith, add-one, ltb, length, get_or, drop, drop_of_length-le}
 use lib.Seq.{drop-cons}
 use borrow.Author.Tests.{lt-ltb, le-ltb, ltb-true, ltb-false}
-use Rattle.refusal.proofs.Cases.{by-test}
 use Rattle.bencode_scalar.specs.Reading.{is_digit, digits_val, digits_len}
 
 abbrev pub cap : ℕ
-cap = 10000000000000000000
+cap = 18446744073709551615
 
 split : (b : ℕ) (t : Bool) → ltb b 48 ≡ t → cond t false (ltb b 58) ≡ true → (48 ≤ b) × (b < 58)
 split b true e h = let z : ◌≡◌ {A = ℕ} 0 1 = cc in absurd (omega arith)
@@ -69,12 +61,6 @@ module _ (s : List ℕ) (at : ℕ) where
   pub passing-end : {i : ℕ} → Passing s at i → length s ≤ i → i ≡ at + digits_len (drop at s)
   passing-end {i} w h = omega (arith, w.place, len-end s i h)
 
--- digits that follow make no number less
-digits-least : (n : ℕ) (l : List ℕ) → n ≤ digits_val n l
-unfolding digits_val
-digits-least n [] = omega arith
-digits-least n (b ∷ t) = by-test (λ (m : ℕ). n ≤ m) (is_digit b) (λ e. omega (arith, digits-least (n * 10 + (b - 48)) t)) (λ e. omega arith)
-
 -- the same, added up as far as the cap
 pub record Reading (s : List ℕ) (at acc i value : ℕ) : Type 0 where
   pub passed : Passing s at i
@@ -86,27 +72,22 @@ module _ (s : List ℕ) (at acc : ℕ) where
   pub reading-start : at ≤ length s → acc < 10 → Reading s at acc at acc
   reading-start h k = record { passed = passing-start s at h; true-value = acc; capped = omega arith; same = refl }
 
-  pub reading-more : {i v w : ℕ} → Reading s at acc i v → i < length s → is_digit (get_or s i 0) ≡ true → v < 1000000000000000000 → w ≡ v * 10 + (get_or s i 0 - 48)
-      → Reading s at acc (i + 1) w
-  reading-more {i} {v} {w} r h d l e = record {
+  -- a digit more, as far as the cap
+  pub reading_step : {i v w : ℕ} → Reading s at acc i v → i < length s → is_digit (get_or s i 0) ≡ true → w ≡ min (min (v * 10) cap + (get_or s i 0 - 48)) cap → Reading s at acc (i + 1) w
+  reading_step {i} {v} {w} r h d e = record {
     passed = passing-more s at r.passed h d;
     true-value = r.true-value * 10 + (get_or s i 0 - 48);
-    capped = omega (arith, r.capped, digit-range (get_or s i 0) d, e);
+    capped = omega (arith, r.capped, e);
     same = r.same ∙ val-more s i r.true-value h d;
   }
+
+  pub reading-more : {i v w : ℕ} → Reading s at acc i v → i < length s → is_digit (get_or s i 0) ≡ true → v < 1000000000000000000 → w ≡ v * 10 + (get_or s i 0 - 48)
+      → Reading s at acc (i + 1) w
+  reading-more {i} r h d l e = let k = digit-range (get_or s i 0) d in reading_step r h d (omega arith)
 
   pub reading-stop : {i v : ℕ} → Reading s at acc i v → i < length s → is_digit (get_or s i 0) ≡ false
       → (v ≡ min (digits_val acc (drop at s)) cap) × (i ≡ at + digits_len (drop at s))
   reading-stop {i} {v} r h d = (omega (arith, r.capped, r.same, val-stop s i r.true-value h d), passing-stop s at r.passed h d)
-
-  -- what is read is enough, and the run goes on
-  pub reading-enough : {i v r : ℕ} → Reading s at acc i v → i < length s → is_digit (get_or s i 0) ≡ true → 1000000000000000000 ≤ v → r ≡ i + digits_len (drop i s)
-      → (cap ≡ min (digits_val acc (drop at s)) cap) × (r ≡ at + digits_len (drop at s))
-  reading-enough {i} {v} {r} w h d l e =
-      let n : ℕ = w.true-value * 10 + (get_or s i 0 - 48) in (
-        omega (arith, w.capped, w.same, val-more s i w.true-value h d, digits-least n (drop (i + 1) s)),
-        omega (arith, w.passed.place, e),
-      )
 
   pub reading-end : {i v : ℕ} → Reading s at acc i v → length s ≤ i
       → (v ≡ min (digits_val acc (drop at s)) cap) × (i ≡ at + digits_len (drop at s))

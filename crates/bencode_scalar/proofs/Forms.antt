@@ -1,20 +1,23 @@
 -- What the definitions of strings and integers come to at a place p of a text s, case by case as the code meets them. Assumes nothing.
-use mathlib.Core.Path.{◌≡◌, refl, sym, ap, ◌∙◌}
-use mathlib.Core.Bool.{Bool, true, false}
-use mathlib.Core.List.{List, ◌∷◌}
-use Prim.Native.Nat.{ℕ, zero, suc, ◌+◌, ◌-◌, ◌<◌, ◌≤◌, ◌^◌, min, pred}
-use native.Mathlib.Omega.{arith}
-use native.Mathlib.Numerals.{add-one}
-use lib.Dec.{ltb}
-use lib.IntN.{pos, negsuc, ◌-ℤ◌}
-use lib.ListN.{length, get_or, drop, drop_of_length-le}
+use Rattle.std.proofs.Common.{Option, Some, None, Result, Ok, Err, IsErrAnd, ◌≡◌, refl, sym, ap, ◌∙◌, Bool, true, false, List, [], ◌∷◌, ℕ, zero, suc, ◌+◌, ◌-◌, ◌<◌, ◌≤◌, ◌^◌, min, pred, ℤ, pos, negsuc, ◌-ℤ◌, length, get_or, drop, arith, add-one, w64, drop_of_length-le, SFits}
+use Rattle.std.specs.Option.{SomeIff, MatchOption}
 use lib.Seq.{drop-cons, drop-drop}
 use borrow.Author.Tests.{lt-ltb, le-ltb, le-leb, lt-leb, ne_eqb}
+use Rattle.refusal.specs.declared.Refusal.{Refusal}
+use Rattle.refusal.proofs.Cases.{less-or}
+use Rattle.bencode_scalar.specs.declared.Int.{Int}
+use Rattle.bencode_scalar.specs.declared.Int.TheVariants.{Is, Large}
 use Rattle.refusal.specs.Numbers.{cut, byte}
 use Rattle.bencode_scalar.specs.Reading.{got, bad, is_digit, num_val, num_len, colon_of, string_of, string_at, signed_as, integer_end, closed_of, minus_at, integer_of, integer_at}
-use Rattle.bencode_scalar.specs.Answers.{text_of}
-use Rattle.bencode_scalar.specs.declared.Text.TheVariants.{Whole}
+use Rattle.bencode_scalar.specs.Written.{in_range}
+use Rattle.bencode_scalar.specs.Answers.{text_of, integer_is}
+use Rattle.bencode_scalar.specs.Steps.{ByteAt, Missing, out, other}
 use Rattle.bencode_scalar.proofs.Decimal.{cap}
+
+-- a refusal that was passed on
+pub passed_on : {A : Type 0} (r : Result A Refusal) (e : Refusal) → IsErrAnd r (λ x. x ≡ e) → r ≡ Err e
+passed_on (Ok x) e h = absurd h
+passed_on (Err x) e h = ap Err h
 
 pub at_head : (s : List ℕ) (p : ℕ) → p < length s → drop p s ≡ get_or s p 0 ∷ drop (p + 1) s
 at_head s p h = drop-cons s p 0 h ∙ rw add-one
@@ -28,36 +31,32 @@ after-digits s b q c h = drop-drop (num_len b (drop q s)) q s ∙ ap (λ (i : �
 
 -- a string that begins at p
 module _ (s : List ℕ) (p n : ℕ) where
-  pub string-end : length s ≤ p → bad cut (length s) ≡ string_at (length s) (drop p s) p n
-  string-end h = rw (drop_of_length-le s h)
-
   pub string-other : p < length s → is_digit (get_or s p 0) ≡ false → bad byte p ≡ string_at (length s) (drop p s) p n
   string-other h d = rw (at_head s p h, d)
 
-  pub string-here : p < length s → is_digit (get_or s p 0) ≡ true → string_at (length s) (drop p s) p n ≡ string_of (length s) (get_or s p 0) (drop (p + 1) s) p n
-  string-here h d = rw (at_head s p h, d)
-
-  -- its digits end at c, and v is its length as the code read it
-  module _ (h : p < length s) (d : is_digit (get_or s p 0) ≡ true) (c v : ℕ) (hc : c ≡ p + 1 + num_len (get_or s p 0) (drop (p + 1) s)) (hv : v ≡ min (num_val (get_or s p 0) (drop (p + 1) s)) cap) where
-    colon-here : string_at (length s) (drop p s) p n ≡ colon_of (length s) c (num_val (get_or s p 0) (drop (p + 1) s)) (drop c s) n
+  -- its first digit is b, its digits end at c, and v is its length as the code read it
+  module _ {b : ℕ} (f : ByteAt s p b) (d : is_digit b ≡ true) {c v : ℕ} (hc : c ≡ p + 1 + num_len b (drop (p + 1) s)) (hv : v ≡ min (num_val b (drop (p + 1) s)) cap) where
+    colon-here : string_at (length s) (drop p s) p n ≡ colon_of (length s) c (num_val b (drop (p + 1) s)) (drop c s) n
     unfolding string_of
-    colon-here = string-here h d
-        ∙ ap (λ (i : ℕ). colon_of (length s) i (num_val (get_or s p 0) (drop (p + 1) s)) (drop (num_len (get_or s p 0) (drop (p + 1) s)) (drop (p + 1) s)) n) (sym hc)
-        ∙ ap (λ (l : List ℕ). colon_of (length s) c (num_val (get_or s p 0) (drop (p + 1) s)) l n) (after-digits s (get_or s p 0) (p + 1) c hc)
+    colon-here = rw (at_byte s p b f.inside f.here, d) refl
+        ∙ ap (λ (i : ℕ). colon_of (length s) i (num_val b (drop (p + 1) s)) (drop (num_len b (drop (p + 1) s)) (drop (p + 1) s)) n) (sym hc)
+        ∙ ap (λ (l : List ℕ). colon_of (length s) c (num_val b (drop (p + 1) s)) l n) (after-digits s b (p + 1) c hc)
 
-    pub string-whole : c < length s → length s < cap → get_or s c 0 ≡ 58 → v ≤ length s - (c + 1) → text_of s n (Whole (c + 1) v) ≡ string_at (length s) (drop p s) p n
-    string-whole k m b l =
-        let w : num_val (get_or s p 0) (drop (p + 1) s) ≡ v = omega arith in
-        sym (colon-here ∙ rw (at_byte s c 58 k b, w, le-leb v (length s - (c + 1)) l, drop-drop v (c + 1) s))
+    pub string-is : ByteAt s c 58 → length s < cap → v ≤ length s - (c + 1) → text_of s n (Ok (record { from = c + 1; len = v })) ≡ string_at (length s) (drop p s) p n
+    string-is g m l =
+        let w : num_val b (drop (p + 1) s) ≡ v = omega arith in
+        sym (colon-here ∙ rw (at_byte s c 58 g.inside g.here, w, le-leb v (length s - (c + 1)) l, drop-drop v (c + 1) s))
 
-    pub string-long : c < length s → length s < cap → get_or s c 0 ≡ 58 → length s - (c + 1) < v → bad cut (length s) ≡ string_at (length s) (drop p s) p n
-    string-long k m b l = sym (colon-here ∙ rw (at_byte s c 58 k b, lt-leb (num_val (get_or s p 0) (drop (p + 1) s)) (length s - (c + 1)) (omega arith)))
+    pub string-long : ByteAt s c 58 → length s < cap → length s - (c + 1) < v → bad cut (length s) ≡ string_at (length s) (drop p s) p n
+    string-long g m l = sym (colon-here ∙ rw (at_byte s c 58 g.inside g.here, lt-leb (num_val b (drop (p + 1) s)) (length s - (c + 1)) (omega arith)))
 
-    pub string-wrong : c < length s → (get_or s c 0 ≡ 58 → ⊥) → bad byte c ≡ string_at (length s) (drop p s) p n
-    string-wrong k b = sym (colon-here ∙ rw (at_head s c k, ne_eqb _ _ b))
+    pub string-missing : {r : Refusal} → Missing s c 58 r → bad r.number r.place ≡ string_at (length s) (drop p s) p n
+    string-missing (out k e) = rw e (sym (colon-here ∙ rw (drop_of_length-le s k)))
+    string-missing (other k x e) = rw e (sym (colon-here ∙ rw (at_head s c k, ne_eqb _ _ x)))
 
-    pub string-out : length s ≤ c → bad cut (length s) ≡ string_at (length s) (drop p s) p n
-    string-out k = sym (colon-here ∙ rw (drop_of_length-le s k))
+  module _ (h : p < length s) (d : is_digit (get_or s p 0) ≡ true) (c v : ℕ) (hc : c ≡ p + 1 + num_len (get_or s p 0) (drop (p + 1) s)) (hv : v ≡ min (num_val (get_or s p 0) (drop (p + 1) s)) cap) where
+    pub string-whole : c < length s → length s < cap → get_or s c 0 ≡ 58 → v ≤ length s - (c + 1) → text_of s n (Ok (record { from = c + 1; len = v })) ≡ string_at (length s) (drop p s) p n
+    string-whole k m x = string-is (record { inside = h; here = refl }) d hc hv (record { inside = k; here = x }) m
 
 -- an integer's end: its digits, the first of which is b before q, end at c
 module _ (s : List ℕ) (neg : Bool) (b q n c : ℕ) (hc : c ≡ q + num_len b (drop q s)) where
@@ -69,42 +68,17 @@ module _ (s : List ℕ) (neg : Bool) (b q n c : ℕ) (hc : c ≡ q + num_len b (
   pub closed-whole : c < length s → get_or s c 0 ≡ 101 → closed_of neg (length s) b (drop q s) q n ≡ got (signed_as neg (num_val b (drop q s))) (drop (c + 1) s) (c + 1) n
   closed-whole h x = end-here ∙ rw (at_byte s c 101 h x)
 
-  pub closed-wrong : c < length s → (get_or s c 0 ≡ 101 → ⊥) → closed_of neg (length s) b (drop q s) q n ≡ bad byte c
-  closed-wrong h x = end-here ∙ rw (at_head s c h, ne_eqb _ _ x)
-
-  pub closed-out : length s ≤ c → closed_of neg (length s) b (drop q s) q n ≡ bad cut (length s)
-  closed-out h = end-here ∙ rw (drop_of_length-le s h)
+  pub closed-missing : {r : Refusal} → Missing s c 101 r → closed_of neg (length s) b (drop q s) q n ≡ bad r.number r.place
+  closed-missing (out h e) = rw e (end-here ∙ rw (drop_of_length-le s h))
+  closed-missing (other h x e) = rw e (end-here ∙ rw (at_head s c h, ne_eqb _ _ x))
 
 module _ (s : List ℕ) (p n : ℕ) where
   -- what stands after a minus
-  pub minus-out : length s ≤ p → minus_at (length s) (drop p s) p n ≡ bad cut (length s)
-  minus-out h = rw (drop_of_length-le s h)
-
-  pub minus-zero : p < length s → get_or s p 0 ≡ 48 → minus_at (length s) (drop p s) p n ≡ bad byte p
-  minus-zero h x = rw (at_byte s p 48 h x)
-
-  pub minus-wrong : p < length s → (get_or s p 0 ≡ 48 → ⊥) → is_digit (get_or s p 0) ≡ false → minus_at (length s) (drop p s) p n ≡ bad byte p
-  minus-wrong h x d = rw (at_head s p h, ne_eqb _ _ x, d)
-
   pub minus-here : p < length s → (get_or s p 0 ≡ 48 → ⊥) → is_digit (get_or s p 0) ≡ true → minus_at (length s) (drop p s) p n ≡ closed_of true (length s) (get_or s p 0) (drop (p + 1) s) (p + 1) n
   minus-here h x d = rw (at_head s p h, ne_eqb _ _ x, d)
 
   -- what stands where an integer begins
-  pub int-end : length s ≤ p → integer_at (length s) (drop p s) p n ≡ bad cut (length s)
-  int-end h = rw (drop_of_length-le s h)
-
-  pub int-other : p < length s → (get_or s p 0 ≡ 105 → ⊥) → integer_at (length s) (drop p s) p n ≡ bad byte p
-  int-other h x = rw (at_head s p h, ne_eqb _ _ x)
-
   module _ (h : p < length s) (x : get_or s p 0 ≡ 105) where
-    pub int-out : length s ≤ p + 1 → integer_at (length s) (drop p s) p n ≡ bad cut (length s)
-    unfolding integer_of
-    int-out k = rw (at_byte s p 105 h x, drop_of_length-le s k)
-
-    pub int-wrong : p + 1 < length s → (get_or s (p + 1) 0 ≡ 45 → ⊥) → is_digit (get_or s (p + 1) 0) ≡ false → integer_at (length s) (drop p s) p n ≡ bad byte (p + 1)
-    unfolding integer_of
-    int-wrong k y d = rw (at_byte s p 105 h x, at_head s (p + 1) k, ne_eqb _ _ y, d)
-
     pub int-plus : p + 1 < length s → (get_or s (p + 1) 0 ≡ 45 → ⊥) → is_digit (get_or s (p + 1) 0) ≡ true
         → integer_at (length s) (drop p s) p n ≡ closed_of false (length s) (get_or s (p + 1) 0) (drop (p + 1 + 1) s) (p + 1 + 1) n
     unfolding integer_of
@@ -114,21 +88,31 @@ module _ (s : List ℕ) (p n : ℕ) where
     unfolding integer_of
     int-minus k y = rw (at_byte s p 105 h x, at_byte s (p + 1) 45 k y)
 
--- whether an integer fits 64 bits, by its digits as the code read them
+-- none, less k
+zero_less : (k : ℕ) → 1 ≤ k → pos 0 -ℤ pos k ≡ negsuc (pred k)
+zero_less zero h = absurd (omega arith)
+zero_less (suc k) h = rw (le-leb 1 (suc k) h) (ap negsuc (omega arith))
+
+-- whether an integer has 64 bits
+fits-range : (z : ℤ) → SFits w64 z → in_range z ≡ true
+fits-range (pos n) f = lt-ltb n (2 ^ 63) f.sfits
+fits-range (negsuc n) f = lt-ltb n (2 ^ 63) f.sfits
+
+not-range : (z : ℤ) → (SFits w64 z → ⊥) → in_range z ≡ false
+not-range (pos n) f = less-or n (2 ^ 63) (λ h. absurd (f (record { sfits = h }))) (λ h. le-ltb n (2 ^ 63) h)
+not-range (negsuc n) f = less-or n (2 ^ 63) (λ h. absurd (f (record { sfits = h }))) (λ h. le-ltb n (2 ^ 63) h)
+
+pub int-said : (z : ℤ) (q : ℕ) (o : Option ℤ) (r : Int) → SomeIff o (SFits w64 z) z → MatchOption o (r ≡ Large q) (λ x. r ≡ Is x q) → Ok r ≡ integer_is (got z [] q 0)
+int-said z q (Some x) r f e = rw (fits-range z f.0) (ap Ok (e ∙ rw f.1))
+int-said z q None r f e = rw (not-range z f) (ap Ok e)
+
+-- by its digits as the code read them
 module _ (n v q : ℕ) (h : v ≡ min n cap) where
-  pub plus-fits : v < 2 ^ 63 → (n ≡ v) × (ltb n (2 ^ 63) ≡ true)
-  plus-fits k = (omega arith, lt-ltb n (2 ^ 63) (omega arith))
+  pub plus-said : integer_is (got (pos (0 + v)) [] q 0) ≡ integer_is (got (pos n) [] q 0)
+  plus-said = less-or v (2 ^ 63) (λ k. let e : 0 + v ≡ n = omega arith in rw e)
+      (λ k. rw (le-ltb (0 + v) (2 ^ 63) (omega arith), le-ltb n (2 ^ 63) (omega arith)))
 
-  pub plus-large : 2 ^ 63 ≤ v → ltb n (2 ^ 63) ≡ false
-  plus-large k = le-ltb n (2 ^ 63) (omega arith)
-
-  pub minus-fits : 1 ≤ v → v - 1 < 2 ^ 63 → (pred n ≡ v - 1) × (ltb (pred n) (2 ^ 63) ≡ true)
-  minus-fits m k = (omega arith, lt-ltb (pred n) (2 ^ 63) (omega arith))
-
-  pub minus-large : 1 ≤ v → 2 ^ 63 ≤ v - 1 → ltb (pred n) (2 ^ 63) ≡ false
-  minus-large m k = le-ltb (pred n) (2 ^ 63) (omega arith)
-
--- minus one, less k
-pub one_less : (k : ℕ) → negsuc 0 -ℤ pos k ≡ negsuc k
-one_less zero = refl
-one_less (suc m) = let e : suc (0 + m) ≡ suc m = omega arith in ap negsuc e
+  pub minus-said : 1 ≤ v → integer_is (got (pos 0 -ℤ pos v) [] q 0) ≡ integer_is (got (negsuc (pred n)) [] q 0)
+  minus-said m = rw (zero_less v m)
+      (less-or v (2 ^ 63 + 1) (λ k. let e : v ≡ n = omega arith in rw e)
+      (λ k. rw (le-ltb (pred v) (2 ^ 63) (omega arith), le-ltb (pred n) (2 ^ 63) (omega arith))))

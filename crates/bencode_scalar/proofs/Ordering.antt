@@ -1,10 +1,8 @@
 -- The order of keys is strict and total. Assumes nothing.
-use mathlib.Core.Path.{◌≡◌, refl, sym, ◌∙◌}
-use mathlib.Core.Bool.{Bool, true, false}
-use mathlib.Core.List.{List, [], ◌∷◌}
-use Prim.Native.Nat.{ℕ, ◌<◌, ◌≤◌}
-use native.Mathlib.Omega.{arith}
-use borrow.Author.Tests.{lt-ltb, le-ltb}
+use Rattle.std.proofs.Common.{◌≡◌, refl, sym, ◌∙◌, true, false, List, [], ◌∷◌, ℕ, ◌<◌, ◌≤◌, arith}
+use borrow.Author.Tests.{lt-ltb, le-ltb, eq-eqb, ne_eqb}
+use Rattle.std.specs.Ordering.{is_lt, nat_cmp}
+use Rattle.std.specs.Cmp.Lexicographic.{slice_cmp}
 use Rattle.refusal.proofs.Cases.{no_way, less-or}
 use Rattle.bencode_scalar.specs.Written.{key_lt}
 
@@ -53,10 +51,13 @@ key-less (t ∷ a) (u ∷ b) (v ∷ c) x y =
     (λ h. by_bytes u v (λ k. first-less t v a c (omega arith)) (λ k. let e = first_more u v b c k in no_way (cc))
     (λ k. first-same t v a c (h ∙ k) ∙ key-less a b c (sym (first-same t u a b h) ∙ x) (sym (first-same u v b c k) ∙ y)))
 
--- one before the other: not the other way round
-pub key-not : (a b : List ℕ) → key_lt a b ≡ true → key_lt b a ≡ false
-key-not a b x = go (key_lt b a) refl
-  where
-    go : (t : Bool) → key_lt b a ≡ t → t ≡ false
-    go true e = let f = key-less a b a x e in let g = key-irreflexive a in no_way (cc)
-    go false e = refl
+-- the library's order of bytes is that of keys
+pub cmp-key : (a b : List ℕ) → is_lt (slice_cmp nat_cmp a b) ≡ key_lt a b
+unfolding key_lt
+cmp-key [] [] = refl
+cmp-key [] (d ∷ b) = refl
+cmp-key (c ∷ a) [] = refl
+cmp-key (c ∷ a) (d ∷ b) =
+    by_bytes c d (λ h. let k : c ≤ d = omega arith in rw (lt-ltb c d h))
+    (λ h. let k : d ≤ c = omega arith in let n : (c ≡ d → ⊥) = omega arith in rw (le-ltb c d k, lt-ltb d c h, ne_eqb c d n))
+    (λ h. let k : d ≤ c = omega arith in let l : c ≤ d = omega arith in rw (le-ltb c d k, le-ltb d c l, eq-eqb c d h) (cmp-key a b))

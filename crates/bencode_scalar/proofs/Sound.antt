@@ -1,12 +1,6 @@
 -- A string or an integer that is read was written so. Assumes nothing.
-use mathlib.Core.Path.{◌≡◌, refl, sym, ap, ◌∙◌, subst}
-use mathlib.Core.Bool.{Bool, true, false, false≢true, cond}
-use mathlib.Core.List.{List, [], ◌∷◌, ◌++◌, append_assoc}
-use Prim.Native.Nat.{ℕ, suc, ◌+◌, ◌-◌, ◌≤◌, pred}
-use native.Mathlib.Omega.{arith}
-use lib.Dec.{leb, eqb}
-use lib.IntN.{ℤ}
-use lib.ListN.{length, take, drop, length-append, length-drop, length-take, take-append-drop}
+use Rattle.std.proofs.Common.{◌≡◌, refl, sym, ap, ◌∙◌, subst, Bool, true, false, cond, List, [], ◌∷◌, ◌++◌, append_assoc, ℕ, suc, ◌+◌, ◌-◌, ◌≤◌, pred, arith, leb, eqb, ℤ, length, take, drop, length-append, length-drop, length-take, take-append-drop}
+use mathlib.Core.Bool.{false≢true}
 use borrow.Author.Tests.{leb-true, eqb-true, eqb-false}
 use Rattle.bencode_scalar.specs.Written.{decimal, written_string, signed, written_int}
 use Rattle.bencode_scalar.specs.Reading.{Got, got, bad, map_got, and_then, is_digit, num_val, num_len, colon_of, string_of, string_at, signed_as, integer_end, closed_of, minus_at, integer_of, integer_at}

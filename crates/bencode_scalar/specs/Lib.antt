@@ -2,3 +2,4 @@
 pub mod Written
 pub mod Reading
 pub mod Answers
+pub mod Steps

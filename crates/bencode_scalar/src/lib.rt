@@ -1,192 +1,150 @@
 // Strings and integers of BEP 3: read at a place of a text, and ordered as keys.
 #![tactic(auto)]
 
-ghost use Rattle.std.specs.Prelude.{◌≡◌, true, false, ℕ, ◌+◌, ◌*◌, ◌-◌, ◌<◌, ◌≤◌, min, pred, [], pos, negsuc, length, get_or, drop};
+ghost use Rattle.std.specs.Prelude.{◌≡◌, true, ℕ, ◌+◌, ◌-◌, ◌<◌, ◌≤◌, min, pred, [], pos, negsuc, Ok, length, drop};
+ghost use Rattle.std.specs.Option.{MatchOption};
+ghost use Rattle.std.specs.Result.{MatchResult};
+ghost use Rattle.refusal.specs.Numbers.{cut};
+ghost use Rattle.bencode_scalar.specs.declared.Int.TheVariants.{Is, Large};
 ghost use Rattle.bencode_scalar.specs.Written.{key_lt};
-ghost use Rattle.bencode_scalar.specs.Reading.{got, is_digit, digits_val, digits_len, num_val, num_len, string_at, closed_of, minus_at, integer_at};
+ghost use Rattle.bencode_scalar.specs.Reading.{got, is_digit, digits_val, digits_len, num_val, num_len, string_at, minus_at, integer_at};
 ghost use Rattle.bencode_scalar.specs.Answers.{text_of, integer_is};
+ghost use Rattle.bencode_scalar.specs.Steps.{top, ByteAt, Missing, Closes};
 
-use refusal::{Refusal, number};
-
-// A string: the place of its first byte and how many they are.
-#[derive(Clone, Copy)]
-pub enum Text {
-    Whole(usize, usize),
-    Refused(Refusal),
-}
+use refusal::{Part, Refusal, number, refuse};
 
 // An integer and the place past it; one outside 64 bits has only that place.
-#[derive(Clone, Copy)]
+#[derive(Clone, Copy, Debug, PartialEq, Eq)]
 pub enum Int {
     Is(i64, usize),
     Large(usize),
-    Refused(Refusal),
 }
 
 // Whether a byte is a decimal digit.
 pub fn digit(b: u8) -> bool
     ensures { result ≡ is_digit b }
 {
-    if b < 48 {
-        return false;
-    }
-    b < 58
+    b.is_ascii_digit()
 }
 
 // The string that begins at `at`.
-pub fn string(text: &[u8], at: usize) -> Text
+pub fn string(text: &[u8], at: usize) -> Result<Part, Refusal>
     ensures { (n : ℕ) → text_of text.now n result ≡ string_at (length text.now) (drop at text.now) at n }
 {
-    if text.len() <= at {
-        return broken(number::CUT, text.len());
+    let first = byte_at(text, at)?;
+    if !digit(first) {
+        return Err(refuse(number::BYTE, at));
     }
-    if digit(text[at]) {
-        return string_from(text, at);
+    let run = number_from(text, first, at + 1);
+    expect(text, run.next, b':')?;
+    let from = run.next + 1;
+    if ((text.len() - from) as u64) < run.value {
+        return Err(refuse(number::CUT, text.len()));
     }
-    broken(number::BYTE, at)
+    Ok(Part {
+        from,
+        len: run.value as usize,
+    })
 }
 
 // The integer, of any length, that begins at `at`.
-pub fn integer(text: &[u8], at: usize) -> Int
+#[tactic(auto, unfolding(crate::specs::Reading::integer_of))]
+pub fn integer(text: &[u8], at: usize) -> Result<Int, Refusal>
     ensures { (n : ℕ) → result ≡ integer_is (integer_at (length text.now) (drop at text.now) at n) }
 {
-    if text.len() <= at {
-        return unread(number::CUT, text.len());
-    }
-    if text[at] != b'i' {
-        return unread(number::BYTE, at);
-    }
+    expect(text, at, b'i')?;
     let p = at + 1;
-    if text.len() <= p {
-        return unread(number::CUT, text.len());
-    }
-    let b = text[p];
-    if b == b'-' {
+    let first = byte_at(text, p)?;
+    if first == b'-' {
         return negative(text, p + 1);
     }
-    if digit(b) {
-        return closed(text, false, b, p + 1);
+    if !digit(first) {
+        return Err(refuse(number::BYTE, p));
     }
-    unread(number::BYTE, p)
+    let run = closed(text, first, p + 1)?;
+    Ok(from_zero(run))
 }
 
 // Whether one key comes before another.
 pub fn precedes(a: &[u8], b: &[u8]) -> bool
     ensures { result ≡ key_lt a.now b.now }
 {
-    let mut i = 0;
-    while i < a.len() {
-        if b.len() <= i {
-            return false;
-        }
-        let x = a[i];
-        let y = b[i];
-        if x < y {
-            return true;
-        }
-        if y < x {
-            return false;
-        }
-        i += 1;
-    }
-    a.len() < b.len()
+    a.cmp(&b).is_lt()
 }
 
-fn broken(number: u8, place: usize) -> Text
-    ensures { result ≡ Text.Refused (record { number = number; place = place }) }
+// The byte at `at`.
+fn byte_at(text: &[u8], at: usize) -> Result<u8, Refusal>
+    ensures { MatchResult result (λ b. ByteAt text.now at b) (λ r. (length text.now ≤ at) × (r ≡ record { number = cut; place = length text.now })) }
 {
-    Text::Refused(refusal::refuse(number, place))
+    if at < text.len() {
+        Ok(text[at])
+    } else {
+        Err(refuse(number::CUT, text.len()))
+    }
 }
 
-fn unread(number: u8, place: usize) -> Int
-    ensures { result ≡ Int.Refused (record { number = number; place = place }) }
+// Whether b stands at `at`.
+fn expect(text: &[u8], at: usize, b: u8) -> Result<(), Refusal>
+    ensures { MatchResult result (λ _. ByteAt text.now at b) (Missing text.now at b) }
 {
-    Int::Refused(refusal::refuse(number, place))
-}
-
-// The string whose first digit stands at `at`.
-fn string_from(text: &[u8], at: usize) -> Text
-    requires { (at < length text.now) × (is_digit (get_or text.now at 0) ≡ true) }
-    ensures { (n : ℕ) → text_of text.now n result ≡ string_at (length text.now) (drop at text.now) at n }
-{
-    let run = number_from(text, text[at], at + 1);
-    let colon = run.next;
-    let len = run.value;
-    if text.len() <= colon {
-        return broken(number::CUT, text.len());
+    if byte_at(text, at)? == b {
+        Ok(())
+    } else {
+        Err(refuse(number::BYTE, at))
     }
-    if text[colon] != b':' {
-        return broken(number::BYTE, colon);
-    }
-    let left = text.len() - (colon + 1);
-    if (left as u64) < len {
-        return broken(number::CUT, text.len());
-    }
-    Text::Whole(colon + 1, len as usize)
 }
 
 // The rest of an integer, from after its minus on.
-fn negative(text: &[u8], at: usize) -> Int
+fn negative(text: &[u8], at: usize) -> Result<Int, Refusal>
     ensures { (n : ℕ) → result ≡ integer_is (minus_at (length text.now) (drop at text.now) at n) }
 {
-    if text.len() <= at {
-        return unread(number::CUT, text.len());
+    let first = byte_at(text, at)?;
+    if first == b'0' || !digit(first) {
+        return Err(refuse(number::BYTE, at));
     }
-    let first = text[at];
-    if first == b'0' {
-        return unread(number::BYTE, at);
-    }
-    if digit(first) {
-        return closed(text, true, first, at + 1);
-    }
-    unread(number::BYTE, at)
+    let run = closed(text, first, at + 1)?;
+    Ok(below_zero(run))
 }
 
-// The rest of an integer whose first digit b stands before `at`.
-fn closed(text: &[u8], minus: bool, b: u8, at: usize) -> Int
-    requires { (at ≤ length text.now) × (is_digit b ≡ true) × (minus ≡ true → b ≡ 48 → ⊥) }
-    ensures { (n : ℕ) → result ≡ integer_is (closed_of minus (length text.now) b (drop at text.now) at n) }
+// The rest of an integer whose first digit b stands before `at`: its number, and the place past its e.
+fn closed(text: &[u8], b: u8, at: usize) -> Result<Run, Refusal>
+    requires { (at ≤ length text.now) × (is_digit b ≡ true) }
+    ensures { Closes text.now b at result }
 {
     let run = number_from(text, b, at);
-    let end = run.next;
-    if text.len() <= end {
-        return unread(number::CUT, text.len());
-    }
-    if text[end] != b'e' {
-        return unread(number::BYTE, end);
-    }
-    if minus {
-        below_zero(run.value, end + 1)
-    } else {
-        from_zero(run.value, end + 1)
-    }
+    expect(text, run.next, b'e')?;
+    Ok(Run {
+        value: run.value,
+        next: run.next + 1,
+    })
 }
 
-// The integer n whose digits stand for v, as far as ten to the 19th.
-fn from_zero(v: u64, next: usize) -> Int
-    ensures { (n : ℕ) → v ≡ min n 10000000000000000000 → result ≡ integer_is (got (pos n) [] next 0) }
+// The integer n of that run.
+fn from_zero(run: Run) -> Int
+    ensures { (n : ℕ) → run.value ≡ min n top → Ok result ≡ integer_is (got (pos n) [] run.next 0) }
 {
-    if v < 9223372036854775808 {
-        Int::Is(v as i64, next)
-    } else {
-        Int::Large(next)
-    }
+    in_64_bits(0i64.checked_add_unsigned(run.value), run.next)
 }
 
-// The integer -n whose digits stand for v, as far as ten to the 19th.
-fn below_zero(v: u64, next: usize) -> Int
-    requires { 1 ≤ v }
-    ensures { (n : ℕ) → v ≡ min n 10000000000000000000 → result ≡ integer_is (got (negsuc (pred n)) [] next 0) }
+// The integer -n of that run.
+fn below_zero(run: Run) -> Int
+    requires { 1 ≤ run.value }
+    ensures { (n : ℕ) → run.value ≡ min n top → Ok result ≡ integer_is (got (negsuc (pred n)) [] run.next 0) }
 {
-    let less = v - 1;
-    if less < 9223372036854775808 {
-        Int::Is(-1 - less as i64, next)
-    } else {
-        Int::Large(next)
+    in_64_bits(0i64.checked_sub_unsigned(run.value), run.next)
+}
+
+// An integer by its value, if that has 64 bits.
+fn in_64_bits(z: Option<i64>, next: usize) -> Int
+    ensures { MatchOption z (result ≡ Large next) (λ z. result ≡ Is z next) }
+{
+    match z {
+        Some(z) => Int::Is(z, next),
+        None => Int::Large(next),
     }
 }
 
-// The number that a run of digits stands for, as far as ten to the 19th, and where the run ends.
+// The number that a run of digits stands for, or the greatest of 64 bits if it is above that, and where the run ends.
 #[derive(Clone, Copy)]
 struct Run {
     value: u64,
@@ -196,66 +154,30 @@ struct Run {
 // The number whose first digit b stands before `at`.
 fn number_from(text: &[u8], b: u8, at: usize) -> Run
     requires { (at ≤ length text.now) × (is_digit b ≡ true) }
-    ensures { (result.value ≡ min (num_val b (drop at text.now)) 10000000000000000000) × (result.next ≡ at + num_len b (drop at text.now)) }
+    ensures { (result.value ≡ min (num_val b (drop at text.now)) top) × (result.next ≡ at + num_len b (drop at text.now)) }
 {
     if b == b'0' {
         Run { value: 0, next: at }
     } else {
-        digits(text, at, b as u64 - 48)
+        digits(text, at, (b - b'0') as u64)
     }
 }
 
-// The run of digits from `at` on, whose first digits stand for `acc`. Those past ten to the 19th are only passed.
+// The run of digits from `at` on, whose first digits stand for `acc`.
 fn digits(text: &[u8], at: usize, acc: u64) -> Run
     requires { (at ≤ length text.now) × (acc < 10) }
-    ensures { (result.value ≡ min (digits_val acc (drop at text.now)) 10000000000000000000) × (result.next ≡ at + digits_len (drop at text.now)) }
+    ensures { (result.value ≡ min (digits_val acc (drop at text.now)) top) × (result.next ≡ at + digits_len (drop at text.now)) }
 {
-    let mut i = at;
     let mut value = acc;
-    while i < text.len() {
+    for i in at..text.len() {
         let b = text[i];
-        if digit(b) {
-            if 1000000000000000000 <= value {
-                return Run {
-                    value: 10000000000000000000,
-                    next: run_end(text, i),
-                };
-            }
-            value = push(value, b);
-            i += 1;
-        } else {
-            return Run {
-                value: value,
-                next: i,
-            };
+        if !digit(b) {
+            return Run { value, next: i };
         }
+        value = value.saturating_mul(10).saturating_add((b - b'0') as u64);
     }
     Run {
-        value: value,
-        next: i,
+        value,
+        next: text.len(),
     }
-}
-
-// One digit more.
-fn push(acc: u64, b: u8) -> u64
-    requires { (acc < 1000000000000000000) × (48 ≤ b) × (b < 58) }
-    ensures { result ≡ acc * 10 + (b - 48) }
-{
-    acc * 10 + (b as u64 - 48)
-}
-
-// Where the run of digits from `at` on ends.
-fn run_end(text: &[u8], at: usize) -> usize
-    requires { at ≤ length text.now }
-    ensures { result ≡ at + digits_len (drop at text.now) }
-{
-    let mut i = at;
-    while i < text.len() {
-        if digit(text[i]) {
-            i += 1;
-        } else {
-            return i;
-        }
-    }
-    i
 }

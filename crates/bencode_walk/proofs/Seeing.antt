@@ -1,14 +1,15 @@
 -- What stands at a place p of a text s, case by case as the code meets it. Assumes nothing.
-use mathlib.Core.Path.{◌≡◌, refl, sym, ap, ◌∙◌, subst}
-use mathlib.Core.Bool.{Bool, true, false, cond}
+use Rattle.std.specs.Prelude.{Err, Ok, Result}
+use Rattle.bencode.specs.declared.Cursor.{Cursor}
+use mathlib.Core.Path.{◌≡◌, refl, sym, ap, ◌∙◌}
+use mathlib.Core.Bool.{Bool, true, false}
 use mathlib.Core.List.{List, [], ◌∷◌}
 use Prim.Native.Nat.{ℕ, ◌+◌, ◌-◌, ◌<◌, ◌≤◌, ◌^◌, min}
 use native.Mathlib.Omega.{arith}
 use lib.Dec.{ltb}
 use lib.IntN.{ℤ, pos, negsuc}
 use mir.Syntax.{w64}
-use mir.Val.{SFits, to_z, of_z}
-use mir.ValLaws.{to_z-of_z}
+use mir.Val.{SFits}
 use lib.ListN.{length, get_or, take, drop, length-append, length-drop, length-take, drop_of_length-le}
 use lib.Seq.{take_all, take-nil, drop-length}
 use borrow.Author.Tests.{ne_eqb, ltb-true, ltb-false}
@@ -16,34 +17,30 @@ use Rattle.refusal.specs.Paper.{Outcome, taken, refused, refusal}
 use Rattle.refusal.specs.Numbers.{cut, long as too_long_of}
 use Rattle.refusal.specs.Limits.{most_text}
 use Rattle.refusal.specs.declared.Refusal.{Refusal}
+use Rattle.refusal.specs.declared.Part.{Part}
 use Rattle.refusal.proofs.Cases.{no_way}
 use Rattle.bencode_scalar.specs.Written.{signed, in_range}
 use Rattle.bencode_scalar.specs.Reading.{Got, got, bad, on_head, string_at, integer_at}
 use Rattle.bencode_scalar.specs.Answers.{text_of, integer_is}
-use Rattle.bencode_scalar.specs.declared.Text.TheVariants.{Whole, Refused as Broken}
-use Rattle.bencode_scalar.specs.declared.Int.{Int}
-use Rattle.bencode_scalar.specs.declared.Int.TheVariants.{Is, Large, Refused as Unread}
+use Rattle.bencode_scalar.specs.declared.Int.TheVariants.{Is, Large}
 use Rattle.bencode_scalar.proofs.Forms.{at_head, at_byte}
 use Rattle.bencode_scalar.proofs.Sound.{Holds, IntP, integer-at-sound}
 use Rattle.bencode.specs.Value.{Value}
 use Rattle.bencode.specs.Answers.{step_of}
-use Rattle.bencode.specs.declared.Step.{Step}
-use Rattle.bencode.specs.declared.Step.TheVariants.{Past as Passed, Refused as Failed}
 use Rattle.bencode_scalar.proofs.Determined.{whole-inside}
-use Rattle.bencode_walk.specs.Walk.{Head, string, integer, long, list, dictionary, end, string_head, integer_head, string_seen, integer_seen, look_at_of, look_of, past_of}
+use Rattle.bencode_walk.specs.Walk.{Head, string, list, dictionary, end, string_head, string_seen, integer_seen, look_at_of, look_of, past_of}
 use Rattle.bencode_walk.proofs.Limited.{unless-long, unless-short}
 
 -- a string
 module _ (s : List ℕ) (p : ℕ) where
-  pub whole-seen : (a m : ℕ) → p ≤ length s → text_of s 0 (Whole a m) ≡ string_at (length s) (drop p s) p 0 → taken (string a m (a + m)) ≡ string_seen s p
-  whole-seen a m h e =
-      let i : a + m ≤ length s = whole-inside s p a m h e in
+  pub whole-seen : (b : Part) → p ≤ length s → text_of s 0 (Ok b) ≡ string_at (length s) (drop p s) p 0 → taken (string b.from b.len (b.from + b.len)) ≡ string_seen s p
+  whole-seen b h e =
+      let a = b.from in
+      let m = b.len in
+      let i : a + m ≤ length s = whole-inside s p b h e in
       let k : length (take m (drop a s)) ≡ m = length-take m (drop a s) ∙ omega (arith, length-drop a s) in
       let f : a + m - length (take m (drop a s)) ≡ a = omega arith in
       sym (ap string_head (sym e) ∙ rw (f, k))
-
-  pub broken-seen : (r : Refusal) → text_of s 0 (Broken r) ≡ string_at (length s) (drop p s) p 0 → refusal r ≡ string_seen s p
-  broken-seen r e = ap string_head e
 
 -- an integer that is answered fits 64 bits
 pub range-fits : (z : ℤ) → in_range z ≡ true → SFits w64 z
@@ -52,49 +49,19 @@ range-fits (negsuc n) e = record { sfits = ltb-true n (2 ^ 63) e }
 
 -- an integer, by the code's answer
 module _ (p : ℕ) where
-  abbrev pub head_of : Int → Outcome Head
-  head_of (Is z q) = taken (integer z q)
-  head_of (Large q) = taken (long (p + 1) (q - (p + 2)) q)
-  head_of (Unread r) = refusal r
-
-  head-by : (g : Got ℤ) → head_of (integer_is g) ≡ integer_head p g
-  head-by (got z l q n) = go (in_range z) refl
-    where
-      go : (t : Bool) → in_range z ≡ t → head_of (cond (in_range z) (Is z q) (Large q)) ≡ taken (cond (in_range z) (integer z q) (long (p + 1) (q - (p + 2)) q))
-      go true e = rw e
-      go false e = rw e
-  head-by (bad r o) = refl
-
-  pub integer-seen : (s : List ℕ) (i : Int) → i ≡ integer_is (integer_at (length s) (drop p s) p 0) → head_of i ≡ integer_seen s p
-  integer-seen s i e = ap head_of e ∙ head-by (integer_at (length s) (drop p s) p 0)
-
-  fits_by : (g : Got ℤ) (z : ℤ) (q : ℕ) → Is z q ≡ integer_is g → SFits w64 z
-  fits_by (got y l o m) z q e = go (in_range y) refl
-    where
-      go : (t : Bool) → in_range y ≡ t → SFits w64 z
-      go true x =
-          let f : Is z q ≡ Is y o = e ∙ rw x in
-          let k : y ≡ z = cc in
-          subst (SFits w64) k (range-fits y x)
-      go false x = let f : Is z q ≡ Large o = e ∙ rw x in no_way (cc)
-  fits_by (bad r o) z q e = no_way (cc)
-
-  pub is_seen : (s : List ℕ) (z : ℤ) (q : ℕ) → Is z q ≡ integer_is (integer_at (length s) (drop p s) p 0) → taken (integer (to_z w64 (of_z w64 z)) q) ≡ integer_seen s p
-  is_seen s z q e = ap (λ (y : ℤ). taken (integer y q)) (to_z-of_z w64 z (fits_by (integer_at (length s) (drop p s) p 0) z q e)) ∙ integer-seen s (Is z q) e
-
-  wide_by : (l : List ℕ) (g : Got ℤ) → Holds (IntP l p 0) g → (q : ℕ) → Large q ≡ integer_is g → p + 2 ≤ q
+  wide_by : (l : List ℕ) (g : Got ℤ) → Holds (IntP l p 0) g → (q : ℕ) → (Ok (Large q)) ≡ integer_is g → p + 2 ≤ q
   wide_by l (got z r o m) h q e = go (in_range z) refl
     where
       go : (t : Bool) → in_range z ≡ t → p + 2 ≤ q
-      go true x = let f : Large q ≡ Is z o = e ∙ rw x in no_way (cc)
+      go true x = let f : (Ok (Large q)) ≡ (Ok (Is z o)) = e ∙ rw x in no_way (cc)
       go false x =
-          let f : Large q ≡ Large o = e ∙ rw x in
+          let f : (Ok (Large q)) ≡ (Ok (Large o)) = e ∙ rw x in
           let k : q ≡ o = cc in
           omega (arith, h.0.place, length-append (signed z) (101 ∷ []))
   wide_by l (bad r o) h q e = no_way (cc)
 
   -- an integer has an i and an e
-  pub wide : (s : List ℕ) (q : ℕ) → Large q ≡ integer_is (integer_at (length s) (drop p s) p 0) → p + 2 ≤ q
+  pub wide : (s : List ℕ) (q : ℕ) → (Ok (Large q)) ≡ integer_is (integer_at (length s) (drop p s) p 0) → p + 2 ≤ q
   wide s q e = wide_by (drop p s) (integer_at (length s) (drop p s) p 0) (integer-at-sound (length s) (drop p s) p 0) q e
 
 -- by the byte at p
@@ -135,9 +102,9 @@ module _ (s : List ℕ) (p : ℕ) where
       look-string i o d e = sym (ap (by_head s p) (at_head s p h) ∙ rw (ne_eqb _ _ i, ne_eqb _ _ o, ne_eqb _ _ d, ne_eqb _ _ e)) ∙ look-short
 
 -- the place past a value, by the reader's answer
-abbrev pub by_step : Step → Outcome ℕ
-by_step (Passed c) = taken c.at
-by_step (Failed r) = refusal r
+abbrev pub by_step : Result Cursor Refusal → Outcome ℕ
+by_step (Ok c) = taken c.at
+by_step (Err r) = refusal r
 
 pub past_by : (g : Got Value) → by_step (step_of g) ≡ past_of g
 past_by (got v l q n) = refl

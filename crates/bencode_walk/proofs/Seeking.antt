@@ -1,4 +1,5 @@
 -- The search for a key, as the code goes through it. Assumes nothing.
+use Rattle.std.specs.Prelude.{Err, Ok}
 use mathlib.Core.Path.{◌≡◌, refl, sym, ap, ◌∙◌, subst}
 use mathlib.Core.Bool.{Bool, true, false, cond}
 use mathlib.Core.List.{List, [], ◌∷◌}
@@ -6,23 +7,22 @@ use Prim.Native.Nat.{ℕ, zero, suc, ◌+◌, ◌<◌, ◌≤◌, pred}
 use native.Mathlib.Omega.{arith}
 use lib.Dec.{ltb, eqb}
 use lib.IntN.{ℤ}
-use lib.ListN.{length, get_or, take, drop, length-append, length-drop, drop_of_length-le}
-use borrow.Author.Tests.{lt-ltb, le-ltb, ltb-true, ltb-false}
-use Rattle.refusal.specs.Paper.{Outcome, taken, refused, refusal, then}
+use lib.ListN.{length, take, drop, length-append, length-drop, drop_of_length-le}
+use borrow.Author.Tests.{lt-ltb, le-ltb, ltb-true, ltb-false, ne_eqb, eq-eqb}
+use Rattle.std.proofs.Common.{Less, Equal, Greater, nat_cmp}
+use Rattle.std.specs.Cmp.Lexicographic.{slice_cmp}
+use Rattle.refusal.specs.Paper.{paper, Outcome, taken, refused, refusal, then}
 use Rattle.refusal.specs.Limits.{most_text}
 use Rattle.refusal.specs.declared.Refusal.{Refusal}
 use Rattle.refusal.specs.declared.Part.{Part}
-use Rattle.refusal.proofs.Cases.{no_way, by-test}
+use Rattle.refusal.proofs.Cases.{no_way, by-test, less-or}
 use Rattle.bencode_scalar.specs.Written.{decimal, in_range, key_lt}
 use Rattle.bencode_scalar.specs.Reading.{Got, got, bad, string_at, integer_at}
 use Rattle.bencode_scalar.proofs.Sound.{Holds, at_left, TextP, string_at-sound}
 use Rattle.bencode.proofs.Complete.{encode-pos}
 use Rattle.bencode.specs.Value.{encode}
-use Rattle.bencode_scalar.proofs.Keys.{Comparing, comparing-less, comparing-greater, comparing-long, comparing-short}
-use Rattle.bencode_walk.specs.Walk.{Head, string, integer, long, list, dictionary, end, string_head, integer_head, look_at_of, look_of, NextEntry, key, as_entry, entry_paper, entry_of, past_paper, skip_of, found, missing, order_of, seek_by, seek_of}
-use Rattle.bencode_walk.specs.declared.Next.TheVariants.{Key, Close, Refused as Not}
-use Rattle.bencode_walk.specs.declared.Order.TheVariants.{Before, Same, After}
-use Rattle.bencode_walk.specs.declared.Past.TheVariants.{To, Refused as Bad}
+use Rattle.bencode_walk.specs.Walk.{Head, string, integer, long, list, dictionary, end, string_head, integer_head, look_at_of, look_of, NextEntry, key, as_entry, entry_paper, entry_of, skip_of, found, missing, seek_by, seek_of}
+use Rattle.bencode_walk.specs.declared.Next.TheVariants.{Key, Close}
 use Rattle.bencode_walk.proofs.Seeing.{by_head}
 use Rattle.bencode_walk.proofs.Standing.{room, skip-stands}
 
@@ -91,52 +91,40 @@ skip-further s p q e =
 
 -- ---- two keys
 
+-- the library's order of two lists of bytes is that of keys
+cmp_key : (a b : List ℕ) → slice_cmp nat_cmp a b ≡ cond (key_lt a b) Less (cond (key_lt b a) Greater Equal)
+unfolding key_lt
+cmp_key [] [] = refl
+cmp_key [] (y ∷ ys) = refl
+cmp_key (x ∷ xs) [] = refl
+cmp_key (x ∷ xs) (y ∷ ys) =
+    less-or
+    x
+    y
+    (λ h. rw (lt-ltb x y h))
+    (λ h. less-or y x (λ k. rw (le-ltb x y h, lt-ltb y x k, ne_eqb x y (λ e. omega arith))) (λ k. let e : x ≡ y = omega arith in rw (e, le-ltb y y (omega arith), eq-eqb y y refl, cmp_key xs ys)))
+
 module _ (a b : List ℕ) where
-  as_before : true ≡ key_lt a b → Before ≡ order_of a b
-  as_before e = rw (← e)
-
-  as-after : false ≡ key_lt a b → true ≡ key_lt b a → After ≡ order_of a b
-  as-after e f = rw (← e, ← f)
-
-  as_same : false ≡ key_lt a b → false ≡ key_lt b a → Same ≡ order_of a b
-  as_same e f = rw (← e, ← f)
-
-  module _ {i : ℕ} (c : Comparing a b i) (d : Comparing b a i) where
-    pub compare-less : i < length a → i < length b → get_or a i 0 < get_or b i 0 → Before ≡ order_of a b
-    compare-less h k x = as_before (comparing-less a b c h k x)
-
-    pub compare-greater : i < length a → i < length b → get_or b i 0 < get_or a i 0 → After ≡ order_of a b
-    compare-greater h k x = as-after (comparing-greater a b c h k (omega arith) x) (comparing-less b a d k h x)
-
-    pub compare-long : i < length a → length b ≤ i → After ≡ order_of a b
-    compare-long h k = as-after (comparing-long a b c h k) (sym (lt-ltb (length b) (length a) (omega arith)) ∙ comparing-short b a d k)
-
-    pub compare-short : length a ≤ i → length a < length b → Before ≡ order_of a b
-    compare-short h k = as_before (sym (lt-ltb (length a) (length b) k) ∙ comparing-short a b c h)
-
-    pub compare_same : length a ≤ i → length b ≤ length a → Same ≡ order_of a b
-    compare_same h k = as_same (sym (le-ltb (length a) (length b) k) ∙ comparing-short a b c h) (sym (le-ltb (length b) (length a) (omega (arith, d.within))) ∙ comparing-short b a d (omega (arith, d.within)))
-
-  is-before : Before ≡ order_of a b → key_lt a b ≡ true
-  is-before e = go (key_lt a b) (key_lt b a) refl e
+  is-before : Less ≡ slice_cmp nat_cmp a b → key_lt a b ≡ true
+  is-before e = go (key_lt a b) (key_lt b a) (e ∙ cmp_key a b)
     where
-      go : (x y : Bool) → key_lt a b ≡ x → Before ≡ cond x Before (cond y After Same) → x ≡ true
-      go true y f g = refl
-      go false true f g = no_way (cc)
-      go false false f g = no_way (cc)
+      go : (x y : Bool) → Less ≡ cond x Less (cond y Greater Equal) → x ≡ true
+      go true y g = refl
+      go false true g = no_way (cc)
+      go false false g = no_way (cc)
 
-  is_same : Same ≡ order_of a b → (key_lt a b ≡ false) × (key_lt b a ≡ false)
-  is_same e = go (key_lt a b) (key_lt b a) e
+  is_same : Equal ≡ slice_cmp nat_cmp a b → (key_lt a b ≡ false) × (key_lt b a ≡ false)
+  is_same e = go (key_lt a b) (key_lt b a) (e ∙ cmp_key a b)
     where
-      go : (x y : Bool) → Same ≡ cond x Before (cond y After Same) → (x ≡ false) × (y ≡ false)
+      go : (x y : Bool) → Equal ≡ cond x Less (cond y Greater Equal) → (x ≡ false) × (y ≡ false)
       go true y g = no_way (cc)
       go false true g = no_way (cc)
       go false false g = (refl, refl)
 
-  is-after : After ≡ order_of a b → (key_lt a b ≡ false) × (key_lt b a ≡ true)
-  is-after e = go (key_lt a b) (key_lt b a) e
+  is-after : Greater ≡ slice_cmp nat_cmp a b → (key_lt a b ≡ false) × (key_lt b a ≡ true)
+  is-after e = go (key_lt a b) (key_lt b a) (e ∙ cmp_key a b)
     where
-      go : (x y : Bool) → After ≡ cond x Before (cond y After Same) → (x ≡ false) × (y ≡ true)
+      go : (x y : Bool) → Greater ≡ cond x Less (cond y Greater Equal) → (x ≡ false) × (y ≡ true)
       go true y g = no_way (cc)
       go false true g = (refl, refl)
       go false false g = no_way (cc)
@@ -162,29 +150,29 @@ module _ (s k : List ℕ) where
     turn : (d : Outcome NextEntry) → d ≡ entry_of s p → then d (seek_by s p k (λ q. seek_of (pred t.left) s q k)) ≡ seek_of (suc (length s)) s at k
     turn d e = ap (λ (o : Outcome NextEntry). then o (seek_by s p k (λ q. seek_of (pred t.left) s q k))) e ∙ sym (seek-open t.left p t.some) ∙ t.same
 
-    pub seek-close : (q : ℕ) → entry_paper (Close q) ≡ entry_of s p → taken (missing p) ≡ seek_of (suc (length s)) s at k
-    seek-close q e = turn (entry_paper (Close q)) e
+    pub seek-close : (q : ℕ) → entry_paper (Ok (Close q)) ≡ entry_of s p → taken (missing p) ≡ seek_of (suc (length s)) s at k
+    seek-close q e = turn (entry_paper (Ok (Close q))) e
 
-    pub seek-not : (r : Refusal) → entry_paper (Not r) ≡ entry_of s p → refusal r ≡ seek_of (suc (length s)) s at k
-    seek-not r e = turn (entry_paper (Not r)) e
+    pub seek-not : (r : Refusal) → entry_paper (Err r) ≡ entry_of s p → refusal r ≡ seek_of (suc (length s)) s at k
+    seek-not r e = turn (entry_paper (Err r)) e
 
-    module _ (j : Part) (q : ℕ) (e : entry_paper (Key j q) ≡ entry_of s p) (here : List ℕ) (h : here ≡ take j.len (drop j.from s)) where
+    module _ (j : Part) (q : ℕ) (e : entry_paper (Ok (Key j q)) ≡ entry_of s p) (here : List ℕ) (h : here ≡ take j.len (drop j.from s)) where
       at_key : cond (key_lt here k) (then (skip_of s q) (λ r. seek_of (pred t.left) s r k)) (taken (cond (key_lt k here) (missing p) (found p q))) ≡ seek_of (suc (length s)) s at k
-      at_key = rw h (turn (entry_paper (Key j q)) e)
+      at_key = rw h (turn (entry_paper (Ok (Key j q))) e)
 
-      pub seek_found : Same ≡ order_of here k → taken (found p q) ≡ seek_of (suc (length s)) s at k
+      pub seek_found : Equal ≡ slice_cmp nat_cmp here k → taken (found p q) ≡ seek_of (suc (length s)) s at k
       seek_found x = (rw ((is_same here k x).0, (is_same here k x).1) at at_key)
 
-      pub seek-passed : After ≡ order_of here k → taken (missing p) ≡ seek_of (suc (length s)) s at k
+      pub seek-passed : Greater ≡ slice_cmp nat_cmp here k → taken (missing p) ≡ seek_of (suc (length s)) s at k
       seek-passed x = (rw ((is-after here k x).0, (is-after here k x).1) at at_key)
 
       on : key_lt here k ≡ true → then (skip_of s q) (λ r. seek_of (pred t.left) s r k) ≡ seek_of (suc (length s)) s at k
       on x = rw x at at_key
 
-      pub seek-unread : Before ≡ order_of here k → (r : Refusal) → past_paper (Bad r) ≡ skip_of s q → refusal r ≡ seek_of (suc (length s)) s at k
+      pub seek-unread : Less ≡ slice_cmp nat_cmp here k → (r : Refusal) → paper (Err r) ≡ skip_of s q → refusal r ≡ seek_of (suc (length s)) s at k
       seek-unread x r y = ap (λ (o : Outcome ℕ). then o (λ i. seek_of (pred t.left) s i k)) y ∙ on (is-before here k x)
 
-      pub seek-more : Before ≡ order_of here k → (next : ℕ) → past_paper (To next) ≡ skip_of s q → (p < next) × (next ≤ length s) × Seeking at next
+      pub seek-more : Less ≡ slice_cmp nat_cmp here k → (next : ℕ) → paper (Ok next) ≡ skip_of s q → (p < next) × (next ≤ length s) × Seeking at next
       seek-more x next y =
           let a = key-further s p j.from j.len q (sym e) in
           let b = skip-further s q next (sym y) in (

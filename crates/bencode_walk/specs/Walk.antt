@@ -1,5 +1,6 @@
 -- What stands at a place of any text, by its first bytes there. Assumes nothing: these are definitions.
-use Rattle.std.specs.Prelude.{cond, List, ℕ, zero, suc, ◌+◌, ◌-◌, eqb, ℤ, length, take, drop}
+use Rattle.refusal.specs.declared.Refusal.{Refusal}
+use Rattle.std.specs.Prelude.{cond, List, ℕ, zero, suc, ◌+◌, ◌-◌, eqb, ℤ, length, take, drop, Err, Ok, Result}
 use Rattle.refusal.specs.Paper.{Outcome, taken, refused, refusal, then}
 use Rattle.refusal.specs.Numbers.{cut, byte}
 use Rattle.refusal.specs.Limits.{most_levels}
@@ -8,15 +9,11 @@ use Rattle.bencode_scalar.specs.Reading.{Got, got, bad, on_head, string_at, inte
 use Rattle.bencode.specs.Value.{Value}
 use Rattle.bencode.specs.Decode.{value_from, unless_long}
 use Rattle.bencode_walk.specs.declared.Seen.{Seen}
-use Rattle.bencode_walk.specs.declared.Seen.TheVariants.{String, Integer, Long, List as ListSeen, Dictionary, End, Refused}
+use Rattle.bencode_walk.specs.declared.Seen.TheVariants.{String, Integer, Long, List as ListSeen, Dictionary, End}
 use Rattle.bencode_walk.specs.declared.Next.{Next}
-use Rattle.bencode_walk.specs.declared.Next.TheVariants.{Key, Close, Refused as Not}
+use Rattle.bencode_walk.specs.declared.Next.TheVariants.{Key, Close}
 use Rattle.bencode_walk.specs.declared.Sought.{Sought}
-use Rattle.bencode_walk.specs.declared.Sought.TheVariants.{Found, Missing, Refused as Unread}
-use Rattle.bencode_walk.specs.declared.Order.{Order}
-use Rattle.bencode_walk.specs.declared.Order.TheVariants.{Before, Same, After}
-use Rattle.bencode_walk.specs.declared.Past.{Past}
-use Rattle.bencode_walk.specs.declared.Past.TheVariants.{To, Refused as Bad}
+use Rattle.bencode_walk.specs.declared.Sought.TheVariants.{Found, Missing}
 
 -- what can stand at a place; the last number is the place past it, or of the first thing in a list or dictionary
 pub data Head : Type 0 where
@@ -28,14 +25,14 @@ pub data Head : Type 0 where
   end : ℕ → Head
 
 -- what the answers of `look` say: of a string, and of an integer outside 64 bits, where its bytes begin and how many they are
-abbrev pub paper : Seen → Outcome Head
-paper (String p q) = taken (string p.from p.len q)
-paper (Integer z q) = taken (integer z q)
-paper (Long p q) = taken (long p.from p.len q)
-paper (ListSeen q) = taken (list q)
-paper (Dictionary q) = taken (dictionary q)
-paper (End q) = taken (end q)
-paper (Refused r) = refusal r
+abbrev pub seen_paper : Result Seen Refusal → Outcome Head
+seen_paper (Ok (String p q)) = taken (string p.from p.len q)
+seen_paper (Ok (Integer z q)) = taken (integer z q)
+seen_paper (Ok (Long p q)) = taken (long p.from p.len q)
+seen_paper (Ok (ListSeen q)) = taken (list q)
+seen_paper (Ok (Dictionary q)) = taken (dictionary q)
+seen_paper (Ok (End q)) = taken (end q)
+seen_paper (Err r) = refusal r
 
 -- a string that was read: its bytes end where it does
 abbrev pub string_head : Got (List ℕ) → Outcome Head
@@ -71,10 +68,10 @@ pub data NextEntry : Type 0 where
   key : ℕ → ℕ → ℕ → NextEntry
   close : ℕ → NextEntry
 
-abbrev pub entry_paper : Next → Outcome NextEntry
-entry_paper (Key p q) = taken (key p.from p.len q)
-entry_paper (Close q) = taken (close q)
-entry_paper (Not r) = refusal r
+abbrev pub entry_paper : Result Next Refusal → Outcome NextEntry
+entry_paper (Ok (Key p q)) = taken (key p.from p.len q)
+entry_paper (Ok (Close q)) = taken (close q)
+entry_paper (Err r) = refusal r
 
 abbrev pub as_entry : ℕ → Head → Outcome NextEntry
 as_entry at (string p n q) = taken (key p n q)
@@ -86,11 +83,6 @@ as_entry at (end q) = taken (close q)
 
 abbrev pub entry_of : List ℕ → ℕ → Outcome NextEntry
 entry_of s p = then (look_of s p) (as_entry p)
-
--- the place past the value that stands at p
-abbrev pub past_paper : Past → Outcome ℕ
-past_paper (To q) = taken q
-past_paper (Bad r) = refusal r
 
 abbrev pub past_of : Got Value → Outcome ℕ
 past_of (got v l q n) = taken q
@@ -104,14 +96,10 @@ pub data Hit : Type 0 where
   found : ℕ → ℕ → Hit
   missing : ℕ → Hit
 
-abbrev pub seek_paper : Sought → Outcome Hit
-seek_paper (Found p q) = taken (found p q)
-seek_paper (Missing p) = taken (missing p)
-seek_paper (Unread r) = refusal r
-
--- how a key stands to another
-abbrev pub order_of : List ℕ → List ℕ → Order
-order_of j k = cond (key_lt j k) Before (cond (key_lt k j) After Same)
+abbrev pub seek_paper : Result Sought Refusal → Outcome Hit
+seek_paper (Ok (Found p q)) = taken (found p q)
+seek_paper (Ok (Missing p)) = taken (missing p)
+seek_paper (Err r) = refusal r
 
 -- the search for k at the entry that stands at p, with `on` for the search from a later place
 abbrev pub seek_by : List ℕ → ℕ → List ℕ → (ℕ → Outcome Hit) → NextEntry → Outcome Hit

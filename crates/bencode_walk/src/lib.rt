@@ -3,13 +3,15 @@
 // value, part by part.
 #![tactic(auto)]
 
-ghost use Rattle.std.specs.Prelude.{◌≡◌, suc, ◌+◌, ◌-◌, ◌≤◌, min, length};
+ghost use Rattle.refusal.specs.Paper.{paper};
+ghost use Rattle.std.specs.Prelude.{Ok, ◌≡◌, suc, ◌+◌, ◌-◌, ◌≤◌, min, length};
 ghost use Rattle.refusal.specs.Parts.{bytes_at};
-ghost use Rattle.bencode_walk.specs.Walk.{paper, string_seen, integer_seen, look_of, entry_paper, entry_of, past_paper, skip_of, seek_paper, seek_of, order_of};
+ghost use Rattle.bencode_walk.specs.Walk.{seen_paper, string_seen, integer_seen, look_of, entry_paper, entry_of, skip_of, seek_paper, seek_of};
 
-use bencode::{Cursor, Step};
-use bencode_scalar::{Int, Text};
-use refusal::{Part, Refusal, limit, number};
+use bencode::Cursor;
+use bencode_scalar::Int;
+use refusal::{Part, Refusal, limit, number, refuse};
+use std::cmp::Ordering;
 
 // What stands at a place. The last number is the place past it; of a list or dictionary it is the place of the first
 // item or key, or of the e.
@@ -22,7 +24,6 @@ pub enum Seen {
     List(usize),
     Dictionary(usize),
     End(usize),
-    Refused(Refusal),
 }
 
 // What stands where a dictionary's next entry may begin: a key's bytes and the place of its value, or the e and the place past it.
@@ -30,7 +31,6 @@ pub enum Seen {
 pub enum Next {
     Key(Part, usize),
     Close(usize),
-    Refused(Refusal),
 }
 
 // Where a key was found, by the places of its entry and its value, or where it would stand.
@@ -38,95 +38,72 @@ pub enum Next {
 pub enum Sought {
     Found(usize, usize),
     Missing(usize),
-    Refused(Refusal),
-}
-
-// The place past a value.
-#[derive(Clone, Copy)]
-pub enum Past {
-    To(usize),
-    Refused(Refusal),
-}
-
-// How one key stands to another.
-#[derive(Clone, Copy)]
-enum Order {
-    Before,
-    Same,
-    After,
 }
 
 // What stands at a place.
-pub fn look(text: &[u8], at: usize) -> Seen
-    ensures { paper result ≡ look_of text.now at }
+pub fn look(text: &[u8], at: usize) -> Result<Seen, Refusal>
+    ensures { seen_paper result ≡ look_of text.now at }
 {
     if limit::TEXT < text.len() {
-        return refused(number::LONG, 0);
+        return Err(refuse(number::LONG, 0)); // wherever it is looked at
     }
     if text.len() <= at {
-        return refused(number::CUT, text.len());
+        return Err(refuse(number::CUT, text.len()));
     }
     let b = text[at];
     if b == b'i' {
         return integer(text, at);
     }
     if b == b'l' {
-        return Seen::List(at + 1);
+        return Ok(Seen::List(at + 1));
     }
     if b == b'd' {
-        return Seen::Dictionary(at + 1);
+        return Ok(Seen::Dictionary(at + 1));
     }
     if b == b'e' {
-        return Seen::End(at + 1);
+        return Ok(Seen::End(at + 1));
     }
     string(text, at)
 }
 
 // What stands where an entry of a dictionary, or its e, is due.
-pub fn entry(text: &[u8], at: usize) -> Next
+pub fn entry(text: &[u8], at: usize) -> Result<Next, Refusal>
     ensures { entry_paper result ≡ entry_of text.now at }
 {
-    match look(text, at) {
-        Seen::String(key, value) => Next::Key(key, value),
-        Seen::End(past) => Next::Close(past),
-        Seen::Refused(r) => Next::Refused(r),
-        _ => no_key(at),
+    match look(text, at)? {
+        Seen::String(key, value) => Ok(Next::Key(key, value)),
+        Seen::End(past) => Ok(Next::Close(past)),
+        _ => Err(refuse(number::BYTE, at)),
     }
 }
 
 // Where a key stands among the entries from a place on: they ascend, so it stops at the first key that is not before it.
 // A later key may be sought from the place where this one was found or missed.
-pub fn seek(text: &[u8], at: usize, key: &[u8]) -> Sought
+pub fn seek(text: &[u8], at: usize, key: &[u8]) -> Result<Sought, Refusal>
     ensures { seek_paper result ≡ seek_of (suc (length text.now)) text.now at key.now }
 {
     let mut p = at;
     loop {
-        match entry(text, p) {
-            Next::Key(k, value) => match compare(bytes(text, k), key) {
-                Order::Before => match skip(text, value) {
-                    Past::To(next) => p = next,
-                    Past::Refused(r) => return Sought::Refused(r),
-                },
-                Order::Same => return Sought::Found(p, value),
-                Order::After => return Sought::Missing(p),
+        match entry(text, p)? {
+            Next::Key(k, value) => match bytes(text, k).cmp(key) {
+                Ordering::Less => p = skip(text, value)?,
+                Ordering::Equal => return Ok(Sought::Found(p, value)),
+                Ordering::Greater => return Ok(Sought::Missing(p)),
             },
-            Next::Close(_) => return Sought::Missing(p),
-            Next::Refused(r) => return Sought::Refused(r),
+            Next::Close(_) => return Ok(Sought::Missing(p)),
         }
     }
 }
 
 // The place past the value at a place, whatever it holds.
-pub fn skip(text: &[u8], at: usize) -> Past
-    ensures { past_paper result ≡ skip_of text.now at }
+pub fn skip(text: &[u8], at: usize) -> Result<usize, Refusal>
+    ensures { paper result ≡ skip_of text.now at }
 {
     if limit::TEXT < text.len() {
-        return too_long();
+        return Err(refuse(number::LONG, 0));
     }
-    match bencode::value(text, Cursor { at, count: 0 }, limit::LEVELS) {
-        Step::Past(c) => Past::To(c.at),
-        Step::Refused(r) => Past::Refused(r),
-    }
+    let c = bencode::value(text, Cursor { at, count: 0 }, limit::LEVELS)?;
+    Ok(c.at)
 }
 
 // The very part of the text, as far as the text goes.
@@ -140,79 +117,33 @@ pub fn bytes(text: &[u8], p: Part) -> &[u8]
     &text[from..end]
 }
 
-fn string(text: &[u8], at: usize) -> Seen
+fn string(text: &[u8], at: usize) -> Result<Seen, Refusal>
     requires { at ≤ length text.now }
-    ensures { paper result ≡ string_seen text.now at }
+    ensures { seen_paper result ≡ string_seen text.now at }
 {
-    match bencode_scalar::string(text, at) {
-        Text::Whole(from, len) => Seen::String(Part { from, len }, from + len),
-        Text::Refused(r) => Seen::Refused(r),
-    }
+    let part = bencode_scalar::string(text, at)?;
+    Ok(Seen::String(part, part.from + part.len))
 }
 
-fn integer(text: &[u8], at: usize) -> Seen
-    ensures { paper result ≡ integer_seen text.now at }
+fn integer(text: &[u8], at: usize) -> Result<Seen, Refusal>
+    ensures { seen_paper result ≡ integer_seen text.now at }
 {
-    match bencode_scalar::integer(text, at) {
-        Int::Is(z, next) => Seen::Integer(z, next),
+    match bencode_scalar::integer(text, at)? {
+        Int::Is(z, next) => Ok(Seen::Integer(z, next)),
         Int::Large(next) => long(at, next),
-        Int::Refused(r) => Seen::Refused(r),
     }
 }
 
 // Sign and digits stand between the i and the e.
-fn long(at: usize, next: usize) -> Seen
+fn long(at: usize, next: usize) -> Result<Seen, Refusal>
     requires { at + 2 ≤ next }
-    ensures { result ≡ Seen.Long (record { from = at + 1; len = next - (at + 2) }) next }
+    ensures { result ≡ Ok (Seen.Long (record { from = at + 1; len = next - (at + 2) }) next) }
 {
-    Seen::Long(
+    Ok(Seen::Long(
         Part {
             from: at + 1,
             len: next - (at + 2),
         },
         next,
-    )
-}
-
-fn refused(number: u8, place: usize) -> Seen
-    ensures { result ≡ Seen.Refused (record { number = number; place = place }) }
-{
-    Seen::Refused(refusal::refuse(number, place))
-}
-
-fn too_long() -> Past
-    ensures { result ≡ Past.Refused (record { number = 8; place = 0 }) }
-{
-    Past::Refused(refusal::refuse(number::LONG, 0))
-}
-
-// Two keys, by one pass over their bytes.
-fn compare(a: &[u8], b: &[u8]) -> Order
-    ensures { result ≡ order_of a.now b.now }
-{
-    let mut i = 0;
-    while i < a.len() {
-        if b.len() <= i {
-            return Order::After;
-        }
-        let x = a[i];
-        let y = b[i];
-        if x < y {
-            return Order::Before;
-        }
-        if y < x {
-            return Order::After;
-        }
-        i += 1;
-    }
-    if a.len() < b.len() {
-        return Order::Before;
-    }
-    Order::Same
-}
-
-fn no_key(at: usize) -> Next
-    ensures { result ≡ Next.Refused (record { number = 2; place = at }) }
-{
-    Next::Refused(refusal::refuse(number::BYTE, at))
+    ))
 }

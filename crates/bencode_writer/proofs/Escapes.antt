@@ -1,24 +1,7 @@
 -- Bytes with escapes, and as hex digits alone: digit by digit, byte by byte, and how long they can be. Assumes nothing.
-use mathlib.Core.Path.{◌≡◌, refl, sym, ap, ◌∙◌}
-use mathlib.Core.Bool.{Bool, true, false}
-use mathlib.Core.List.{List, [], ◌∷◌, ◌++◌}
-use Prim.Native.Nat.{ℕ, ◌+◌, ◌*◌, ◌/◌, ◌%◌, ◌<◌, ◌≤◌}
-use native.Mathlib.Omega.{arith}
-use native.Mathlib.Numerals.{add-one}
-use borrow.Author.Tests.{lt-ltb, le-ltb}
-use lib.ListN.{length, get_or, drop, set, length-append, drop_of_length-le}
+use Rattle.std.proofs.Common.{◌≡◌, refl, sym, ap, ◌∙◌, Bool, true, false, List, [], ◌∷◌, ◌++◌, ℕ, ◌+◌, ◌*◌, ◌/◌, ◌%◌, ◌<◌, ◌≤◌, arith, add-one, length, get_or, drop, length-append, drop_of_length-le}
 use lib.Seq.{drop-cons}
-use Rattle.bencode_writer.specs.Put.{Ran}
-use Rattle.bencode_writer.specs.Escaped.{hex_digit, percent, escaped_byte, escaped_by, small_digit, small_hex}
-
-pub hex-low : (n : ℕ) → n < 10 → 48 + n ≡ hex_digit n
-hex-low n h = rw (lt-ltb n 10 h)
-
-pub hex-high : (n : ℕ) → 10 ≤ n → 55 + n ≡ hex_digit n
-hex-high n h = rw (le-ltb n 10 h)
-
-pub percent-is : (b : ℕ) {h l : ℕ} → h ≡ hex_digit (b / 16) → l ≡ hex_digit (b % 16) → 37 ∷ h ∷ l ∷ [] ≡ percent b
-percent-is b x y = rw (x, y)
+use Rattle.bencode_writer.specs.Escaped.{percent, escaped_byte, escaped_by, small_digit, small_hex}
 
 -- by which bytes are kept plain
 module _ (plain : ℕ → Bool) where
@@ -48,15 +31,6 @@ module _ (plain : ℕ → Bool) where
   escaped-most (b ∷ s) = omega (arith, length-append (escaped_byte plain b) (escaped_by plain s), byte-most b (plain b) refl, escaped-most s)
 
 -- ---- as hex digits alone
-
-pub small_low : (n : ℕ) → n < 10 → 48 + n ≡ small_digit n
-small_low n h = rw (lt-ltb n 10 h)
-
-pub small-high : (n : ℕ) → 10 ≤ n → 87 + n ≡ small_digit n
-small-high n h = rw (le-ltb n 10 h)
-
-pub put-digits : (x y at : ℕ) (o : List ℕ) {a b : ℕ} → a ≡ x → b ≡ y → Ran (x ∷ y ∷ []) at o (at + 2) (set (set o at a) (at + 1) b)
-put-digits x y at o e f = record { place = refl; out = rw (e, f, add-one) }
 
 module _ (s : List ℕ) (i : ℕ) where
   pub hex-more : i < length s → small_hex (drop i s) ≡ (small_digit (get_or s i 0 / 16) ∷ small_digit (get_or s i 0 % 16) ∷ []) ++ small_hex (drop (i + 1) s)

@@ -1,29 +1,17 @@
 -- What `put_of` says of every writer: when it is taken and when it is refused, and what then stands in the output. Assumes nothing.
-use mathlib.Core.Path.{◌≡◌, refl, sym, ap, ◌∙◌}
-use mathlib.Core.Bool.{Bool, true, false}
-use mathlib.Core.List.{List, ◌++◌, append_assoc}
-use Prim.Native.Nat.{ℕ, ◌+◌, ◌<◌, ◌≤◌}
-use native.Mathlib.Omega.{arith}
+use Rattle.std.proofs.Common.{Err, Result, ◌≡◌, refl, sym, ap, ◌∙◌, Bool, true, false, List, ◌++◌, append_assoc, ℕ, ◌+◌, ◌<◌, ◌≤◌, arith, leb, length, take, drop, length-append}
+use Rattle.refusal.specs.declared.Refusal.{Refusal}
 use borrow.Author.Tests.{le-leb, lt-leb, leb-true, leb-false}
-use lib.Dec.{leb}
-use lib.ListN.{length, take, drop, length-append}
 use lib.Seq.{sets, sets-eq, length-take-le, take_at, drop_at}
-use Rattle.refusal.specs.Paper.{taken, refused}
+use Rattle.refusal.specs.Paper.{paper, taken, refused}
 use Rattle.refusal.specs.Numbers.{room}
 use Rattle.refusal.proofs.Places.{stands}
-use Rattle.bencode_writer.specs.Put.{Left, paper, left, put_of}
-use Rattle.bencode_writer.specs.declared.Put.{Put}
-use Rattle.bencode_writer.specs.declared.Put.TheVariants.{To, Refused}
+use Rattle.refusal.proofs.Outcomes.{paper-determined}
+use Rattle.bencode_writer.specs.Put.{Left, left, put_of}
 
 -- document 01's words tell the code's answers apart
-pub paper-apart : (r s : Put) → paper r ≡ paper s → r ≡ s
-paper-apart (To a) (To b) e = cc
-paper-apart (To a) (Refused s) e = let z : ◌≡◌ {A = ℕ} 0 1 = cc in absurd (omega arith)
-paper-apart (Refused r) (To b) e = let z : ◌≡◌ {A = ℕ} 0 1 = cc in absurd (omega arith)
-paper-apart (Refused r) (Refused s) e =
-    let n : r.number ≡ s.number = cc in
-    let p : r.place ≡ s.place = cc in
-    ap (λ (x : ℕ). Refused (record { number = x; place = r.place })) n ∙ ap (λ (x : ℕ). Refused (record { number = s.number; place = x })) p
+pub paper-apart : (r s : Result ℕ Refusal) → paper r ≡ paper s → r ≡ s
+paper-apart r s e = paper-determined (paper s) r s e refl
 
 -- w stands at its place of out, and all else is as in o
 pub record Standing (w : List ℕ) (at : ℕ) (o out : List ℕ) : Type 0 where
@@ -45,7 +33,7 @@ module _ (w : List ℕ) (at : ℕ) (o : List ℕ) where
   pub put-done : {r : ℕ} {out : List ℕ} → at + length w ≤ length o → r ≡ at + length w → out ≡ sets o at w → left (taken r) out ≡ put_of w at o
   put-done h e s = rw (e, s) (sym (put_whole h))
 
-  pub put-nothing : {r : Put} → length o < at + length w → r ≡ Refused (record { number = room; place = 0 }) → left (paper r) o ≡ put_of w at o
+  pub put-nothing : {r : Result ℕ Refusal} → length o < at + length w → r ≡ Err (record { number = room; place = 0 }) → left (paper r) o ≡ put_of w at o
   put-nothing h e = rw e (sym (put-none h))
 
   -- by whether they fit
@@ -68,8 +56,8 @@ module _ (w : List ℕ) (at : ℕ) (o : List ℕ) where
       }
 
   -- what a writer's contract permits, for one entry
-  module _ (r : Put) {out : List ℕ} (e : left (paper r) out ≡ put_of w at o) where
-    pub determined : (s : Put) {out' : List ℕ} → left (paper s) out' ≡ put_of w at o → (r ≡ s) × (out ≡ out')
+  module _ (r : Result ℕ Refusal) {out : List ℕ} (e : left (paper r) out ≡ put_of w at o) where
+    pub determined : (s : Result ℕ Refusal) {out' : List ℕ} → left (paper s) out' ≡ put_of w at o → (r ≡ s) × (out ≡ out')
     determined s f = (paper-apart r s (ap (λ (x : Left). x.answer) (e ∙ sym f)), ap (λ (x : Left). x.out) (e ∙ sym f))
 
     -- 37 exactly where they do not fit

@@ -1,17 +1,11 @@
 -- What a call that writes comes to, by its outcome: when it is taken and what the output holds then, and when it is refused. Assumes nothing.
-use mathlib.Core.Path.{◌≡◌, refl, sym, ap, ◌∙◌}
-use mathlib.Core.Logic.{◌⊎◌, inl, inr, ◌↔◌}
-use mathlib.Core.List.{List, ◌++◌}
-use Prim.Native.Nat.{ℕ, ◌+◌, ◌≤◌, ◌<◌}
-use native.Mathlib.Omega.{arith}
-use lib.ListN.{length, drop}
+use Rattle.std.proofs.Common.{Err, Result, ◌≡◌, refl, sym, ap, ◌∙◌, ◌⊎◌, inl, inr, ◌↔◌, List, ◌++◌, ℕ, ◌+◌, ◌≤◌, ◌<◌, arith, length, drop}
+use Rattle.refusal.specs.declared.Refusal.{Refusal}
 use lib.Seq.{sets, sets-eq}
-use Rattle.refusal.specs.Paper.{Outcome, taken, refused}
+use Rattle.refusal.specs.Paper.{paper, Outcome, taken, refused}
 use Rattle.refusal.proofs.Cases.{less-or}
 use Rattle.refusal.proofs.Outcomes.{not_taken, not-refused, same-refusal}
-use Rattle.bencode_writer.specs.Put.{Left, left, put_of, puts, paper}
-use Rattle.bencode_writer.specs.declared.Put.{Put}
-use Rattle.bencode_writer.specs.declared.Put.TheVariants.{Refused}
+use Rattle.bencode_writer.specs.Put.{Left, left, put_of, puts}
 use Rattle.bencode_writer.proofs.Laws.{put_whole, put-none, refusal-keeps}
 
 -- bytes at the front of the output
@@ -26,7 +20,7 @@ refusal_is a b = rw (a, b)
 -- 37 exactly where bytes do not fit
 pub put-exactly : (w : List ℕ) (at : ℕ) (o : List ℕ) (n p : ℕ) → (put_of w at o).answer ≡ refused n p ↔ ((n ≡ 37) × (length o < at + length w) × (p ≡ 0))
 put-exactly w at o n p = (
-  λ e. let k = refusal-keeps w at o (Refused (record { number = n; place = p })) (ap (λ (a : Outcome ℕ). left a (put_of w at o).out) (sym e)) refl in (k.0.0, k.0.2, k.0.1),
+  λ e. let k = refusal-keeps w at o (Err (record { number = n; place = p })) (ap (λ (a : Outcome ℕ). left a (put_of w at o).out) (sym e)) refl in (k.0.0, k.0.2, k.0.1),
   λ h. ap (λ (l : Left). l.answer) (put-none w at o h.1) ∙ refusal_is (sym h.0) (sym h.2),
 )
 
@@ -67,6 +61,6 @@ puts-taken o (taken w) q e = let (l, z) = (put-taken w o q).0 e in (w, refl, l, 
 puts-taken o (refused m p) q e = not_taken e
 
 -- a refusal leaves the output
-pub puts-keeps : (x : Outcome (List ℕ)) (o : List ℕ) (r : Put) {out : List ℕ} → left (paper r) out ≡ puts o x → (n p : ℕ) → paper r ≡ refused n p → out ≡ o
+pub puts-keeps : (x : Outcome (List ℕ)) (o : List ℕ) (r : Result ℕ Refusal) {out : List ℕ} → left (paper r) out ≡ puts o x → (n p : ℕ) → paper r ≡ refused n p → out ≡ o
 puts-keeps (taken w) o r f n p h = (refusal-keeps w 0 o r f h).1
 puts-keeps (refused m q) o r f n p h = ap (λ (l : Left). l.out) f

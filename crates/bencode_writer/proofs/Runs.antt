@@ -1,17 +1,10 @@
 -- Bytes put one after the other, and loops that put them. Assumes nothing.
-use mathlib.Core.Path.{◌≡◌, refl, sym, ap, ◌∙◌, subst}
-use mathlib.Core.List.{List, [], ◌++◌, append_assoc}
-use Prim.Native.Nat.{ℕ, ◌+◌, ◌-◌, ◌≤◌}
-use native.Mathlib.Omega.{arith}
-use lib.ListN.{length, take, drop, length-append}
+use Rattle.std.proofs.Common.{◌≡◌, refl, sym, ap, ◌∙◌, subst, List, [], ◌++◌, append_assoc, ℕ, ◌+◌, ◌-◌, ◌≤◌, arith, length, take, drop, length-append}
 use lib.Seq.{sets, length-sets}
 use Rattle.refusal.specs.Paper.{Outcome}
 use Rattle.refusal.proofs.Places.{sets-append, stands}
 use Rattle.bencode_writer.specs.Put.{Left, left, put_of, place_past, Ran}
 use Rattle.bencode_writer.proofs.Laws.{put_whole}
-
-pub ran-none : (at : ℕ) (o : List ℕ) → Ran [] at o at o
-ran-none at o = record { place = omega arith; out = refl }
 
 module _ {w : List ℕ} {at : ℕ} {o : List ℕ} {r : ℕ} {p : List ℕ} (h : Ran w at o r p) where
   pub ran-length : length p ≡ length o

@@ -1,16 +1,9 @@
 -- What putting bytes into lent output comes to. Assumes nothing: these are definitions.
 use Rattle.std.specs.Prelude.{◌≡◌, cond, List, ℕ, ◌+◌, leb, length}
 use Rattle.std.proofs.lemmas.List.Edits.{sets}
-use Rattle.refusal.specs.Paper.{Outcome, taken, refused, refusal, Left as Leaves}
+use Rattle.refusal.specs.Paper.{Outcome, taken, refused, Left as Leaves}
 pub use Rattle.refusal.specs.Paper.{left}
 use Rattle.refusal.specs.Numbers.{room}
-use Rattle.bencode_writer.specs.declared.Put.{Put}
-use Rattle.bencode_writer.specs.declared.Put.TheVariants.{To, Refused}
-
--- the code's answer in document 01's words: the place past what was written, or a refusal
-abbrev pub paper : Put → Outcome ℕ
-paper (To q) = taken q
-paper (Refused r) = refusal r
 
 -- what a writer leaves: that answer, and the output
 abbrev pub Left : Type 0

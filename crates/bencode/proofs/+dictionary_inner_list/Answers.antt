@@ -12,29 +12,29 @@ dictionary-loop-at-init t c = dict-start _ _ _ _
 pub dictionary-returns-then-text-at-eq101 : goal.dictionary-returns-then-text-at-eq101
 dictionary-returns-then-text-at-eq101 t c = c.past.ensures (omega arith) ∙ dict-close c.args.text.now c.args.levels c.args.from c.args.others c.loop-at.at c.loop-at.count c.loop-at.before c.loop-at.invariant (omega arith) (omega arith)
 
-pub dictionary-overflow_add-at-in-At : goal.dictionary-overflow_add-at-in-At
-dictionary-overflow_add-at-in-At t c = omega (arith, key-further c.args.text.now (prev_of c.args.text.now c.loop-at.before) c.loop-at.at c.loop-at.count c.in-At.from c.in-At.size (omega arith) (ap (key_is c.args.text.now c.loop-at.count) (sym c.in-At.is) ∙ c.next_key.ensures))
+pub dictionary-overflow_add-at-in-Ok : goal.dictionary-overflow_add-at-in-Ok
+dictionary-overflow_add-at-in-Ok t c = omega (arith, key-further c.args.text.now (prev_of c.args.text.now c.loop-at.before) c.loop-at.at c.loop-at.count c.in-Ok.key.from c.in-Ok.key.len (omega arith) (ap (key_is c.args.text.now c.loop-at.count) (sym c.in-Ok.is) ∙ c.next_key.ensures))
 
 pub dictionary-overflow_add-count : goal.dictionary-overflow_add-count
-dictionary-overflow_add-count t c = omega (arith, key-further c.args.text.now (prev_of c.args.text.now c.loop-at.before) c.loop-at.at c.loop-at.count c.in-At.from c.in-At.size (omega arith) (ap (key_is c.args.text.now c.loop-at.count) (sym c.in-At.is) ∙ c.next_key.ensures))
+dictionary-overflow_add-count t c = omega (arith, key-further c.args.text.now (prev_of c.args.text.now c.loop-at.before) c.loop-at.at c.loop-at.count c.in-Ok.key.from c.in-Ok.key.len (omega arith) (ap (key_is c.args.text.now c.loop-at.count) (sym c.in-Ok.is) ∙ c.next_key.ensures))
 
 pub dictionary-loop-at-smaller-then-end-ne0 : goal.dictionary-loop-at-smaller-then-end-ne0
-dictionary-loop-at-smaller-then-end-ne0 t c = omega (arith, (dict-more c.args.text.now c.args.levels c.args.from c.args.others c.loop-at.at c.loop-at.count c.loop-at.before c.loop-at.invariant (omega arith) c.if-text-at-eq101.false c.in-At.from c.in-At.size (ap (key_is c.args.text.now c.loop-at.count) (sym c.in-At.is) ∙ c.next_key.ensures) (record { at = c.leaf-end.result; count = c.loop-at.count + 1 + 1 }) ((c.leaf-end.ensures c.if-end-ne0.true).1 c.args.levels)).0)
+dictionary-loop-at-smaller-then-end-ne0 t c = omega (arith, (dict-more c.args.text.now c.args.levels c.args.from c.args.others c.loop-at.at c.loop-at.count c.loop-at.before c.loop-at.invariant (omega arith) c.if-text-at-eq101.false c.in-Ok.key.from c.in-Ok.key.len (ap (key_is c.args.text.now c.loop-at.count) (sym c.in-Ok.is) ∙ c.next_key.ensures) (record { at = c.leaf-end.result; count = c.loop-at.count + 1 + 1 }) ((c.leaf-end.ensures c.if-end-ne0.true).1 c.args.levels)).0)
 
 pub dictionary-loop-at-preserved-then-end-ne0 : goal.dictionary-loop-at-preserved-then-end-ne0
-dictionary-loop-at-preserved-then-end-ne0 t c = (dict-more c.args.text.now c.args.levels c.args.from c.args.others c.loop-at.at c.loop-at.count c.loop-at.before c.loop-at.invariant (omega arith) c.if-text-at-eq101.false c.in-At.from c.in-At.size (ap (key_is c.args.text.now c.loop-at.count) (sym c.in-At.is) ∙ c.next_key.ensures) (record { at = c.leaf-end.result; count = c.loop-at.count + 1 + 1 }) ((c.leaf-end.ensures c.if-end-ne0.true).1 c.args.levels)).1
+dictionary-loop-at-preserved-then-end-ne0 t c = (dict-more c.args.text.now c.args.levels c.args.from c.args.others c.loop-at.at c.loop-at.count c.loop-at.before c.loop-at.invariant (omega arith) c.if-text-at-eq101.false c.in-Ok.key.from c.in-Ok.key.len (ap (key_is c.args.text.now c.loop-at.count) (sym c.in-Ok.is) ∙ c.next_key.ensures) (record { at = c.leaf-end.result; count = c.loop-at.count + 1 + 1 }) ((c.leaf-end.ensures c.if-end-ne0.true).1 c.args.levels)).1
 
 pub dictionary-returns-then-end-ge9223372036854775808 : goal.dictionary-returns-then-end-ge9223372036854775808
-dictionary-returns-then-end-ge9223372036854775808 t c = told-off _ _ (omega arith) c.inner-end.ensures (dict-bad c.args.text.now c.args.levels c.args.from c.args.others c.loop-at.at c.loop-at.count c.loop-at.before c.loop-at.invariant (omega arith) c.if-text-at-eq101.false c.in-At.from c.in-At.size (ap (key_is c.args.text.now c.loop-at.count) (sym c.in-At.is) ∙ c.next_key.ensures))
+dictionary-returns-then-end-ge9223372036854775808 t c = told-off _ _ (omega arith) c.inner-end.ensures (dict-bad c.args.text.now c.args.levels c.args.from c.args.others c.loop-at.at c.loop-at.count c.loop-at.before c.loop-at.invariant (omega arith) c.if-text-at-eq101.false c.in-Ok.key.from c.in-Ok.key.len (ap (key_is c.args.text.now c.loop-at.count) (sym c.in-Ok.is) ∙ c.next_key.ensures))
 
 pub dictionary-loop-at-smaller : goal.dictionary-loop-at-smaller
-dictionary-loop-at-smaller t c = omega (arith, (dict-more c.args.text.now c.args.levels c.args.from c.args.others c.loop-at.at c.loop-at.count c.loop-at.before c.loop-at.invariant (omega arith) c.if-text-at-eq101.false c.in-At.from c.in-At.size (ap (key_is c.args.text.now c.loop-at.count) (sym c.in-At.is) ∙ c.next_key.ensures) _ (told-on (omega arith) c.inner-end.ensures)).0)
+dictionary-loop-at-smaller t c = omega (arith, (dict-more c.args.text.now c.args.levels c.args.from c.args.others c.loop-at.at c.loop-at.count c.loop-at.before c.loop-at.invariant (omega arith) c.if-text-at-eq101.false c.in-Ok.key.from c.in-Ok.key.len (ap (key_is c.args.text.now c.loop-at.count) (sym c.in-Ok.is) ∙ c.next_key.ensures) _ (told-on (omega arith) c.inner-end.ensures)).0)
 
 pub dictionary-loop-at-preserved : goal.dictionary-loop-at-preserved
-dictionary-loop-at-preserved t c = (dict-more c.args.text.now c.args.levels c.args.from c.args.others c.loop-at.at c.loop-at.count c.loop-at.before c.loop-at.invariant (omega arith) c.if-text-at-eq101.false c.in-At.from c.in-At.size (ap (key_is c.args.text.now c.loop-at.count) (sym c.in-At.is) ∙ c.next_key.ensures) _ (told-on (omega arith) c.inner-end.ensures)).1
+dictionary-loop-at-preserved t c = (dict-more c.args.text.now c.args.levels c.args.from c.args.others c.loop-at.at c.loop-at.count c.loop-at.before c.loop-at.invariant (omega arith) c.if-text-at-eq101.false c.in-Ok.key.from c.in-Ok.key.len (ap (key_is c.args.text.now c.loop-at.count) (sym c.in-Ok.is) ∙ c.next_key.ensures) _ (told-on (omega arith) c.inner-end.ensures)).1
 
-pub dictionary-returns-in-Refused : goal.dictionary-returns-in-Refused
-dictionary-returns-in-Refused t c = c.fail.ensures ∙ dict-not c.args.text.now c.args.levels c.args.from c.args.others c.loop-at.at c.loop-at.count c.loop-at.before c.loop-at.invariant (omega arith) c.if-text-at-eq101.false _ (ap (key_is c.args.text.now c.loop-at.count) (sym c.in-Refused.is) ∙ c.next_key.ensures)
+pub dictionary-returns-in-Err : goal.dictionary-returns-in-Err
+dictionary-returns-in-Err t c = c.fail.ensures ∙ dict-not c.args.text.now c.args.levels c.args.from c.args.others c.loop-at.at c.loop-at.count c.loop-at.before c.loop-at.invariant (omega arith) c.if-text-at-eq101.false _ (ap (key_is c.args.text.now c.loop-at.count) (sym c.in-Err.is) ∙ c.next_key.ensures)
 
 pub dictionary-returns : goal.dictionary-returns
 dictionary-returns t c = c.fail-2.ensures ∙ dict-out c.args.text.now c.args.levels c.args.from c.args.others c.loop-at.at c.loop-at.count c.loop-at.before c.loop-at.invariant (omega arith)

@@ -3,8 +3,8 @@ use mathlib.Core.Path.{sym, subst, ◌∙◌}
 use Rattle.bencode.specs.Answers.{inside}
 use Rattle.bencode.proofs.tell.Goals as goal
 
-pub returns-in-Past : goal.returns-in-Past
-returns-in-Past c = λ h. c.past.ensures (subst inside c.in-Past.is h) ∙ sym c.in-Past.is
+pub returns-in-Ok : goal.returns-in-Ok
+returns-in-Ok c = λ h. c.past.ensures (subst inside c.in-Ok.is h) ∙ sym c.in-Ok.is
 
-pub returns-in-Refused : goal.returns-in-Refused
-returns-in-Refused c = λ h. c.fail.ensures ∙ sym c.in-Refused.is
+pub returns-in-Err : goal.returns-in-Err
+returns-in-Err c = λ h. c.fail.ensures ∙ sym c.in-Err.is

@@ -1,4 +1,5 @@
 -- `bencode_fields::within` meets its contract. Assumes nothing.
+use Rattle.refusal.specs.Paper.{refusal}
 use mathlib.Core.Path.{ap, ◌∙◌}
 use mathlib.Core.Bool.{not}
 use native.Mathlib.Omega.{arith}
@@ -7,14 +8,13 @@ use lib.IntN.{pos}
 use lib.Signed.{lt_z, lt_z_no, yes_non_neg, nat_abs-le}
 use mir.Syntax.{w64}
 use mir.ValLaws.{to_z-of_z}
-use Rattle.bencode_fields.specs.Looks.{number_paper}
 use Rattle.bencode_fields.proofs.Fitting.{below-zero, too_large, in-range}
 use Rattle.bencode_fields.proofs.within.Goals as goal
 
 pub returns-then-z-lt0 : goal.returns-then-z-lt0
 returns-then-z-lt0 c =
     let e = to_z-of_z w64 _ c.ranges.z in
-    ap number_paper c.no_number.ensures ∙ below-zero c.args.most c.args.at c.args.past c.args.z (rw e at c.if-z-lt0.true)
+    ap refusal c.refuse.ensures ∙ below-zero c.args.most c.args.at c.args.past c.args.z (rw e at c.if-z-lt0.true)
 
 pub overflow_cast-n : goal.overflow_cast-n
 overflow_cast-n c =
@@ -26,7 +26,7 @@ overflow_cast-n c =
 pub returns-then-most-n : goal.returns-then-most-n
 returns-then-most-n c =
     let e = to_z-of_z w64 _ c.ranges.z in
-    ap number_paper c.no_number-then-most-n.ensures ∙ too_large c.args.most c.args.at c.args.past c.args.z (rw e at c.if-z-lt0.false) (rw e at c.if-most-n.true)
+    ap refusal c.refuse-then-most-n.ensures ∙ too_large c.args.most c.args.at c.args.past c.args.z (rw e at c.if-z-lt0.false) (rw e at c.if-most-n.true)
 
 pub returns : goal.returns
 returns c =

@@ -7,9 +7,9 @@ use Rattle.bencode_writer.proofs.integer.Goals as goal
 pub returns-then-z-lt0 : goal.returns-then-z-lt0
 returns-then-z-lt0 c =
     let e = to_z-of_z w64 _ c.ranges.z in
-    rw (written_below _ (rw e at c.if-z-lt0.true)) (rw (c.magnitude.ensures, e) at c.joined.ensures)
+    rw (written_below _ (rw e at c.if-z-lt0.true)) (rw (c.unsigned_abs.ensures.value, e) at c.joined.ensures)
 
 pub returns-else-z-lt0 : goal.returns-else-z-lt0
 returns-else-z-lt0 c =
     let e = to_z-of_z w64 _ c.ranges.z in
-    rw (written_from _ (rw e at c.if-z-lt0.false)) (rw (c.magnitude-else-z-lt0.ensures, e) at c.joined-else-z-lt0.ensures)
+    rw (written_from _ (rw e at c.if-z-lt0.false)) (rw (c.unsigned_abs-else-z-lt0.ensures.value, e) at c.joined-else-z-lt0.ensures)

@@ -6,10 +6,10 @@ use Rattle.bencode.proofs.Leaves.{ended-digits}
 use Rattle.bencode.proofs.short.digits.Goals as goal
 
 pub loop-i-preserved : goal.loop-i-preserved
-loop-i-preserved c = passing-more _ _ c.loop-i.invariant (omega arith) (sym c.digit.ensures ∙ c.if-digit.true)
+loop-i-preserved c = passing-more _ _ c.loop-i.invariant (omega arith) (sym c.digit.ensures ∙ c.if-not-digit.false)
 
-pub returns-else-digit : goal.returns-else-digit
-returns-else-digit c = λ z. ended-digits _ _ _ _ c.loop-i.invariant (omega arith) (sym c.digit.ensures ∙ c.if-digit.false) (c.closing.ensures z)
+pub returns-then-not-digit : goal.returns-then-not-digit
+returns-then-not-digit c = λ z. ended-digits _ _ _ _ c.loop-i.invariant (omega arith) (sym c.digit.ensures ∙ c.if-not-digit.true) (c.closing.ensures z)
 
 pub loop-i-init : goal.loop-i-init
 loop-i-init c = passing-start _ _ c.requires

@@ -9,16 +9,16 @@ pub loop-i-init : goal.loop-i-init
 loop-i-init c = reading-start _ _ _ c.requires.0 c.requires.1
 
 pub units-requires : goal.units-requires
-units-requires c = sym c.digit.ensures ∙ c.if-digit.true
+units-requires c = sym c.digit.ensures ∙ c.if-not-digit.false
 
 pub overflow_add-size : goal.overflow_add-size
 overflow_add-size c = omega (arith, c.units.ensures.0, c.units.ensures.1)
 
 pub loop-i-preserved : goal.loop-i-preserved
-loop-i-preserved c = reading-more _ _ _ c.loop-i.invariant (omega arith) (sym c.digit.ensures ∙ c.if-digit.true) (omega arith) (omega (arith, c.units.ensures.0))
+loop-i-preserved c = reading-more _ _ _ c.loop-i.invariant (omega arith) (sym c.digit.ensures ∙ c.if-not-digit.false) (omega arith) (omega (arith, c.units.ensures.0))
 
-pub returns-else-digit : goal.returns-else-digit
-returns-else-digit c = λ z. held-digits _ _ _ _ _ _ (omega arith) c.loop-i.invariant (omega arith) (sym c.digit.ensures ∙ c.if-digit.false) (c.held.ensures z)
+pub returns-then-not-digit : goal.returns-then-not-digit
+returns-then-not-digit c = λ z. held-digits _ _ _ _ _ _ (omega arith) c.loop-i.invariant (omega arith) (sym c.digit.ensures ∙ c.if-not-digit.true) (c.held.ensures z)
 
 pub returns-then-size-ge1000000000000000000 : goal.returns-then-size-ge1000000000000000000
 returns-then-size-ge1000000000000000000 c z = absurd (z refl)

@@ -1,11 +1,6 @@
 -- `bencode::short::sized` meets its contract. Assumes nothing.
-use Prim.Native.Nat.{◌-◌}
-use lib.ListN.{length}
 use Rattle.bencode_scalar.proofs.Decimal.{Reading}
 use Rattle.bencode.proofs.short.sized.Given as goal
 
 abbrev pub invariant-loop-i : goal.invariant-loop-i
 invariant-loop-i l = Reading l.text l.at l.acc l.i l.size
-
-abbrev pub decreases-loop-i : goal.decreases-loop-i
-decreases-loop-i l = length l.text - l.i
