@@ -1,9 +1,10 @@
 -- The fold over blocks, for any function of a block: what a message's parts leave is what the whole leaves. Assumes nothing.
-use Rattle.std.proofs.Common.{◌≡◌, ℕ, zero, suc, ◌+◌, ◌-◌, ◌*◌, ◌/◌, ◌%◌, ◌<◌, ◌≤◌, List, [], ◌∷◌, ◌++◌, length, take, drop, replicate, sym, refl, ap, ◌∙◌, add-zero, add-one, arith, length-append, length-drop, take-append-drop, drop_of_length-le, length-take-le, take_all, take-take, drop-drop, take_at, drop_at}
+use Rattle.std.proofs.Common.{◌≡◌, ℕ, zero, suc, ◌+◌, ◌-◌, ◌*◌, ◌/◌, ◌%◌, ◌<◌, ◌≤◌, List, [], ◌∷◌, ◌++◌, length, get_or, take, drop, replicate, sym, refl, ap, ◌∙◌, add-zero, add-one, add_comm, mul-zero, mul-suc, arith, length-append, length-drop, take-append-drop, drop_of_length-le, length-take-le, take_all, take-take, drop-drop, take_at, drop_at}
 use lib.Seq.{sets, length-sets, take-append-le, drop-append-le, drop-append-add}
 use Rattle.refusal.specs.BigEndian.{bytes_of, number_written}
-use Rattle.hash_digest.specs.Message.{zeros, padding, pad, folded, hashed, rest, filled}
-use Rattle.hash_digest.proofs.Stores.{filled-short, filled-whole, length-filled, length-padding, ends-in, ends-after, fits-written}
+use Rattle.std.specs.Simd.{first_chunks}
+use Rattle.hash_digest.specs.Message.{zeros, padding, pad, folded, block_of, hashed, rest, filled}
+use Rattle.hash_digest.proofs.Stores.{filled-whole, length-filled, length-padding, ends-in, ends-after, fits-written}
 
 -- ---- the bytes after the whole blocks
 
@@ -55,6 +56,14 @@ pad-whole m = omega (arith, length-append m (padding (length m)), length-padding
 
 -- ---- the fold
 
+-- the i-th of the first k chunks of n elements
+chunk_at : {X : Type 0} (n k i : ℕ) (xs d : List X) → i < k → get_or (first_chunks n k xs) i d ≡ take n (drop (n * i) xs)
+chunk_at n zero i xs d b = absurd (omega arith)
+chunk_at n (suc k) zero xs d b = simp mul-zero
+chunk_at n (suc k) (suc i) xs d b =
+    let e : n + n * i ≡ n * suc i = add_comm n (n * i) ∙ sym (mul-suc n i) in
+    chunk_at n k i (drop n xs) d (omega arith) ∙ ap (take n) (drop-drop (n * i) n xs) ∙ ap (λ (j : ℕ). take n (drop j xs)) e
+
 module _ {H : Type 0} (compress : H → List ℕ → H) where
   -- blocks after others go on from their hash value
   folded_more : (h : H) (p : List ℕ) (q k : ℕ) → folded compress h p (q + k) ≡ folded compress (folded compress h p q) (drop (64 * q) p) k
@@ -87,11 +96,11 @@ module _ {H : Type 0} (compress : H → List ℕ → H) where
   -- ---- what the steps of the code leave
 
   -- one more block of a message
-  pub hashed-next : (m : List ℕ) (i : ℕ) (h : H) {g r : H} → g ≡ folded compress h m i → r ≡ compress g (take (64 * i + 64 - 64 * i) (drop (64 * i) m))
+  pub hashed-next : (m : List ℕ) (i : ℕ) (h : H) (d : List ℕ) {g r : H} → i < length m / 64 → g ≡ folded compress h m i → r ≡ compress g (get_or (first_chunks 64 (length m / 64) m) i d)
       → r ≡ folded compress h m (i + 1)
   unfolding folded
-  hashed-next m i h {g} {r} e q =
-      let n : 64 * i + 64 - 64 * i ≡ 64 = omega arith in
+  hashed-next m i h d {g} {r} b e q =
+      let c : get_or (first_chunks 64 (length m / 64) m) i d ≡ block_of m i = chunk_at 64 (length m / 64) i m d b in
       rw add-one (cc)
 
   -- fewer bytes than a block
@@ -111,16 +120,8 @@ module _ {H : Type 0} (compress : H → List ℕ → H) where
       ap (hashed compress h) (sym (take-append-drop 64 l)) ∙ hashed-append h f g ∙ ap (λ (x : H). hashed compress x (rest f ++ g)) (hashed-one h f (length-take-le 64 l b))
       ∙ ap (λ (x : List ℕ). hashed compress (compress h f) (x ++ g)) (rest-block f (length-take-le 64 l b))
 
-  -- the last blocks: what is left of a message of n bytes and its padding, in one block or in two
-  pub last_one : (h : H) (s t : List ℕ) (n : ℕ) {r : H} → length s ≡ n % 64 → n % 64 < 56 → t ≡ filled 128 (s ++ padding n) → r ≡ compress h (take 64 t)
-      → r ≡ hashed compress h (s ++ padding n)
-  last_one h s t n l b e q =
-      let p : List ℕ = s ++ padding n in
-      let k : length p ≡ 64 = omega (arith, length-append s (padding n), length-padding n) in
-      let f : take 64 t ≡ p = ap (take 64) (e ∙ filled-short 128 p (omega arith)) ∙ take_at p (replicate (128 - length p) 0) 64 k in
-      q ∙ ap (compress h) f ∙ sym (hashed-one h p k)
-
-  pub last-two : (h : H) (s t : List ℕ) (n : ℕ) {g r : H} → length s ≡ n % 64 → 56 ≤ n % 64 → t ≡ filled 128 (s ++ padding n) → g ≡ compress h (take 64 t)
+  -- the last two blocks: what is left of a message of n bytes and its padding
+  last-two : (h : H) (s t : List ℕ) (n : ℕ) {g r : H} → length s ≡ n % 64 → 56 ≤ n % 64 → t ≡ filled 128 (s ++ padding n) → g ≡ compress h (take 64 t)
       → r ≡ compress g (take 64 (drop 64 t)) → r ≡ hashed compress h (s ++ padding n)
   last-two h s t n l b e v q =
       let p : List ℕ = s ++ padding n in
@@ -131,7 +132,7 @@ module _ {H : Type 0} (compress : H → List ℕ → H) where
       ∙ ap (compress (compress h (take 64 p))) (take_all 64 (drop 64 p) (omega arith)) ∙ sym (hashed-one (compress h (take 64 p)) (drop 64 p) d)
       ∙ sym (hashed-first h p (omega arith))
 
-  -- the same by a block that holds s, the byte 128 and zeros: the length is written into it, or into zeros for the second
+  -- a block that holds s, the byte 128 and zeros: the length is written into it, or into zeros for the second
   pub last-in-one : (h : H) (s x y : List ℕ) (n bits : ℕ) {r : H} → length s ≡ n % 64 → n % 64 < 56 → bits ≡ n * 8 → x ≡ filled 64 (s ++ (128 ∷ []))
       → y ≡ number_written 8 x 56 bits → r ≡ compress h y → r ≡ hashed compress h (s ++ padding n)
   last-in-one h s x y n bits l b c e w q =

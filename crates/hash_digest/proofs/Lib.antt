@@ -2,6 +2,5 @@
 pub mod Bits
 pub mod Stores
 pub mod Blocks
-pub mod Words
 pub mod Window
 pub mod Determined

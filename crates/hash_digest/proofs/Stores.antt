@@ -1,10 +1,11 @@
 -- Bytes stored into zeros: the block that is kept between two parts, and the last blocks with their padding. Assumes nothing.
-use Rattle.std.proofs.Common.{◌≡◌, ℕ, zero, suc, ◌+◌, ◌-◌, ◌*◌, ◌%◌, ◌<◌, ◌≤◌, min, Bool, cond, List, [], ◌∷◌, ◌++◌, length, get_or, take, drop, set, replicate, sym, refl, ap, ◌∙◌, append_assoc, add-one, arith, length-append, length-set, length-take, take_all, drop-drop, take_at, drop_at, le-leb}
+use Rattle.std.proofs.Common.{◌≡◌, ℕ, zero, suc, ◌+◌, ◌-◌, ◌*◌, ◌%◌, ◌<◌, ◌≤◌, min, Bool, cond, List, [], ◌∷◌, ◌++◌, length, take, drop, set, replicate, sym, refl, ap, ◌∙◌, append_assoc, arith, length-append, length-take, take_all, drop-drop, take_at, drop_at, le-leb}
+use borrow.Rule.Slice.PartMut.{put_mid}
 use lib.ListN.{length-replicate, replicate-append-replicate}
-use lib.Seq.{sets, sets-eq, length-sets, paste, paste-suc, take-length, set_at, take-append-le}
+use lib.Seq.{sets, sets-eq, length-sets, set_at, take-append-le}
 use Rattle.refusal.specs.BigEndian.{bytes_of, number_written}
 use Rattle.refusal.proofs.Bytes.{length-bytes_of}
-use Rattle.refusal.proofs.Places.{sets-append}
+use Rattle.refusal.proofs.Places.{sets-append, copied}
 use Rattle.hash_digest.specs.Message.{zeros, padding, filled}
 
 -- ---- zeros
@@ -79,7 +80,7 @@ stored-filled n l =
     stored n (take n l) h ∙ rw (length-take n l, e, take-append n l (replicate n 0), take-zeros (n - length l) n (omega arith))
 
 -- what two runs of stores leave: of a, and after it of b, as many bytes as there is room for
-pub gathers : (n : ℕ) (a b x y o o' : List ℕ) {i j : ℕ} → i ≡ min (length a) n → j ≡ min (length b) (n - i) → x ≡ take i a → y ≡ take j b
+gathers : (n : ℕ) (a b x y o o' : List ℕ) {i j : ℕ} → i ≡ min (length a) n → j ≡ min (length b) (n - i) → x ≡ take i a → y ≡ take j b
     → o ≡ sets (replicate n 0) 0 x → o' ≡ sets o i y → o' ≡ filled n (a ++ b)
 gathers n a b x y o o' {i} {j} p q s t u v =
     let k : n - i ≡ n - length a = omega arith in
@@ -92,18 +93,17 @@ gathers n a b x y o o' {i} {j} p q s t u v =
     let f : x ++ y ≡ take n (a ++ b) = ap (λ (z : List ℕ). z ++ y) ex ∙ ap (λ (z : List ℕ). take n a ++ z) ey ∙ sym (take-append n a b) in
     v ∙ ap (λ (z : List ℕ). sets z i y) u ∙ e ∙ ap (λ (z : List ℕ). sets (replicate n 0) 0 z) f ∙ stored-filled n (a ++ b)
 
--- ---- a run of stores, one after the other
-
--- what the first i of them leave, and then all
-module _ (all : List ℕ) (at : ℕ) (before : List ℕ) where
-  pub store-next : (i : ℕ) {out : List ℕ} → at + length all ≤ length before → i < length all → out ≡ paste before at all i
-      → set out (at + i) (get_or all i 0) ≡ paste before at all (i + 1)
-  store-next i h b e = rw (e, add-one) (paste-suc before at all i 0 (omega arith) b)
-
-  pub store-all : {i : ℕ} {out : List ℕ} → at + length all ≤ length before → i ≤ length all → length all ≤ i → out ≡ paste before at all i → out ≡ sets before at all
-  store-all {i} h b c e =
-      let k : i ≡ length all = omega arith in
-      e ∙ ap (paste before at all) k ∙ rw (sets-eq all before at h, take-length all)
+-- the same, as two copies put them
+pub gathered-put : (a b : List ℕ) {i j : ℕ} {x y : List ℕ} → i ≡ min (length a) 64 → j ≡ min (length b) (64 - i) → x ≡ take i a → y ≡ take j b
+    → put_mid i (i + j - i) (x ++ drop i (replicate 64 0)) y ≡ filled 64 (a ++ b)
+gathered-put a b {i} {j} {x} {y} p q s t =
+    let o : List ℕ = x ++ drop i (replicate 64 0) in
+    let lx : length x ≡ i = omega (arith, ap length s, length-take i a) in
+    let ly : length y ≡ j = omega (arith, ap length t, length-take j b) in
+    let d : drop i (replicate {A = ℕ} 64 0) ≡ replicate (64 - length x) 0 = rw lx (drop-zeros i 64 (omega arith)) in
+    let e : o ≡ sets (replicate 64 0) 0 x = ap (λ (z : List ℕ). x ++ z) d ∙ sym (stored 64 x (omega arith)) in
+    let l : length o ≡ 64 = ap length e ∙ length-sets (replicate 64 0) 0 x in
+    gathers 64 a b x y o (put_mid i (i + j - i) o y) p q s t e (copied j i o (omega arith) refl ly)
 
 -- ---- the padding
 
@@ -112,11 +112,11 @@ unfolding padding
 length-padding n = simp (length-append, length-replicate, length-bytes_of) (omega arith)
 
 -- s copied into a block of zeros, and the byte 128 after it
-pub marks : (s : List ℕ) (n : ℕ) {x : List ℕ} → length s ≡ n % 64 → x ≡ take (length s) s ++ drop (length s) (replicate 64 0) → set x (length s) 128 ≡ filled 64 (s ++ (128 ∷ []))
+pub marks : (s : List ℕ) (n : ℕ) {x : List ℕ} → length s ≡ n % 64 → x ≡ s ++ drop (length s) (replicate 64 0) → set x (length s) 128 ≡ filled 64 (s ++ (128 ∷ []))
 marks s n l e =
     let k : length (s ++ (128 ∷ [])) ≡ length s + 1 = length-append s (128 ∷ []) in
     let a : 64 - length s ≡ suc (64 - (length s + 1)) = omega arith in
-    rw (e, take-length, drop-zeros (length s) 64 (omega arith), a, set_at s 0 (replicate (64 - (length s + 1)) 0) 128 (length s) refl)
+    rw (e, drop-zeros (length s) 64 (omega arith), a, set_at s 0 (replicate (64 - (length s + 1)) 0) 128 (length s) refl)
     (sym (filled-short 64 (s ++ (128 ∷ [])) (omega arith) ∙ rw (k, append_assoc)))
 
 -- s and the byte 128, and zeros up to `at` and after it
@@ -169,20 +169,3 @@ ends-after s n bits l h b =
 -- the call that writes the length, where it fits
 pub fits-written : (o : List ℕ) (at bits : ℕ) → at + 8 ≤ length o → number_written 8 o at bits ≡ sets o at (bytes_of 8 bits)
 fits-written o at bits h = ap (λ (t : Bool). cond t (sets o at (bytes_of 8 bits)) o) (le-leb (at + 8) (length o) h)
-
--- what the stores of s, of the byte 128 and of the length leave
-pub ends : (s o : List ℕ) (n at : ℕ) {bits : ℕ} → length s ≡ n % 64 → n % 64 < at → at + 8 ≤ 128 → zeros n ≡ at - 1 - n % 64 → bits ≡ n * 8
-    → o ≡ sets (replicate 128 0) 0 s → sets (set o (n % 64) 128) at (bytes_of 8 bits) ≡ filled 128 (s ++ padding n)
-ends s o n at {bits} l h k z b e =
-    let i : n % 64 ≡ min (length s) 128 = omega arith in
-    let j : 1 ≡ min 1 (128 - n % 64) = omega arith in
-    let f : set o (n % 64) 128 ≡ filled 128 (s ++ (128 ∷ [])) =
-    gathers 128 s (128 ∷ []) s (128 ∷ []) o (set o (n % 64) 128) i j (sym (take_all (n % 64) s (omega arith))) refl e refl in
-    ap (λ (x : List ℕ). sets x at (bytes_of 8 bits)) f ∙ ends-in 128 s n at bits l h k z b
-
--- the same, from the call that writes the length
-pub ends-written : (s o t : List ℕ) (n at bits : ℕ) → length s ≡ n % 64 → n % 64 < at → at + 8 ≤ 128 → zeros n ≡ at - 1 - n % 64 → bits ≡ n * 8
-    → o ≡ sets (replicate 128 0) 0 s → t ≡ number_written 8 (set o (n % 64) 128) at bits → t ≡ filled 128 (s ++ padding n)
-ends-written s o t n at bits l h k z b e w =
-    let m : length (set o (n % 64) 128) ≡ 128 = length-set o (n % 64) 128 ∙ ap length e ∙ length-sets (replicate 128 0) 0 s ∙ length-replicate {A = ℕ} 128 0 in
-    w ∙ fits-written (set o (n % 64) 128) at bits (omega arith) ∙ ends s o n at l h k z b e

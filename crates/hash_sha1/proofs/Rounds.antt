@@ -1,18 +1,11 @@
 -- The rounds in a window of sixteen words are the standard's on its schedule of 80. Assumes nothing.
-use mathlib.Core.Path.{◌≡◌, refl, sym, ap, subst, ◌∙◌}
-use mathlib.Core.List.{List, [], ◌∷◌}
-use Prim.Native.Nat.{ℕ, zero, suc, ◌+◌, ◌*◌, ◌≤◌, ◌<◌}
-use native.Mathlib.Nat.{add-zero}
-use native.Mathlib.Numerals.{add-one}
-use native.Mathlib.Omega.{arith}
-use lib.ListN.{length, get_or, set}
-use borrow.Author.Tests.{lt-ltb, le-ltb}
+use Rattle.std.proofs.Common.{◌≡◌, refl, sym, ap, subst, ◌∙◌, List, [], ◌∷◌, ℕ, zero, suc, ◌+◌, ◌*◌, ◌≤◌, ◌<◌, add-zero, add-one, arith, length, get_or, set, lt-ltb, le-ltb}
 use Rattle.refusal.specs.BigEndian.{big_endian_of}
 use Rattle.refusal.proofs.Places.{four-there}
-use Rattle.hash_digest.specs.Words.{add32, rotl, ch, parity, maj}
+use Rattle.hash_digest.specs.Words.{ch, parity, maj}
 use Rattle.hash_digest.specs.Window.{Near, Schedule, in_window, moved}
 use Rattle.hash_digest.proofs.Window.{scheduled, window-none, window-early, window-late}
-use Rattle.hash_sha1.specs.Sha1.{schedule, rounds, step, plus, f, k}
+use Rattle.hash_sha1.specs.Sha1.{schedule, rounds, step, f, k}
 use Rattle.hash_sha1.specs.Rounds.{constants, rule, Made, turned, round_by, rounds_at, Run, run, opening, turn, turns}
 use Rattle.hash_sha1.specs.declared.block.Hash.{Hash}
 use Rattle.hash_sha1.specs.declared.block.Constants.{Constants}
@@ -104,11 +97,8 @@ module _ {F : ℕ → ℕ → ℕ → ℕ} {K a n : ℕ} (κ : Kind F K a n) (h 
 opened : (h : Hash) (b w : List ℕ) → Made b 16 w → Reached h b 20 (opening constants.first (run h w))
 unfolding opening rounds
 opened h b w d =
-    let x₁ = some-done first h b w 16 0 4 h (omega arith) (omega arith) (omega arith) (omega arith) d refl in
-    let x₂ = some-done first h b w 16 4 4 _ (omega arith) (omega arith) (omega arith) (omega arith) d x₁ in
-    let x₃ = some-done first h b w 16 8 4 _ (omega arith) (omega arith) (omega arith) (omega arith) d x₂ in
-    let x₄ = some-done first h b w 16 12 4 _ (omega arith) (omega arith) (omega arith) (omega arith) d x₃ in
-    turn-done first h b (run _ w) 16 (omega arith) (omega arith) (omega arith) (omega arith) (x₄, d)
+    let x = some-done first h b w 16 0 16 h (omega arith) (omega arith) (omega arith) (omega arith) d refl in
+    turn-done first h b (run _ w) 16 (omega arith) (omega arith) (omega arith) (omega arith) (x, d)
 
 -- all of them, by what the steps of the code ensure
 module _ (h : Hash) (b w : List ℕ) (c : Constants) {v₁ v₂ v₃ v₄ : List ℕ} {g₁ g₂ g₃ r : Hash} where
@@ -129,31 +119,8 @@ module _ (h : Hash) (b w : List ℕ) (c : Constants) {v₁ v₂ v₃ v₄ : List
 
 -- ---- the steps of the code, joined
 
--- a round of a kind
-pub of-kind : (F : ℕ → ℕ → ℕ → ℕ) (K : ℕ) (g : Hash) (w : ℕ) {v : ℕ} {r : Hash} → v ≡ F g.b g.c g.d → r ≡ turned v K g w → r ≡ round_by F K g w
-of-kind F K g w e q = q ∙ ap (λ (x : ℕ). turned x K g w) e
-
--- four of it
-pub four-joined : (F : ℕ → ℕ → ℕ → ℕ) (K t : ℕ) (g : Hash) (w : List ℕ) {r₁ r₂ r₃ r₄ : Hash} → r₁ ≡ round_by F K g (in_window w t) → r₂ ≡ round_by F K r₁ (in_window w (t + 1))
-    → r₃ ≡ round_by F K r₂ (in_window w (t + 2)) → r₄ ≡ round_by F K r₃ (in_window w (t + 3)) → r₄ ≡ rounds_at F K t 4 g w
-unfolding rounds_at
-four-joined F K t g w e₁ e₂ e₃ e₄ = rw add-zero (cc)
-
--- once their words stand
-pub turn-joined : (F : ℕ → ℕ → ℕ → ℕ) (K t : ℕ) (g : Hash) (w : List ℕ) {v : List ℕ} {r : Hash} → v ≡ moved rule t 4 w → r ≡ rounds_at F K t 4 g v → run r v ≡ turn F K t (run g w)
-unfolding turn
-turn-joined F K t g w e q = rw (q, e)
-
--- five times
+-- four words and four rounds, five times
 pub turns-joined : (F : ℕ → ℕ → ℕ → ℕ) (K t : ℕ) (x : Run) {x₁ x₂ x₃ x₄ x₅ : Run} → x₁ ≡ turn F K t x → x₂ ≡ turn F K (t + 4) x₁ → x₃ ≡ turn F K (t + 8) x₂ → x₄ ≡ turn F K (t + 12) x₃
     → x₅ ≡ turn F K (t + 16) x₄ → x₅ ≡ turns F K t 5 x
 unfolding turns
 turns-joined F K t x e₁ e₂ e₃ e₄ e₅ = rw add-zero (cc)
-
-pub stepped : (h : Hash) (f k w : ℕ) {x₀ x₁ x₂ x₃ x₄ y : ℕ} → x₀ ≡ rotl 5 h.a → x₁ ≡ add32 x₀ f → x₂ ≡ add32 x₁ h.e → x₃ ≡ add32 x₂ k → x₄ ≡ add32 x₃ w → y ≡ rotl 30 h.b
-    → ◌≡◌ {A = Hash} (record { a = x₄; b = h.a; c = y; d = h.c; e = h.d }) (step h f k w)
-stepped h f k w p₀ p₁ p₂ p₃ p₄ q = rw (p₄, p₃, p₂, p₁, p₀, q)
-
-pub summed : (g h : Hash) {a b c d e : ℕ} → a ≡ add32 g.a h.a → b ≡ add32 g.b h.b → c ≡ add32 g.c h.c → d ≡ add32 g.d h.d → e ≡ add32 g.e h.e
-    → ◌≡◌ {A = Hash} (record { a = a; b = b; c = c; d = d; e = e }) (plus g h)
-summed g h p q r s t = rw (p, q, r, s, t)

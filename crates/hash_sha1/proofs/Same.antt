@@ -1,11 +1,6 @@
 -- Two lists of bytes are the same exactly when they are equal. Assumes nothing.
-use mathlib.Core.Path.{◌≡◌, refl, sym, ap, ◌∙◌}
-use mathlib.Core.Bool.{Bool, true, false, ◌&&◌}
-use mathlib.Core.List.{List, [], ◌∷◌}
-use Prim.Native.Nat.{ℕ}
-use native.Mathlib.Omega.{arith}
-use borrow.Author.Tests.{eq-eqb, eqb-true}
-use lib.Dec.{eqb}
+use Rattle.std.proofs.Common.{◌≡◌, refl, sym, ap, ◌∙◌, Bool, true, false, ◌&&◌, List, [], ◌∷◌, ℕ, arith, eq-eqb, eqb-true, eqb}
+use lib.Pointwise.{pointwise}
 use Rattle.hash_sha1.specs.Digest.{same}
 
 pub same_refl : (x : List ℕ) → same x x ≡ true
@@ -32,3 +27,11 @@ same_test x y t p q = go (same x y) refl t p q
     go true e t p q = q (same-equal x y e)
     go false e false p q = refl
     go false e true p q = sym (same_refl x) ∙ ap (same x) (p refl) ∙ e
+
+-- `==` at slices is this one
+pub same-pointwise : (x y : List ℕ) → pointwise eqb x y ≡ same x y
+unfolding same
+same-pointwise [] [] = refl
+same-pointwise [] (b ∷ y) = refl
+same-pointwise (a ∷ x) [] = refl
+same-pointwise (a ∷ x) (b ∷ y) = ap (λ (t : Bool). eqb a b && t) (same-pointwise x y)

@@ -1,23 +1,15 @@
 -- What the code's steps leave is what the definitions say. Assumes nothing.
-use mathlib.Core.Path.{◌≡◌, refl, sym, ap, ◌∙◌}
-use mathlib.Core.Bool.{Bool, true}
-use mathlib.Core.List.{List, ◌++◌}
-use Prim.Native.Nat.{ℕ, ◌+◌, ◌-◌, ◌*◌, ◌/◌, ◌%◌, ◌≤◌, ◌<◌}
-use native.Mathlib.Omega.{arith}
-use borrow.Author.Tests.{le-leb, lt-leb}
-use lib.ListN.{length, take, drop, length-take, length-drop}
-use lib.Seq.{take_all}
-use Rattle.refusal.specs.Paper.{Outcome, taken, refused, refusal, then}
+use Rattle.std.proofs.Common.{Err, Ok, Result, ◌≡◌, refl, sym, ap, ◌∙◌, Bool, true, List, ◌++◌, ℕ, ◌+◌, ◌-◌, ◌*◌, ◌/◌, ◌%◌, ◌≤◌, ◌<◌, arith, le-leb, length, take, drop, length-take, length-drop, take_all}
+use borrow.Author.Tests.{lt-leb}
+use Rattle.refusal.specs.Paper.{paper, Outcome, taken, refused, refusal, then}
 use Rattle.refusal.specs.Numbers.{long}
 use Rattle.refusal.specs.Limits.{longest_piece}
 use Rattle.hash_digest.specs.Message.{padding, pad, hashed, rest, filled}
 use Rattle.hash_digest.proofs.Blocks.{hashed-append, part-few, part-first}
 use Rattle.hash_sha1.specs.Sha1.{initial, compress, output, sha1}
-use Rattle.hash_sha1.specs.Digest.{Left, left, paper, digest_of, same, agreement_of}
+use Rattle.hash_sha1.specs.Digest.{Left, left, digest_of, same, agreement_of}
 use Rattle.hash_sha1.specs.Parts.{held, grown, finish_of}
 use Rattle.refusal.specs.declared.Refusal.{Refusal}
-use Rattle.hash_sha1.specs.declared.Hashed.{Hashed}
-use Rattle.hash_sha1.specs.declared.Hashed.TheVariants.{Written, Refused}
 use Rattle.hash_sha1.specs.declared.block.Hash.{Hash}
 use Rattle.hash_sha1.specs.declared.stream.Stream.{Stream}
 use Rattle.hash_sha1.proofs.Parts.{same-state, finish-whole, finish-over, digest-whole, digest-over, by-limit}
@@ -57,8 +49,8 @@ pub finish-written : (s : Stream) (o : List ℕ) {h : Hash} {d : List ℕ} → s
     → left (taken tt) d ≡ finish_of s o
 finish-written s o b p q = ap (left (taken tt)) (q ∙ ap output p) ∙ sym (finish-whole s o b)
 
-pub finish-refused : (s : Stream) (o : List ℕ) {r : Hashed} → longest_piece < s.length → r ≡ Refused (record { number = long; place = 0 }) → left (paper r) o ≡ finish_of s o
-finish-refused s o b e = ap (λ (x : Hashed). left (paper x) o) e ∙ sym (finish-over s o b)
+pub finish-refused : (s : Stream) (o : List ℕ) {q : Refusal} → longest_piece < s.length → q ≡ record { number = long; place = 0 } → left (refusal q) o ≡ finish_of s o
+finish-refused s o b e = ap (λ (x : Refusal). left (refusal x) o) e ∙ sym (finish-over s o b)
 
 -- ---- a message that is all there
 
@@ -87,17 +79,17 @@ pub agreement-over : (m x : List ℕ) → longest_piece < length m → agreement
 unfolding agreement_of
 agreement-over m x h = rw (lt-leb (length m) longest_piece h)
 
-module _ (m x o f : List ℕ) (r : Hashed) (e : left (paper r) f ≡ digest_of m o) where
-  pub agrees-written : {a : Outcome Bool} → r ≡ Written → a ≡ taken (same f x) → a ≡ agreement_of m x
+module _ (m x o f : List ℕ) (r : Result (Unit {0}) Refusal) (e : left (paper r) f ≡ digest_of m o) where
+  pub agrees-written : {a : Outcome Bool} → r ≡ (Ok tt) → a ≡ taken (same f x) → a ≡ agreement_of m x
   agrees-written {a} w q =
-      let g : left (taken tt) f ≡ digest_of m o = ap (λ (y : Hashed). left (paper y) f) (sym w) ∙ e in
+      let g : left (taken tt) f ≡ digest_of m o = ap (λ (y : Result (Unit {0}) Refusal). left (paper y) f) (sym w) ∙ e in
       by-limit (length m)
       (λ h. q ∙ ap (λ (y : List ℕ). taken (same y x)) (ap (λ (y : Left). y.out) (g ∙ digest-whole m o h)) ∙ sym (agreement-whole m x h))
       (λ h. let v = ap (λ (y : Left). y.answer) (g ∙ digest-over m o h) in let z : ◌≡◌ {A = ℕ} 0 1 = cc in absurd (omega arith))
 
-  pub agrees-refused : (q : Refusal) → r ≡ Refused q → refusal q ≡ agreement_of m x
+  pub agrees-refused : (q : Refusal) → r ≡ Err q → refusal q ≡ agreement_of m x
   agrees-refused q w =
-      let g : left (refusal q) f ≡ digest_of m o = ap (λ (y : Hashed). left (paper y) f) (sym w) ∙ e in
+      let g : left (refusal q) f ≡ digest_of m o = ap (λ (y : Result (Unit {0}) Refusal). left (paper y) f) (sym w) ∙ e in
       by-limit (length m)
       (λ h. let v = ap (λ (y : Left). y.answer) (g ∙ digest-whole m o h) in let z : ◌≡◌ {A = ℕ} 0 1 = cc in absurd (omega arith))
       (λ h. ap (λ (y : Left). then y.answer (λ u. taken true)) (g ∙ digest-over m o h) ∙ sym (agreement-over m x h))

@@ -1,24 +1,10 @@
 -- What hashing a message, and comparing its digest, come to. Assumes nothing: these are definitions.
 use Rattle.std.specs.Prelude.{Bool, true, false, cond, ◌&&◌, List, [], ◌∷◌, ℕ, leb, eqb, length}
-use Rattle.refusal.specs.Paper.{Outcome, taken, refused, refusal, Left as Leaves}
+use Rattle.refusal.specs.Paper.{Outcome, taken, refused, Left as Leaves}
 pub use Rattle.refusal.specs.Paper.{left}
 use Rattle.refusal.specs.Numbers.{long}
 use Rattle.refusal.specs.Limits.{longest_piece}
 use Rattle.hash_sha1.specs.Sha1.{sha1}
-use Rattle.hash_sha1.specs.declared.Hashed.{Hashed}
-use Rattle.hash_sha1.specs.declared.Hashed.TheVariants.{Written, Refused}
-use Rattle.hash_sha1.specs.declared.Agreement.{Agreement}
-use Rattle.hash_sha1.specs.declared.Agreement.TheVariants.{Same, Other, Refused as Unhashed}
-
--- the code's answers in document 01's words: that the digest is written, and whether it is the expected one
-abbrev pub paper : Hashed → Outcome (Unit {0})
-paper Written = taken tt
-paper (Refused r) = refusal r
-
-abbrev pub agreement_paper : Agreement → Outcome Bool
-agreement_paper Same = taken true
-agreement_paper Other = taken false
-agreement_paper (Unhashed r) = refusal r
 
 -- what a call leaves: that answer, and what the lent 20 bytes hold then
 abbrev pub Left : Type 0

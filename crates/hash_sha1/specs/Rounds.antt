@@ -55,6 +55,4 @@ turns F k t (suc n) x = turn F k (t + 4 * n) (turns F k t n x)
 
 -- the first twenty rounds: sixteen on the block's own words, and four
 unfoldable pub opening : ℕ → Run → Run
-opening k x =
-    let w = x.words in
-    turn ch k 16 (run (rounds_at ch k 12 4 (rounds_at ch k 8 4 (rounds_at ch k 4 4 (rounds_at ch k 0 4 x.hash w) w) w) w) w)
+opening k x = turn ch k 16 (run (rounds_at ch k 0 16 x.hash x.words) x.words)

@@ -8,55 +8,44 @@ mod report;
 use std::io::Stdout;
 
 fn main(rt: HostRuntime) {
-    let mut space = [0u8; 1000000];
-    lend(rt.stdout(), &mut space);
+    all(rt.stdout(), &mut [0u8; 1000000]);
 }
 
-// The array as a slice, whose length is known here from its type alone.
-fn lend(output: Stdout, space: &mut [u8; 1000000]) {
-    all(output, space);
-}
-
-fn all(output: Stdout, space: &mut [u8]) {
+// The space is lent, so that its length is known here from its type alone.
+fn all(output: Stdout, space: &mut [u8; 1000000]) {
     published(output);
     message::fill(space, b'a', 0);
-    report::both(output, b"one million a", space);
+    report::both(output, "one million a", space);
     message::fill(space, 0, 1);
     around(output, space);
-    report::parts(output, b"parts of 1: ", space, 1);
-    report::parts(output, b"parts of 63: ", space, 63);
-    report::parts(output, b"parts of 64: ", space, 64);
-    report::parts(output, b"parts of 65: ", space, 65);
-    report::parts(output, b"parts of 1000: ", space, 1000);
+    for size in [1, 63, 64, 65, 1000] {
+        report::parts(output, format_args!("parts of {size}"), space, size);
+    }
     report::limits(output);
     report::agreements(output);
 }
 
 // The messages of the standard's examples that fit a line.
 fn published(output: Stdout) {
-    report::both(output, b"empty", b"");
-    report::both(output, b"abc", b"abc");
+    report::both(output, "empty", b"");
+    report::both(output, "abc", b"abc");
     report::both(
         output,
-        b"448 bits",
+        "448 bits",
         b"abcdbcdecdefdefgefghfghighijhijkijkljklmklmnlmnomnopnopq",
     );
     report::both(
         output,
-        b"896 bits",
+        "896 bits",
         b"abcdefghbcdefghicdefghijdefghijkefghijklfghijklmghijklmnhijklmnoijklmnopjklmnopqklmnopqrlmnopqrsmnopqrstnopqrstu",
     );
 }
 
 // The first bytes of the space, so many that they end just before a block's end, or its place for the length, or just past it.
 fn around(output: Stdout, space: &[u8]) {
-    report::first(output, b"55 bytes", space, 55);
-    report::first(output, b"56 bytes", space, 56);
-    report::first(output, b"63 bytes", space, 63);
-    report::first(output, b"64 bytes", space, 64);
-    report::first(output, b"65 bytes", space, 65);
-    report::first(output, b"119 bytes", space, 119);
-    report::first(output, b"120 bytes", space, 120);
-    report::first(output, b"127 bytes", space, 127);
-    report::first(output, b"128 bytes", space, 128);
+    for count in [55, 56, 63, 64, 65, 119, 120, 127, 128] {
+        if let Some(message) = space.get(..count) {
+            report::both(output, format_args!("{count} bytes"), message);
+        }
+    }
 }

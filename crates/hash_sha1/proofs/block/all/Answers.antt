@@ -1,25 +1,20 @@
--- `all` meets its contract: after i turns the first i blocks are hashed. Assumes nothing.
-use borrow.Author.Rules.{rules}
-use lib.ListN.{length}
-use Rattle.hash_sha1.specs.Sha1.{compress}
-use Rattle.hash_digest.proofs.Blocks.{hashed-next}
+-- `all` meets its contract: before a block, those before it are hashed. Assumes nothing.
+use Rattle.std.proofs.Common.{refl, ◌∙◌, ap, ◌≡◌, ℕ, arith, length, ◌/◌, List, get_or}
 use Rattle.hash_digest.specs.Message.{folded}
-use native.Mathlib.Omega.{arith}
-use Prim.Native.Nat.{◌/◌}
-use mathlib.Core.Path.{◌≡◌, refl}
+use Rattle.hash_digest.proofs.Blocks.{hashed-next}
+use Rattle.hash_sha1.specs.Sha1.{compress}
 use Rattle.hash_sha1.proofs.block.all.Goals as goal
 
-pub loop-i-init : goal.loop-i-init
+pub loop-b-init : goal.loop-b-init
 unfolding folded
-loop-i-init c = (search rules, search rules, refl, search rules)
+loop-b-init c = refl
 
-pub loop-i-preserved : goal.loop-i-preserved
-loop-i-preserved c =
-    let l = c.loop-i in
-    (omega arith, search rules, hashed-next compress c.args.m.now l.i c.args.first l.invariant.2 c.compressed-h.ensures, l.invariant.3)
+pub loop-b-preserved : goal.loop-b-preserved
+loop-b-preserved c =
+    hashed-next compress c.args.m.now c.loop-b.b-index c.args.first _ (omega arith) c.loop-b.invariant
+    (c.compressed-h.ensures ∙ ap (λ (x : List (List ℕ)). compress c.loop-b.h (get_or x c.loop-b.b-index _)) c.as_chunks.ensures.front)
 
 pub returns : goal.returns
 returns c =
-    let q : c.loop-i.i ≡ length c.args.m.now / 64 = omega arith in
-    let e = c.loop-i.invariant.2 in
-    cc
+    let e : c.loop-b.b-index ≡ length c.args.m.now / 64 = omega arith in
+    c.loop-b.invariant ∙ ap (folded compress c.args.first c.args.m.now) e

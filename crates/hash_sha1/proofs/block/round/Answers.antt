@@ -1,8 +1,7 @@
--- `round` meets its contract: what the operations ensure, joined. Assumes nothing.
+-- `round` meets its contract: the function of its kind, and the sums. Assumes nothing.
 use Rattle.hash_sha1.specs.Rounds.{turned}
-use Rattle.hash_sha1.proofs.Rounds.{stepped}
 use Rattle.hash_sha1.proofs.block.round.Goals as goal
 
 pub returns : goal.returns
 unfolding turned
-returns c = stepped c.args.h c.args.f c.args.k c.args.w c.rotl5.ensures c.add.ensures c.add-2.ensures c.add-3.ensures c.add-4.ensures c.rotl30.ensures
+returns g c = rw (c.mix.ensures, c.rotate_left.ensures, c.rotate_left-2.ensures)

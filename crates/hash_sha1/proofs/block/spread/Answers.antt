@@ -1,13 +1,8 @@
--- `spread` meets its contract: what the bytes' functions ensure, joined. Assumes nothing.
+-- `spread` meets its contract: each word's bytes in their place. Assumes nothing.
+use Rattle.std.proofs.Common.{div-one}
 use Rattle.refusal.specs.BigEndian.{bytes_of}
-use Rattle.hash_digest.proofs.Words.{bytes-are, bytes-then}
 use Rattle.hash_sha1.proofs.block.spread.Goals as goal
 
 pub returns : goal.returns
 unfolding bytes_of
-returns c =
-    bytes-then c.args.h.a (bytes-are c.args.h.a c.byte3.ensures c.byte2.ensures c.byte1.ensures c.byte0.ensures)
-    (bytes-then c.args.h.b (bytes-are c.args.h.b c.byte3-2.ensures c.byte2-2.ensures c.byte1-2.ensures c.byte0-2.ensures)
-    (bytes-then c.args.h.c (bytes-are c.args.h.c c.byte3-3.ensures c.byte2-3.ensures c.byte1-3.ensures c.byte0-3.ensures)
-    (bytes-then c.args.h.d (bytes-are c.args.h.d c.byte3-4.ensures c.byte2-4.ensures c.byte1-4.ensures c.byte0-4.ensures)
-    (bytes-are c.args.h.e c.byte3-5.ensures c.byte2-5.ensures c.byte1-5.ensures c.byte0-5.ensures))))
+returns c = rw (c.copy_from_slice.ensures.after, c.to_be_bytes.ensures, c.copy_from_slice-2.ensures.after, c.to_be_bytes-2.ensures, c.copy_from_slice-3.ensures.after, c.to_be_bytes-3.ensures, c.copy_from_slice-4.ensures.after, c.to_be_bytes-4.ensures, c.copy_from_slice-5.ensures.after, c.to_be_bytes-5.ensures, div-one, div-one, div-one, div-one, div-one)

@@ -1,9 +1,0 @@
--- `turn_parity` meets its contract: four words are made, and four rounds done on them. Assumes nothing.
-use Rattle.hash_digest.specs.Words.{parity}
-use Rattle.hash_sha1.proofs.Rounds.{turn-joined}
-use Rattle.hash_sha1.proofs.block.turn_parity.Goals as goal
-
-pub returns : goal.returns
-returns c =
-    let a = c.args in
-    turn-joined parity a.k a.t a.g a.w.now c.four_words.ensures c.four_parity.ensures
