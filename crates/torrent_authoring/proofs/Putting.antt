@@ -1,9 +1,5 @@
 -- A torrent's text, put part by part. Assumes nothing.
-use mathlib.Core.Path.{◌≡◌, sym, ap, ◌∙◌}
-use mathlib.Core.List.{List, [], ◌∷◌, ◌++◌, append_assoc}
-use Prim.Native.Nat.{ℕ, ◌+◌, ◌≤◌}
-use native.Mathlib.Omega.{arith}
-use lib.ListN.{length, length-append}
+use Rattle.std.proofs.Common.{◌≡◌, sym, ap, ◌∙◌, List, [], ◌∷◌, ◌++◌, append_assoc, ℕ, ◌+◌, ◌≤◌, arith, length, length-append}
 use Rattle.refusal.specs.Paper.{Outcome}
 use Rattle.bencode_scalar.specs.Written.{decimal, decimal_in, written_string}
 use Rattle.bencode.specs.Value.{encode}

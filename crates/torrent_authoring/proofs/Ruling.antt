@@ -1,11 +1,5 @@
 -- The reader's rules on the torrent to be written are the writer's, one by one. Assumes nothing.
-use mathlib.Core.Path.{◌≡◌, refl, sym, ◌∙◌}
-use mathlib.Core.Bool.{Bool, true, false, cond}
-use Prim.Native.Nat.{ℕ, ◌+◌, ◌*◌}
-use native.Mathlib.Omega.{arith}
-use lib.Dec.{leb, ltb, eqb}
-use lib.IntN.{pos}
-use lib.ListN.{length}
+use Rattle.std.proofs.Common.{◌≡◌, refl, sym, ◌∙◌, Bool, true, false, cond, ℕ, ◌+◌, ◌*◌, arith, leb, ltb, eqb, pos, length, le-leb}
 use Rattle.refusal.specs.Paper.{Outcome, taken, refused, then}
 use Rattle.refusal.specs.Limits.{longest_piece, most_text}
 use Rattle.refusal.specs.declared.Part.{Part}
@@ -14,7 +8,6 @@ use Rattle.bencode.specs.Value.{Value, str, int, encode}
 use Rattle.bencode_walk.specs.Lookup.{nothing, under, lookup, same_key}
 use Rattle.bencode_fields.specs.Values.{part_of, string_at}
 use Rattle.torrent_blocks.proofs.Legal.{piece-length-is, piece-bounds}
-use borrow.Author.Tests.{le-leb}
 use Rattle.torrent_blocks.specs.Rules.{piece_length_of, file_length, total_and}
 use Rattle.torrent_metainfo.specs.Keys.{announce_key, info_key, length_key, name_key, piece_length_key, pieces_key}
 use Rattle.torrent_metainfo.specs.Rules.{good_name, name_at, piece_length_at, content_of, one_file, sized_of, info_of, top_of, torrent_of}

@@ -1,27 +1,16 @@
 -- What the code answers, test by test. Assumes nothing.
-use mathlib.Core.Path.{◌≡◌, refl, sym, ap, ◌∙◌}
-use mathlib.Core.Bool.{Bool, true, false, cond}
-use mathlib.Core.List.{List, ◌∷◌}
-use Prim.Native.Nat.{ℕ, ◌+◌, ◌*◌, ◌<◌, ◌≤◌}
-use native.Mathlib.Omega.{arith}
-use lib.Dec.{eqb, ltb}
-use lib.ListN.{length, length-append}
-use borrow.Author.Tests.{eq-eqb, ne_eqb, lt-ltb, le-ltb, ltb-true, ltb-false, eqb-true}
-use Rattle.refusal.specs.Paper.{Outcome, taken, refused, then}
+use Rattle.std.proofs.Common.{Err, Result, ◌≡◌, refl, sym, ap, ◌∙◌, Bool, true, false, cond, List, ◌∷◌, ℕ, ◌+◌, ◌*◌, ◌<◌, ◌≤◌, arith, eqb, ltb, length, length-append, eq-eqb, ne_eqb, lt-ltb, le-ltb, ltb-true, ltb-false, eqb-true}
+use Rattle.refusal.specs.declared.Refusal.{Refusal}
+use Rattle.refusal.specs.Paper.{paper, Outcome, taken, refused, then}
 use Rattle.refusal.proofs.Cases.{no_way}
 use Rattle.bencode_scalar.specs.Written.{decimal, written_string}
 use Rattle.bencode_writer.specs.Put.{left, put_of, Ran}
-use Rattle.bencode_writer.specs.Put.{paper as put_paper}
-use Rattle.bencode_writer.specs.declared.Put.{Put}
-use Rattle.bencode_writer.specs.declared.Put.TheVariants.{Refused}
 use Rattle.bencode_writer.proofs.Laws.{put-none, put-done}
 use Rattle.torrent_metainfo.specs.Rules.{torrent_of}
 use Rattle.torrent_metainfo.specs.declared.Torrent.{Torrent}
 use Rattle.torrent_metainfo.proofs.Sizing.{few-pieces}
-use Rattle.torrent_authoring.specs.Writing.{Fields, torrent_value, text_of, at_start, size_of, puts, write_of, paper}
+use Rattle.torrent_authoring.specs.Writing.{Fields, torrent_value, text_of, at_start, size_of, puts, write_of}
 use Rattle.torrent_authoring.specs.Rules.{piece_count_of, Ruled, Broken}
-use Rattle.torrent_authoring.specs.declared.Sized.{Sized}
-use Rattle.torrent_authoring.specs.declared.Sized.TheVariants as sized
 use Rattle.torrent_authoring.proofs.Putting.{size}
 use Rattle.torrent_authoring.proofs.Ruling.{Judged, kept, broken, judged, ruled-broken, ruled-kept, limited, size-ruled}
 
@@ -41,7 +30,7 @@ module _ (f : Fields) where
 
   -- ---- how many bytes
 
-  pub size-broken : {r : Sized} {n : ℕ} → Broken f n → r ≡ sized.Refused (record { number = n; place = 0 }) → paper r ≡ size_of f
+  pub size-broken : {r : Result ℕ Refusal} {n : ℕ} → Broken f n → r ≡ Err (record { number = n; place = 0 }) → paper r ≡ size_of f
   size-broken b e = ap paper e ∙ sym (size-ruled f ∙ ruled-broken f (limited f) b)
 
   module _ (h : Ruled f) where
@@ -57,7 +46,7 @@ module _ (f : Fields) where
     pub size-is-short : length (text_of f) ≤ 1048576 → size_of f ≡ taken (length (text_of f))
     size-is-short l = size-kept ∙ rw (le-ltb 1048576 (length (text_of f)) l)
 
-    pub size-long : {r : Sized} → 1048576 < length (text_of f) → r ≡ sized.Refused (record { number = 8; place = 0 }) → paper r ≡ size_of f
+    pub size-long : {r : Result ℕ Refusal} → 1048576 < length (text_of f) → r ≡ Err (record { number = 8; place = 0 }) → paper r ≡ size_of f
     size-long l e = ap paper e ∙ sym (size-is-long l)
 
     pub size-short : {n : ℕ} → n ≡ length (text_of f) → n ≤ 1048576 → taken n ≡ size_of f
@@ -103,8 +92,8 @@ module _ (f : Fields) where
       unfolding write_of
       write-puts = ap (puts (text_of f) o) (sym e)
 
-      pub write-none : {r : Put} → length o < n → r ≡ Refused (record { number = 37; place = 0 }) → left (put_paper r) o ≡ write_of f o
-      write-none h g = ap (λ (x : Put). left (put_paper x) o) g ∙ sym (write-puts ∙ put-none (text_of f) 0 o (omega (arith, size_is n e)))
+      pub write-none : {r : Result ℕ Refusal} → length o < n → r ≡ Err (record { number = 37; place = 0 }) → left (paper r) o ≡ write_of f o
+      write-none h g = ap (λ (x : Result ℕ Refusal). left (paper x) o) g ∙ sym (write-puts ∙ put-none (text_of f) 0 o (omega (arith, size_is n e)))
 
       pub write-whole : {at : ℕ} {out : List ℕ} → n ≤ length o → Ran (text_of f) 0 o at out → left (taken at) out ≡ write_of f o
       write-whole h r = put-done (text_of f) 0 o (omega (arith, size_is n e)) r.place r.out ∙ sym write-puts

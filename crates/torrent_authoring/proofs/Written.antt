@@ -1,15 +1,8 @@
 -- What a call leaves, and that what is written is read back. Assumes nothing.
-use mathlib.Core.Path.{◌≡◌, refl, sym, ap, ◌∙◌, subst}
-use mathlib.Core.Bool.{Bool, true, false}
-use mathlib.Core.List.{List}
-use Prim.Native.Nat.{ℕ, ◌+◌, ◌<◌, ◌≤◌}
-use native.Mathlib.Omega.{arith}
-use lib.Dec.{leb}
-use lib.IntN.{pos}
-use lib.ListN.{length}
+use Rattle.std.proofs.Common.{Result, ◌≡◌, refl, sym, ap, ◌∙◌, subst, Bool, true, false, List, ℕ, ◌+◌, ◌<◌, ◌≤◌, arith, leb, pos, length, leb-true, leb-false}
+use Rattle.refusal.specs.declared.Refusal.{Refusal}
 use lib.Seq.{sets}
-use borrow.Author.Tests.{leb-true, leb-false}
-use Rattle.refusal.specs.Paper.{Outcome, taken, refused}
+use Rattle.refusal.specs.Paper.{paper, Outcome, taken, refused}
 use Rattle.refusal.proofs.Cases.{no_way}
 use Rattle.bencode_scalar.specs.Written.{key_lt}
 use Rattle.bencode.specs.Value.{Value, str, int, empty, entry, encode, count, Keeps, start, last}
@@ -17,19 +10,16 @@ use Rattle.bencode.specs.Exact.{Fine}
 use Rattle.bencode_walk.proofs.Standing.{fine-stands, dictionary-stands, entries_next}
 use Rattle.bencode_fields.proofs.Standing.{part_bytes}
 use Rattle.bencode_writer.specs.Put.{Left, left, put_of}
-use Rattle.bencode_writer.specs.Put.{paper as put_paper}
-use Rattle.bencode_writer.specs.declared.Put.{Put}
 use Rattle.bencode_writer.proofs.Laws.{paper-apart, put_whole, put-none, standing}
 use Rattle.torrent_metainfo.specs.Keys.{announce_key, info_key, length_key, name_key, piece_length_key, pieces_key}
 use Rattle.torrent_metainfo.specs.Rules.{torrent_of}
 use Rattle.torrent_metainfo.specs.Reading.{read_of}
 use Rattle.torrent_metainfo.specs.declared.Torrent.{Torrent}
 use Rattle.torrent_metainfo.proofs.Exact.{torrent-exact}
-use Rattle.torrent_authoring.specs.Writing.{Fields, info_with, torrent_value, text_of, size_of, puts, write_of, paper}
+use Rattle.torrent_authoring.specs.Writing.{Fields, info_with, torrent_value, text_of, size_of, puts, write_of}
 use Rattle.torrent_authoring.specs.Rules.{Ruled, NotWritten, broken, too_long, no_room}
 use Rattle.torrent_authoring.specs.Reading.{Gives, ReadsBack}
-use Rattle.torrent_authoring.specs.declared.Sized.{Sized}
-use Rattle.torrent_authoring.specs.declared.Sized.TheVariants as sized
+use Rattle.refusal.proofs.Outcomes.{paper-determined}
 use Rattle.torrent_authoring.proofs.Ruling as ruling
 use Rattle.torrent_authoring.proofs.Ruling.{ruled-broken, limited, size-ruled, announce_place, info_place, length_place, name_place, piece_place, pieces_place, told, Judged, kept, judged, kept-told}
 use Rattle.torrent_authoring.proofs.Steps.{SizeCase, size-not, size-over, size-fine, size-cases, size-is-long, size-is-short}
@@ -135,15 +125,15 @@ module _ (f : Fields) (o : List ℕ) where
   refused-every n (too_long h l) = ap (puts (text_of f) o) (size-is-long f h l)
   refused-every n (no_room h l g) = ap (puts (text_of f) o) (size-is-short f h l) ∙ sym (put-is-not g)
 
-  module _ (r : Put) {out : List ℕ} (e : left (put_paper r) out ≡ write_of f o) where
-    pub write-determined : (t : Put) {out' : List ℕ} → left (put_paper t) out' ≡ write_of f o → (r ≡ t) × (out ≡ out')
+  module _ (r : Result ℕ Refusal) {out : List ℕ} (e : left (paper r) out ≡ write_of f o) where
+    pub write-determined : (t : Result ℕ Refusal) {out' : List ℕ} → left (paper t) out' ≡ write_of f o → (r ≡ t) × (out ≡ out')
     write-determined t g = (paper-apart r t (ap (λ (x : Left). x.answer) (e ∙ sym g)), ap (λ (x : Left). x.out) (e ∙ sym g))
 
     -- a refusal has place 0 and its cause, and leaves the output as it was
-    pub refusal-keeps : (n p : ℕ) → put_paper r ≡ refused n p → (p ≡ 0) × NotWritten f o n × (out ≡ o)
+    pub refusal-keeps : (n p : ℕ) → paper r ≡ refused n p → (p ≡ 0) × NotWritten f o n × (out ≡ o)
     refusal-keeps n p h = go (write_of f o) cases e
       where
-        go : (l : Left) → Case l → left (put_paper r) out ≡ l → (p ≡ 0) × NotWritten f o n × (out ≡ o)
+        go : (l : Left) → Case l → left (paper r) out ≡ l → (p ≡ 0) × NotWritten f o n × (out ≡ o)
         go l (not_written m c) g =
             let a : refused n p ≡ refused m 0 = sym h ∙ ap (λ (x : Left). x.answer) g in
             let b : m ≡ n = cc in
@@ -151,7 +141,7 @@ module _ (f : Fields) (o : List ℕ) where
         go l (is-written a b c) g = let i : refused n p ≡ taken (length (text_of f)) = sym h ∙ ap (λ (x : Left). x.answer) g in no_way (cc)
 
     -- what is taken stands at the start of the output and is read back; past it the output stays
-    pub torrent-reads-back : (q : ℕ) → put_paper r ≡ taken q → ReadsBack f q o out
+    pub torrent-reads-back : (q : ℕ) → paper r ≡ taken q → ReadsBack f q o out
     torrent-reads-back q h = go (write_of f o) cases e
       where
         back : Ruled f → length (text_of f) ≤ 1048576 → length (text_of f) ≤ length o → ReadsBack f (length (text_of f)) o (sets o 0 (text_of f))
@@ -166,7 +156,7 @@ module _ (f : Fields) (o : List ℕ) where
               past = rw z at w.past;
             }
 
-        go : (l : Left) → Case l → left (put_paper r) out ≡ l → ReadsBack f q o out
+        go : (l : Left) → Case l → left (paper r) out ≡ l → ReadsBack f q o out
         go l (not_written m c) g = let a : taken q ≡ refused m 0 = sym h ∙ ap (λ (x : Left). x.answer) g in no_way (cc)
         go l (is-written a b c) g =
             let i : taken q ≡ taken (length (text_of f)) = sym h ∙ ap (λ (x : Left). x.answer) g in
@@ -174,14 +164,5 @@ module _ (f : Fields) (o : List ℕ) where
             subst (λ (x : ℕ). ReadsBack f x o out) j (subst (ReadsBack f (length (text_of f)) o) (sym (ap (λ (x : Left). x.out) g)) (back a b c))
 
 -- how many bytes: the same is told of the same torrent
-pub size-determined : (f : Fields) (r t : Sized) → paper r ≡ size_of f → paper t ≡ size_of f → r ≡ t
-size-determined f r t a b = go r t (a ∙ sym b)
-  where
-    go : (r t : Sized) → paper r ≡ paper t → r ≡ t
-    go (sized.Bytes m) (sized.Bytes n) e = cc
-    go (sized.Bytes m) (sized.Refused y) e = no_way (cc)
-    go (sized.Refused x) (sized.Bytes n) e = no_way (cc)
-    go (sized.Refused x) (sized.Refused y) e =
-        let n : x.number ≡ y.number = cc in
-        let p : x.place ≡ y.place = cc in
-        ap (λ (k : ℕ). sized.Refused (record { number = k; place = x.place })) n ∙ ap (λ (k : ℕ). sized.Refused (record { number = y.number; place = k })) p
+pub size-determined : (f : Fields) (r t : Result ℕ Refusal) → paper r ≡ size_of f → paper t ≡ size_of f → r ≡ t
+size-determined f r t a b = paper-determined (size_of f) r t a b

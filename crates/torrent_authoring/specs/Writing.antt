@@ -1,15 +1,13 @@
 -- Torrents of one file as they are written. Assumes nothing: these are definitions.
 use Rattle.std.specs.Prelude.{cond, List, ℕ, ltb, pos}
 use Rattle.std.proofs.Math.ListN as seq
-use Rattle.refusal.specs.Paper.{Outcome, taken, refused, refusal, then}
+use Rattle.refusal.specs.Paper.{Outcome, taken, refused, then}
 use Rattle.refusal.specs.Numbers.{long}
 use Rattle.refusal.specs.Limits.{most_text}
 use Rattle.bencode.specs.Value.{Value, str, int, dict, empty, entry, encode}
 use Rattle.bencode_writer.specs.Put.{Left, left, put_of}
 use Rattle.torrent_metainfo.specs.Keys.{announce_key, info_key, length_key, name_key, piece_length_key, pieces_key}
 use Rattle.torrent_metainfo.specs.Rules.{torrent_of}
-use Rattle.torrent_authoring.specs.declared.Sized.{Sized}
-use Rattle.torrent_authoring.specs.declared.Sized.TheVariants.{Bytes, Refused}
 
 -- what is written of a torrent
 pub record Fields : Type 0 where
@@ -53,8 +51,3 @@ puts w o (refused n p) = left (refused n p) o
 
 unfoldable pub write_of : Fields → List ℕ → Left
 write_of f o = puts (text_of f) o (size_of f)
-
--- the code's answer in document 01's words
-abbrev pub paper : Sized → Outcome ℕ
-paper (Bytes n) = taken n
-paper (Refused r) = refusal r

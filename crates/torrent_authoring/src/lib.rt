@@ -1,25 +1,17 @@
 // Torrents of one file, written: announce, and info with length, name, piece length and pieces.
 #![tactic(auto)]
 
+ghost use Rattle.refusal.specs.Paper.{paper};
 ghost use Rattle.std.specs.Prelude.{◌≡◌, [], ◌∷◌, ◌++◌, ◌+◌, ◌≤◌, length as length_of};
-ghost use Rattle.refusal.specs.Numbers.{room};
 ghost use Rattle.refusal.specs.Limits.{most_text};
 ghost use Rattle.bencode_scalar.specs.Written.{decimal, written_string};
 ghost use Rattle.bencode_writer.specs.Put.{left, Ran};
-ghost use Rattle.bencode_writer.specs.Put.{paper as put_paper};
-ghost use Rattle.torrent_authoring.specs.Writing.{fields, text_of, size_of, write_of, paper};
+ghost use Rattle.torrent_authoring.specs.Writing.{fields, text_of, size_of, write_of};
 
-use bencode_writer::{Put, digits, end};
-use refusal::{Refusal, limit, number};
+use bencode_writer::{digits, end};
+use refusal::{Refusal, limit, number, refuse};
 use torrent_blocks::rules;
 use torrent_blocks::rules::Total;
-
-// How many bytes a torrent's text has.
-#[derive(Clone, Copy)]
-pub enum Sized {
-    Bytes(usize),
-    Refused(Refusal),
-}
 
 // Writes the torrent, and answers how many bytes it has. A refusal leaves `out` as it was.
 pub fn write(
@@ -29,54 +21,56 @@ pub fn write(
     piece_length: u64,
     pieces: &[u8],
     length: u64,
-) -> Put
-    ensures { left (put_paper result) out.new ≡ write_of (fields announce.now name.now piece_length pieces.now length) out.old }
+) -> Result<usize, Refusal>
+    ensures { left (paper result) out.new ≡ write_of (fields announce.now name.now piece_length pieces.now length) out.old }
 {
-    match size(announce, name, piece_length, pieces, length) {
-        Sized::Bytes(n) => {
-            if out.len() < n {
-                return no_room();
-            }
-            Put::To(put_all(out, announce, name, piece_length, pieces, length))
-        }
-        Sized::Refused(r) => Put::Refused(r),
+    let n = size(announce, name, piece_length, pieces, length)?;
+    if out.len() < n {
+        return Err(refuse(number::ROOM, 0));
     }
+    Ok(put_all(out, announce, name, piece_length, pieces, length))
 }
 
 // How many bytes of output `write` needs for this torrent.
-pub fn size(announce: &[u8], name: &[u8], piece_length: u64, pieces: &[u8], length: u64) -> Sized
+pub fn size(
+    announce: &[u8],
+    name: &[u8],
+    piece_length: u64,
+    pieces: &[u8],
+    length: u64,
+) -> Result<usize, Refusal>
     ensures { paper result ≡ size_of (fields announce.now name.now piece_length pieces.now length) }
 {
     if !torrent_metainfo::legal_name(name) {
-        return refused(number::NAME);
+        return Err(refuse(number::NAME, 0));
     }
     if !rules::legal_piece_length(piece_length) {
-        return refused(number::RANGE);
+        return Err(refuse(number::RANGE, 0));
     }
     if !rules::legal_file_length(length) {
-        return refused(number::RANGE);
+        return Err(refuse(number::RANGE, 0));
     }
     if !rules::legal_total(Total(length), piece_length) {
-        return refused(number::RANGE);
+        return Err(refuse(number::RANGE, 0));
     }
     let count = rules::pieces(Total(length), piece_length);
     if pieces.len() as u64 != 20 * count {
-        return refused(number::PIECES);
+        return Err(refuse(number::PIECES, 0));
     }
     // Tests of their own, since the sum of all lengths may not fit.
     if limit::TEXT < announce.len() {
-        return refused(number::LONG);
+        return Err(refuse(number::LONG, 0));
     }
     if limit::TEXT < name.len() {
-        return refused(number::LONG);
+        return Err(refuse(number::LONG, 0));
     }
     let strings = string_size(announce) + string_size(name) + string_size(pieces);
     // What stands around the strings and the digits has 61 bytes.
     let bytes = strings + digits(piece_length) + digits(length) + 61;
     if limit::TEXT < bytes {
-        return refused(number::LONG);
+        return Err(refuse(number::LONG, 0));
     }
-    Sized::Bytes(bytes)
+    Ok(bytes)
 }
 
 // Puts all of a text that fits, key by key, and gives the place past it.
@@ -124,16 +118,4 @@ fn string_size(bytes: &[u8]) -> usize
     ensures { (result ≡ length_of (written_string bytes.now)) × (result ≤ most_text + 21) }
 {
     digits(bytes.len() as u64) + 1 + bytes.len()
-}
-
-fn refused(number: u8) -> Sized
-    ensures { result ≡ Sized.Refused (record { number = number; place = 0 }) }
-{
-    Sized::Refused(refusal::refuse(number, 0))
-}
-
-fn no_room() -> Put
-    ensures { result ≡ Put.Refused (record { number = room; place = 0 }) }
-{
-    Put::Refused(refusal::refuse(number::ROOM, 0))
 }

@@ -1,37 +1,21 @@
 -- The number rules: what their tests say, and that the code's tests are these. Assumes nothing.
-use mathlib.Core.Path.{◌≡◌, refl, sym, ap, ◌∙◌}
+use mathlib.Core.Path.{◌≡◌, refl, ap, ◌∙◌}
 use mathlib.Core.Bool.{Bool, true, false, ◌&&◌, ◌||◌, and-false, or-true}
 use mathlib.Core.Logic.{◌⊎◌, inl, inr, ⊎_elim}
 use mathlib.Core.List.{List, [], ◌∷◌}
 use Prim.Native.Nat.{ℕ, zero, suc, ◌+◌, ◌-◌, ◌*◌, ◌/◌, ◌%◌, ◌^◌, ◌≤◌, ◌<◌, min}
 use native.Mathlib.Omega.{arith}
-use native.Mathlib.Nat.{add-mul, suc-mul, mul-zero, div-zero, mod-zero, div-eq_of_lt-le, div-add-mod', mod-lt, div-lt_iff_lt-mul, le-div_iff_mul-le, mul-le-mul}
+use native.Mathlib.Nat.{suc-mul, div-zero, mod-zero, div-lt_iff_lt-mul, le-div_iff_mul-le, mul-le-mul}
 use lib.Dec.{leb, eqb}
 use lib.ListN.{length, get_or}
 use lib.Pow.{pow_mono}
-use borrow.Author.Tests.{eqb-true, eq-eqb, ne_eqb, le-leb, lt-leb, leb-true}
+use borrow.Author.Tests.{eqb-true, eq-eqb, le-leb, lt-leb, leb-true}
 use Rattle.refusal.specs.Limits.{longest_file, longest_piece, shortest_piece, most_files, most_pieces}
 use Rattle.refusal.proofs.Cases.{cannot, lt-or-le, both, or_cases}
 use Rattle.torrent_blocks.specs.Numberings.{widest, content_offset, piece_number, piece_offset}
 use Rattle.torrent_blocks.specs.Rules.{power_from, piece_length_of, file_length, file_count, pieces_of, total_and, largest, sum, file_lengths, lawful, PieceLength, Lawful}
 
 -- ---- a piece length is a power of two
-
--- as a match on the numbers has it
-unfoldable pub Power : ℕ → ℕ → ℕ → Type 0
-Power zero k n = n ≡ 2 ^ k
-Power (suc more) k n = (n ≡ 2 ^ k) ⊎ Power more (suc k) n
-
-pub power-true : (more k n : ℕ) → Power more k n → power_from (suc more) k n ≡ true
-unfolding Power power_from
-power-true zero k n e = rw (eq-eqb n (2 ^ k) e)
-power-true (suc more) k n (inl e) = rw (eq-eqb n (2 ^ k) e)
-power-true (suc more) k n (inr e) = ap (λ (t : Bool). eqb n (2 ^ k) || t) (power-true more (suc k) n e) ∙ or-true (eqb n (2 ^ k))
-
-pub power-false : (more k n : ℕ) → (Power more k n → ⊥) → power_from (suc more) k n ≡ false
-unfolding Power power_from
-power-false zero k n h = rw (ne_eqb n (2 ^ k) h)
-power-false (suc more) k n h = rw (ne_eqb n (2 ^ k) (λ e. h (inl e))) (power-false more (suc k) n (λ e. h (inr e)))
 
 power-is : (more k n : ℕ) → power_from more k n ≡ true → (e : ℕ) × (k ≤ e) × (e < k + more) × (n ≡ 2 ^ e)
 unfolding power_from
@@ -65,41 +49,16 @@ module _ (n : ℕ) where
 
 -- ---- pieces
 
--- rounded up, as the code does it
-module _ (t pl : ℕ) where
-  pub pieces_none : pl ≡ 0 → 0 ≡ pieces_of t pl
-  pieces_none e = rw e (sym (div-zero (t + (0 - 1))))
+module _ (t pl : ℕ) (h : 0 < pl) where
+  -- a piece is one exactly where it starts inside the content
+  pub starts-inside : (p : ℕ) → p < pieces_of t pl → p * pl < t
+  starts-inside p l = let e = (le-div_iff_mul-le {k = pl} {x = suc p} {y = t + (pl - 1)} h).0 l in omega (arith, suc-mul p pl)
 
-  module _ (h : 0 < pl) where
-    pub pieces_whole : t % pl ≡ 0 → t / pl ≡ pieces_of t pl
-    pieces_whole e =
-        let d = div-add-mod' t pl in
-        sym (div-eq_of_lt-le {k = t / pl} pl {m = t + (pl - 1)} (omega arith) (omega (arith, add-mul (t / pl) 1 pl)))
+  pub is-piece : (p : ℕ) → p * pl < t → p < pieces_of t pl
+  is-piece p l = (le-div_iff_mul-le {k = pl} {x = suc p} {y = t + (pl - 1)} h).1 (omega (arith, suc-mul p pl))
 
-    pub pieces_more : (t % pl ≡ 0 → ⊥) → t / pl + 1 ≡ pieces_of t pl
-    pieces_more e =
-        let d = div-add-mod' t pl in
-        let m = mod-lt t {m = pl} h in
-        let some : 0 < t % pl = ⊎_elim (λ (l : 0 < t % pl). l) (λ (l : t % pl ≤ 0). absurd (e (omega arith))) (lt-or-le 0 (t % pl)) in
-        sym (div-eq_of_lt-le {k = t / pl + 1} pl {m = t + (pl - 1)} (omega (arith, add-mul (t / pl) 1 pl)) (omega (arith, add-mul (t / pl + 1) 1 pl, add-mul (t / pl) 1 pl)))
-
-    -- which is a number of 64 bits
-    pub pieces-fit : (t % pl ≡ 0 → ⊥) → t / pl + 1 ≤ t
-    pieces-fit e =
-        let d = div-add-mod' t pl in
-        let some : 0 < t % pl = ⊎_elim (λ (l : 0 < t % pl). l) (λ (l : t % pl ≤ 0). absurd (e (omega arith))) (lt-or-le 0 (t % pl)) in
-        let m = mul-le-mul {n₁ = t / pl} {m₁ = 1} {n₂ = t / pl} {m₂ = pl} (omega arith) h in
-        omega arith
-
-    -- a piece is one exactly where it starts inside the content
-    pub starts-inside : (p : ℕ) → p < pieces_of t pl → p * pl < t
-    starts-inside p l = let e = (le-div_iff_mul-le {k = pl} {x = suc p} {y = t + (pl - 1)} h).0 l in omega (arith, suc-mul p pl)
-
-    pub is-piece : (p : ℕ) → p * pl < t → p < pieces_of t pl
-    is-piece p l = (le-div_iff_mul-le {k = pl} {x = suc p} {y = t + (pl - 1)} h).1 (omega (arith, suc-mul p pl))
-
-    pub few-pieces : pieces_of t pl ≤ most_pieces → t ≤ 16384 * pl
-    few-pieces l = let e = (div-lt_iff_lt-mul {k = pl} {x = t + (pl - 1)} {y = 16385} h).0 (omega arith) in omega arith
+  pub few-pieces : pieces_of t pl ≤ most_pieces → t ≤ 16384 * pl
+  few-pieces l = let e = (div-lt_iff_lt-mul {k = pl} {x = t + (pl - 1)} {y = 16385} h).0 (omega arith) in omega arith
 
 -- ---- all rules
 
@@ -145,12 +104,6 @@ module _ (pl : ℕ) (ns : List ℕ) (k : ℕ) where
   is_lawful h =
       rw (is-piece-length pl h.piece, le-leb 1 (length ns) h.one, le-leb (length ns) most_files h.few, each-files ns h.files, le-leb 1 (sum ns) h.some, le-leb k most_pieces h.most)
 
--- ---- the running total
-
--- stopping early and stopping late are the same
-pub running : (t s n : ℕ) → t ≡ min s largest → min (t + n) largest ≡ min (s + n) largest
-running t s n e = omega arith
-
 -- the code's tests: a file that is too long makes the total too large
 pub tests-are : (pl : ℕ) (ns : List ℕ) (total : ℕ) → total ≡ min (sum ns) largest
     → piece_length_of pl && (file_count (length ns) && total_and total (pieces_of total pl)) ≡ lawful pl ns (pieces_of (sum ns) pl)
@@ -185,15 +138,6 @@ product p pl h l = let e : p * pl ≤ (2 ^ 32 - 1) * 2 ^ 24 = mul-le-mul {n₂ =
 -- ---- the three numberings
 
 module _ (pl p o : ℕ) where
-  pub offset-none : pl ≡ 0 → o < 2 ^ 32 → o ≡ content_offset pl p o
-  offset-none e h = let z : p * pl ≡ 0 = ap (λ (x : ℕ). p * x) e ∙ mul-zero p in omega arith
-
-  pub offset-over : 0 < pl → o < 2 ^ 32 → (largest - o) / pl < p → largest ≡ content_offset pl p o
-  offset-over z h l = let e : largest - o < p * pl = (div-lt_iff_lt-mul {k = pl} {x = largest - o} {y = p} z).0 l in omega arith
-
-  pub offset-within : 0 < pl → o < 2 ^ 32 → p ≤ (largest - o) / pl → p * pl + o ≤ largest
-  offset-within z h l = let e : p * pl ≤ largest - o = (le-div_iff_mul-le {k = pl} {x = p} {y = largest - o} z).0 l in omega arith
-
   -- of a number of 32 bits and a piece length it is what it says
   pub offset-exact : {r : ℕ} → pl ≤ 2 ^ 24 → p < 2 ^ 32 → o < 2 ^ 32 → r ≡ content_offset pl p o → (r ≡ p * pl + o) × (r < 2 ^ 57)
   offset-exact h i j e = let q = product p pl i h in (omega arith, omega arith)

@@ -1,24 +1,15 @@
 -- Where a block falls, where a file's byte falls, and how long a piece is: what each call is to answer, over any files. Assumes nothing: these are definitions.
-use Rattle.std.specs.Prelude.{Bool, cond, ◌&&◌, List, [], ◌∷◌, ◌++◌, ℕ, ◌+◌, ◌*◌, ◌/◌, ◌%◌, ltb, leb, length, get_or, drop}
+use Rattle.refusal.specs.declared.Refusal.{Refusal}
+use Rattle.torrent_blocks.specs.declared.Spot as code
+use Rattle.std.specs.Prelude.{Bool, cond, ◌&&◌, List, [], ◌∷◌, ◌++◌, ℕ, ◌+◌, ◌*◌, ◌/◌, ◌%◌, ltb, leb, length, get_or, drop, Err, Ok, Result}
 use Rattle.refusal.specs.Paper.{Outcome, taken, refused, refusal, Left as Leaves}
 pub use Rattle.refusal.specs.Paper.{left}
 use Rattle.refusal.specs.Numbers.{range, beyond, outside, room}
 use Rattle.refusal.specs.Limits.{longest_block}
 use Rattle.torrent_blocks.specs.Rules.{pieces_of, lawful}
 use Rattle.torrent_blocks.specs.Spans.{Span, nowhere, lengths, end_of, FilePart, parts_of, held_in}
-use Rattle.torrent_blocks.specs.declared.Parts.{Parts}
-use Rattle.torrent_blocks.specs.declared.Parts.TheVariants.{Written, Refused}
-use Rattle.torrent_blocks.specs.declared.Place.{Place}
-use Rattle.torrent_blocks.specs.declared.Place.TheVariants.{At, Refused as Nowhere}
-use Rattle.torrent_blocks.specs.declared.Size.{Size}
-use Rattle.torrent_blocks.specs.declared.Size.TheVariants.{Bytes, Refused as Unknown}
 
 -- ---- the code's answers in document 01's words
-
--- how many parts were written
-abbrev pub parts_paper : Parts → Outcome ℕ
-parts_paper (Written n) = taken n
-parts_paper (Refused r) = refusal r
 
 -- a piece and an offset in it
 pub record Spot : Type 0 where
@@ -30,14 +21,9 @@ abbrev pub spot : ℕ → ℕ → Spot
 spot p o = record { piece = p; offset = o }
 
 -- where a byte falls
-abbrev pub place_paper : Place → Outcome Spot
-place_paper (At p o) = taken (spot p.0 o.0)
-place_paper (Nowhere r) = refusal r
-
--- how many bytes a piece has
-abbrev pub size_paper : Size → Outcome ℕ
-size_paper (Bytes n) = taken n
-size_paper (Unknown r) = refusal r
+abbrev pub place_paper : Result code.Spot Refusal → Outcome Spot
+place_paper (Ok s) = taken (spot s.piece.0 s.offset.0)
+place_paper (Err r) = refusal r
 
 -- ---- files ss and a piece length
 

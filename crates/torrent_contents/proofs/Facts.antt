@@ -1,12 +1,5 @@
 -- What is known of a torrent that was taken. Assumes nothing.
-use mathlib.Core.Path.{◌≡◌, refl, sym, ap, ◌∙◌, subst}
-use mathlib.Core.Bool.{Bool, true, false, cond}
-use mathlib.Core.List.{List}
-use Prim.Native.Nat.{ℕ, ◌+◌, ◌*◌, ◌≤◌}
-use native.Mathlib.Omega.{arith}
-use lib.Dec.{eqb}
-use lib.ListN.{length}
-use borrow.Author.Tests.{eqb-true}
+use Rattle.std.proofs.Common.{◌≡◌, refl, sym, ap, ◌∙◌, subst, Bool, true, false, cond, List, ℕ, ◌+◌, ◌*◌, ◌≤◌, arith, eqb, length, eqb-true}
 use Rattle.refusal.specs.Paper.{Outcome, taken, refused, map}
 use Rattle.refusal.specs.Limits.{most_text, most_pieces, longest_piece, longest_file}
 use Rattle.refusal.specs.declared.Part.{Part}

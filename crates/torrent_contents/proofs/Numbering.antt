@@ -1,10 +1,5 @@
 -- A file by its number: what the walk comes to is what the decoded value says. Assumes nothing.
-use mathlib.Core.Path.{◌≡◌, refl, sym, ap, ◌∙◌, subst}
-use mathlib.Core.Bool.{Bool, true, false, cond}
-use mathlib.Core.List.{List, [], ◌∷◌}
-use Prim.Native.Nat.{ℕ, zero, suc, ◌+◌, ◌-◌, ◌<◌, ◌≤◌, min}
-use native.Mathlib.Omega.{arith}
-use lib.ListN.{length}
+use Rattle.std.proofs.Common.{◌≡◌, refl, sym, ap, ◌∙◌, subst, Bool, true, false, cond, List, [], ◌∷◌, ℕ, zero, suc, ◌+◌, ◌-◌, ◌<◌, ◌≤◌, min, arith, length}
 use Rattle.refusal.specs.Paper.{Outcome, taken, refused, then, map}
 use Rattle.refusal.specs.Limits.{most_text}
 use Rattle.refusal.proofs.Outcomes.{map-taken, then-taken}
@@ -197,25 +192,21 @@ entry-refused s n r q e = go (decode s) e
 
 -- ---- the walk's steps
 
-module _ (s : List ℕ) (p o n : ℕ) where
-  pub walk_here : (f : File) → n ≡ 0 → taken f ≡ file_at s p → taken (entry o f) ≡ walk_to n s p o
+module _ (s : List ℕ) (p o : ℕ) {f : File} (e : taken f ≡ file_at s p) where
+  pub walk_here : {n : ℕ} → n ≡ 0 → taken (entry o f) ≡ walk_to n s p o
   unfolding walk_to
-  walk_here f z e = ap (map (entry o)) e ∙ ap (λ (k : ℕ). walk_to k s p o) (sym z)
+  walk_here z = rw z (ap (map (entry o)) e)
 
-  pub walk-bad : (r q : ℕ) → refused r q ≡ file_at s p → refused r q ≡ walk_to n s p o
+  -- i files of n are passed, and this one
+  pub walk_more : {n i k : ℕ} → i < n → k ≡ min (o + f.length) largest → walk_to (n - (i + 1)) s f.next k ≡ walk_to (n - i) s p o
   unfolding walk_to
-  walk-bad r q e = go n
-    where
-      go : (n : ℕ) → refused r q ≡ walk_to n s p o
-      go zero = ap (map (entry o)) e
-      go (suc k) = ap (λ (x : Outcome File). then x (λ f. walk_to k s f.next (min (o + f.length) largest))) e
+  walk_more {n} {i} {k} l m =
+      let b : n - i ≡ suc (n - (i + 1)) = omega arith in
+      ap (walk_to (n - (i + 1)) s f.next) m
+      ∙ ap (λ (x : Outcome File). then x (λ f. walk_to (n - (i + 1)) s f.next (min (o + f.length) largest))) e
+      ∙ ap (λ (j : ℕ). walk_to j s p o) (sym b)
 
-  pub walk_more : (f : File) (k : ℕ) → (n ≡ 0 → ⊥) → taken f ≡ file_at s p → k ≡ min (o + f.length) largest → walk_to (n - 1) s f.next k ≡ walk_to n s p o
-  unfolding walk_to
-  walk_more f k z e m = go n z
-    where
-      go : (n : ℕ) → (n ≡ 0 → ⊥) → walk_to (n - 1) s f.next k ≡ walk_to n s p o
-      go zero z = absurd (z refl)
-      go (suc i) z =
-          let b : suc i - 1 ≡ i = omega arith in
-          ap (λ (j : ℕ). walk_to j s f.next k) b ∙ ap (walk_to i s f.next) m ∙ ap (λ (x : Outcome File). then x (λ f. walk_to i s f.next (min (o + f.length) largest))) e
+pub walk-bad : (s : List ℕ) (p o n : ℕ) {r q : ℕ} → refused r q ≡ file_at s p → refused r q ≡ walk_to n s p o
+unfolding walk_to
+walk-bad s p o zero e = ap (map (entry o)) e
+walk-bad s p o (suc k) e = ap (λ (x : Outcome File). then x (λ f. walk_to k s f.next (min (o + f.length) largest))) e

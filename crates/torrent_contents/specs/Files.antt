@@ -1,6 +1,6 @@
 -- The files of a torrent by number, on the decoded value. Assumes nothing: these are definitions.
 use Rattle.std.specs.Prelude.{true, false, cond, List, [], ◌∷◌, ℕ, ◌+◌}
-use Rattle.refusal.specs.Paper.{Outcome, taken, refusal, map, then}
+use Rattle.refusal.specs.Paper.{Outcome, taken, map, then}
 use Rattle.bencode.specs.Value.{Value, Items, str, int, list, dict, none, item}
 use Rattle.bencode.specs.Decode.{decode}
 use Rattle.bencode_walk.specs.Lookup.{Under, nothing, under, lookup}
@@ -11,12 +11,6 @@ use Rattle.torrent_metainfo.specs.Rules.{file_of, torrent_of}
 use Rattle.torrent_metainfo.specs.declared.File.{File}
 use Rattle.torrent_metainfo.specs.declared.Torrent.{Torrent}
 use Rattle.torrent_contents.specs.declared.Entry.{Entry}
-use Rattle.torrent_contents.specs.declared.Found.{Found}
-use Rattle.torrent_contents.specs.declared.Found.TheVariants.{Is, Refused}
-
-abbrev pub found_paper : Found → Outcome Entry
-found_paper (Is e) = taken e
-found_paper (Refused r) = refusal r
 
 -- what is under a key of the value at p, where it is a dictionary
 abbrev pub inside : ℕ → Value → List ℕ → Under

@@ -1,22 +1,23 @@
 -- The elements of a path, one after the other. Assumes nothing: these are definitions.
-use Rattle.std.specs.Prelude.{cond, List, ℕ, take, drop}
+use Rattle.refusal.specs.declared.Refusal.{Refusal}
+use Rattle.std.specs.Prelude.{cond, List, ℕ, take, drop, Err, Ok, Result}
 use Rattle.refusal.specs.Paper.{Outcome, taken, refused, refusal, then}
 use Rattle.refusal.specs.Numbers.{kind, name}
 use Rattle.refusal.specs.declared.Part.{Part}
 use Rattle.bencode_walk.specs.Walk.{Head, string, integer, long, list, dictionary, end, look_of}
 use Rattle.torrent_metainfo.specs.Rules.{good_name}
 use Rattle.torrent_contents.specs.declared.Element.{Element}
-use Rattle.torrent_contents.specs.declared.Element.TheVariants.{Is, End, Refused}
+use Rattle.torrent_contents.specs.declared.Element.TheVariants.{Is, End}
 
 -- an element and the place of the next; or the end of the path, and the place past it
 pub data PathStep : Type 0 where
   element : Part → ℕ → PathStep
   done : ℕ → PathStep
 
-abbrev pub element_paper : Element → Outcome PathStep
-element_paper (Is x q) = taken (element x q)
-element_paper (End q) = taken (done q)
-element_paper (Refused r) = refusal r
+abbrev pub element_paper : Result Element Refusal → Outcome PathStep
+element_paper (Ok (Is x q)) = taken (element x q)
+element_paper (Ok (End q)) = taken (done q)
+element_paper (Err r) = refusal r
 
 -- a string that may be a name, else 13; or the end; another kind is 10
 abbrev pub element_in : List ℕ → ℕ → Head → Outcome PathStep

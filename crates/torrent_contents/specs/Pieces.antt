@@ -1,6 +1,6 @@
 -- The hash of a piece, and its check. Assumes nothing: these are definitions.
 use Rattle.std.specs.Prelude.{◌≡◌, Bool, true, false, cond, List, ℕ, ◌+◌, ◌*◌, ◌<◌, ltb, leb, eqb, length}
-use Rattle.refusal.specs.Paper.{Outcome, taken, refused, refusal, then}
+use Rattle.refusal.specs.Paper.{Outcome, taken, refused, then}
 use Rattle.refusal.specs.Numbers.{long, beyond, outside}
 use Rattle.refusal.specs.Limits.{longest_piece}
 use Rattle.refusal.specs.Parts.{bytes_at}
@@ -10,19 +10,6 @@ use Rattle.hash_sha1.specs.Digest.{same}
 pub use Rattle.torrent_blocks.specs.Numberings.{piece_bytes_of}
 use Rattle.torrent_metainfo.specs.Reading.{read_of}
 use Rattle.torrent_metainfo.specs.declared.Torrent.{Torrent}
-use Rattle.torrent_contents.specs.declared.Hash.{Hash}
-use Rattle.torrent_contents.specs.declared.Hash.TheVariants.{Stands, Refused as Absent}
-use Rattle.torrent_contents.specs.declared.Checked.{Checked}
-use Rattle.torrent_contents.specs.declared.Checked.TheVariants.{Yes, No, Refused}
-
-abbrev pub hash_paper : Hash → Outcome Part
-hash_paper (Stands x) = taken x
-hash_paper (Absent r) = refusal r
-
-abbrev pub check_paper : Checked → Outcome Bool
-check_paper Yes = taken true
-check_paper No = taken false
-check_paper (Refused r) = refusal r
 
 -- the 20 bytes of piece n in pieces
 abbrev pub hash_part : ℕ → Part → Part

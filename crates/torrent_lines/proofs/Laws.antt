@@ -1,20 +1,16 @@
 -- The listing's answer is determined, a refusal leaves the lent output as it was, and 37 is given exactly where the lines do not fit. Assumes nothing.
-use mathlib.Core.Path.{◌≡◌, sym, ◌∙◌}
-use mathlib.Core.List.{List}
-use Prim.Native.Nat.{ℕ, ◌<◌, ◌≤◌}
-use native.Mathlib.Omega.{arith}
-use lib.ListN.{length}
-use Rattle.refusal.specs.Paper.{taken, refused}
+use Rattle.std.proofs.Common.{Result, ◌≡◌, sym, ◌∙◌, List, ℕ, ◌<◌, ◌≤◌, arith, length}
+use Rattle.refusal.specs.declared.Refusal.{Refusal}
+use Rattle.refusal.specs.Paper.{paper, taken, refused}
 use Rattle.refusal.specs.Numbers.{room}
-use Rattle.bencode_writer.specs.Put.{paper, left, put_of, Ran}
-use Rattle.bencode_writer.specs.declared.Put.{Put}
+use Rattle.bencode_writer.specs.Put.{left, put_of, Ran}
 use Rattle.bencode_writer.proofs.Laws.{Standing}
 use Rattle.bencode_writer.proofs.Laws as put
 use Rattle.torrent_lines.specs.Lines.{listing_of}
 
 -- what `listing` permits of a text s and an output o
-module _ (s o : List ℕ) (r : Put) {out : List ℕ} (e : left (paper r) out ≡ put_of (listing_of s) 0 o) where
-  pub listing-determined : (q : Put) {out' : List ℕ} → left (paper q) out' ≡ put_of (listing_of s) 0 o → (r ≡ q) × (out ≡ out')
+module _ (s o : List ℕ) (r : Result ℕ Refusal) {out : List ℕ} (e : left (paper r) out ≡ put_of (listing_of s) 0 o) where
+  pub listing-determined : (q : Result ℕ Refusal) {out' : List ℕ} → left (paper q) out' ≡ put_of (listing_of s) 0 o → (r ≡ q) × (out ≡ out')
   listing-determined q f = put.determined (listing_of s) 0 o r e q f
 
   pub listing-refusal-keeps : {n p : ℕ} → paper r ≡ refused n p → ((n ≡ room) × (p ≡ 0) × (length o < length (listing_of s))) × (out ≡ o)

@@ -1,14 +1,6 @@
 -- What the torrent that is read tells of the listing: its lines, where they come from, and how long they can be. Assumes nothing.
-use mathlib.Core.Path.{◌≡◌, refl, sym, ap, ◌∙◌, subst}
-use mathlib.Core.Bool.{Bool, true, false, cond}
-use mathlib.Core.List.{List, [], ◌∷◌, ◌++◌}
+use Rattle.std.proofs.Common.{◌≡◌, refl, sym, ap, ◌∙◌, subst, Bool, true, false, cond, List, [], ◌∷◌, ◌++◌, ℕ, suc, ◌+◌, ◌*◌, ◌<◌, ◌≤◌, arith, le-ltb, lt-ltb, leb-true, leb, eqb, pos, length, take, drop, length-append}
 use mathlib.Core.List as lists
-use Prim.Native.Nat.{ℕ, suc, ◌+◌, ◌*◌, ◌<◌, ◌≤◌}
-use native.Mathlib.Omega.{arith}
-use borrow.Author.Tests.{le-ltb, lt-ltb, leb-true}
-use lib.Dec.{leb, eqb}
-use lib.IntN.{pos}
-use lib.ListN.{length, take, drop, length-append}
 use Rattle.refusal.specs.Paper.{Outcome, taken, refused, map, then}
 use Rattle.refusal.specs.Limits.{longest_file, longest_piece, most_files, most_pieces}
 use Rattle.refusal.specs.declared.Part.{Part}
@@ -293,8 +285,8 @@ pub listing-torrent : (s : List ℕ) (v : Value) → length s ≤ most_listed �
 unfolding listing_of
 listing-torrent s v h e = ap (λ (b : Bool). cond b (refused_line 8 0) (value_lines (decode s))) (le-ltb most_listed (length s) h) ∙ ap value_lines e
 
-pub ready : (s b : List ℕ) (t : Torrent) → read_of s ≡ taken t → length s ≤ most_listed → b ≡ take t.name.len (drop t.name.from s) → Ready s b t
-ready s b t e h k =
+pub ready : {s b : List ℕ} {t : Torrent} → read_of s ≡ taken t → length s ≤ most_listed → b ≡ take t.name.len (drop t.name.from s) → Ready s b t
+ready {s} {b} {t} e h k =
     let a = then-taken (decode s) torrent_of t e in
     let info : Value = within info_key a.0 in
     let d = torrent-told s a.0 (taken_fine s a.0 a.1) t a.2 in

@@ -1,46 +1,17 @@
--- Bytes of lines, one more and none left, which of them are plain, and lines put together. Assumes nothing.
-use mathlib.Core.Path.{◌≡◌, refl, sym, ap, ◌∙◌}
-use mathlib.Core.Bool.{false, not}
-use mathlib.Core.List.{List, [], ◌∷◌, ◌++◌, map, append_assoc}
-use Prim.Native.Nat.{ℕ, ◌+◌, ◌-◌, ◌<◌, ◌≤◌}
-use native.Mathlib.Omega.{arith}
-use native.Mathlib.Numerals.{add-one}
-use borrow.Author.Tests.{le-leb, lt-leb}
-use lib.Dec.{eqb}
-use lib.ListN.{length, get_or, take, drop, replicate, drop_of_length-le}
-use lib.Seq.{set_out, drop-cons}
+-- One byte more of lines, their digits, and lines put together. Assumes nothing.
+use Rattle.std.proofs.Common.{◌≡◌, sym, ap, ◌∙◌, List, [], ◌∷◌, ◌++◌, map, append_assoc, ℕ, ◌+◌, ◌-◌, ◌<◌, ◌≤◌, arith, add-one, length, get_or, take, drop, drop-cons, replicate}
 use Rattle.bencode_scalar.specs.Written.{decimal, decimal_in}
 use Rattle.refusal.specs.Paper.{Outcome}
-use Rattle.bencode_writer.specs.Put.{left, put_of, place_past, Ran}
+use Rattle.bencode_writer.specs.Put.{left, put_of, place_past}
 use Rattle.bencode_writer.proofs.Decimals.{length_most}
 use Rattle.bencode_writer.proofs.Runs.{ran-length, ran-there, put-ran}
 use Rattle.refusal.specs.Texts.{bytes}
-use Rattle.torrent_lines.specs.Lines.{plain, escaped, slashed}
+use Rattle.torrent_lines.specs.Lines.{escaped, slashed}
 
--- a byte past the output is counted and not stored
-pub ran_out : (b at : ℕ) (o : List ℕ) → length o ≤ at → Ran (b ∷ []) at o (at + 1) o
-ran_out b at o h = record { place = refl; out = sym (set_out o at b h) }
-
--- ---- bytes
-
+-- what is left from a place of a list on, by the element there
 module _ (s : List ℕ) (i : ℕ) (h : i < length s) where
   pub one_more : drop i s ≡ (get_or s i 0 ∷ []) ++ drop (i + 1) s
   one_more = drop-cons s i 0 h ∙ ap (λ (k : ℕ). get_or s i 0 ∷ drop k s) (sym (add-one i))
-
-pub none_left : (s : List ℕ) (i : ℕ) → length s ≤ i → drop i s ≡ []
-none_left s i h = drop_of_length-le s h
-
--- ---- which bytes are plain
-
-module _ (b : ℕ) where
-  pub plain-low : b < 33 → false ≡ plain b
-  plain-low h = rw (lt-leb 33 b h)
-
-  pub plain-high : 33 ≤ b → 126 < b → false ≡ plain b
-  plain-high l h = rw (le-leb 33 b l, lt-leb b 126 h)
-
-  pub plain_in : 33 ≤ b → b ≤ 126 → not (eqb b 37) ≡ plain b
-  plain_in l h = rw (le-leb 33 b l, le-leb b 126 h)
 
 -- a number of 64 bits has 20 digits at most
 pub digits-most : (n : ℕ) → n < 18446744073709551616 → length (decimal n) ≤ 20

@@ -1,11 +1,6 @@
 -- The elements of a path and the files of a list, one after the other, as the code meets them. Assumes nothing.
-use mathlib.Core.Path.{◌≡◌, refl, sym, ap, ◌∙◌, subst}
-use mathlib.Core.List.{List, [], ◌∷◌, ◌++◌}
+use Rattle.std.proofs.Common.{◌≡◌, refl, sym, ap, ◌∙◌, subst, List, [], ◌∷◌, ◌++◌, ℕ, ◌+◌, ◌*◌, ◌<◌, ◌≤◌, arith, pos, length, take, drop, length-append}
 use mathlib.Core.List as lists
-use Prim.Native.Nat.{ℕ, ◌+◌, ◌*◌, ◌<◌, ◌≤◌}
-use native.Mathlib.Omega.{arith}
-use lib.IntN.{pos}
-use lib.ListN.{length, take, drop, length-append}
 use Rattle.refusal.specs.Paper.{Outcome, taken, refused, map, then}
 use Rattle.refusal.specs.Limits.{longest_file}
 use Rattle.refusal.specs.declared.Part.{Part}
@@ -107,18 +102,18 @@ PathGoing s first at o p m to out = (w : List ℕ) → PathPrinted s first 32 w 
 pub path-start : (s : List ℕ) (first at : ℕ) (o : List ℕ) → PathGoing s first at o first 32 at o
 path-start s first at o w a = record { left = w; stands = a; going = going_start w at o }
 
-module _ (s : List ℕ) (first at : ℕ) (o : List ℕ) (p m to : ℕ) (out : List ℕ) (g : PathGoing s first at o p m to out) where
-  pub path-done : (r q : ℕ) → refused r q ≡ string_of s p → (w : List ℕ) → PathPrinted s first 32 w → Ran w at o to out
-  path-done r q e w a = let l = g w a in going_end w at o l.going (path-end s p m l.left l.stands r q e)
+module _ {s : List ℕ} {first at : ℕ} {o : List ℕ} {p m to : ℕ} {out : List ℕ} (g : PathGoing s first at o p m to out) where
+  pub path-done : {r q : ℕ} → refused r q ≡ string_of s p → (w : List ℕ) → PathPrinted s first 32 w → Ran w at o to out
+  path-done {r} {q} e w a = let l = g w a in going_end w at o l.going (path-end s p m l.left l.stands r q e)
 
-  module _ (x : Part) (e : taken x ≡ string_of s p) where
-    pub path-again : (b : List ℕ) → b ≡ take x.len (drop x.from s) → (i j : ℕ) (out₁ out₂ : List ℕ) → Ran (m ∷ []) to out i out₁ → Ran (escaped b) i out₁ j out₂
-        → (q : ℕ) → q ≡ x.from + x.len → PathGoing s first at o q 47 j out₂
-    path-again b f i j out₁ out₂ h k q z w a =
+  module _ {x : Part} (e : taken x ≡ string_of s p) where
+    pub path-again : {b : List ℕ} → b ≡ take x.len (drop x.from s) → {i j : ℕ} {out₁ out₂ : List ℕ} → Ran (m ∷ []) to out i out₁ → Ran (escaped b) i out₁ j out₂
+        → PathGoing s first at o (x.from + x.len) 47 j out₂
+    path-again {b} f h k w a =
         let l = g w a in
         let n = path-more s p m l.left l.stands x e in
         let y = going_more w at o l.going (m ∷ []) (escaped b ++ n.rest) (n.whole ∙ ap (λ (v : List ℕ). m ∷ (escaped v ++ n.rest)) (sym f)) h in
-        record { left = n.rest; stands = rw z n.next; going = going_more w at o y (escaped b) n.rest refl k }
+        record { left = n.rest; stands = n.next; going = going_more w at o y (escaped b) n.rest refl k }
 
     -- the room that one path found is enough
     pub path_room : (w : List ℕ) → PathPrinted s first 32 w → to + 1 + length (escaped (take x.len (drop x.from s))) ≤ at + length w
@@ -243,17 +238,17 @@ FilesGoing s first at o p offset to out = (w : List ℕ) → FilesPrinted s firs
 pub files-start : (s : List ℕ) (first at : ℕ) (o : List ℕ) → FilesGoing s first at o first 0 at o
 files-start s first at o w a = record { left = w; stands = a; going = going_start w at o }
 
-module _ (s : List ℕ) (first at : ℕ) (o : List ℕ) (p offset to : ℕ) (out : List ℕ) (g : FilesGoing s first at o p offset to out) where
-  pub files-done : (r q : ℕ) → refused r q ≡ file_at s p → (w : List ℕ) → FilesPrinted s first 0 w → Ran w at o to out
-  files-done r q e w a = let l = g w a in going_end w at o l.going (files-end s p offset l.left l.stands r q e)
+module _ {s : List ℕ} {first at : ℕ} {o : List ℕ} {p offset to : ℕ} {out : List ℕ} (g : FilesGoing s first at o p offset to out) where
+  pub files-done : {r q : ℕ} → refused r q ≡ file_at s p → (w : List ℕ) → FilesPrinted s first 0 w → Ran w at o to out
+  files-done {r} {q} e w a = let l = g w a in going_end w at o l.going (files-end s p offset l.left l.stands r q e)
 
-  module _ (f : File) (e : taken f ≡ file_at s p) where
-    pub files-again : (after : ℕ) → offset + f.length ≡ after → (r : ℕ) (out₁ : List ℕ) → ((x : List ℕ) → PathPrinted s f.path 32 x → Ran (decimal offset ++ (32 ∷ (decimal f.length ++ (x ++ (10 ∷ []))))) to out r out₁)
-        → FilesGoing s first at o f.next after r out₁
-    files-again after k r out₁ h w a =
+  module _ {f : File} (e : taken f ≡ file_at s p) where
+    pub files-again : {r : ℕ} {out₁ : List ℕ} → ((x : List ℕ) → PathPrinted s f.path 32 x → Ran (decimal offset ++ (32 ∷ (decimal f.length ++ (x ++ (10 ∷ []))))) to out r out₁)
+        → FilesGoing s first at o f.next (offset + f.length) r out₁
+    files-again h w a =
         let l = g w a in
         let n = files-more s p offset l.left l.stands f e in
-        record { left = n.rest; stands = subst (λ (q : ℕ). FilesPrinted s f.next q n.rest) k n.next; going = going_more w at o l.going _ n.rest n.whole (h n.path n.stands) }
+        record { left = n.rest; stands = n.next; going = going_more w at o l.going _ n.rest n.whole (h n.path n.stands) }
 
     -- the room that the files found is enough for this one
     pub files-room : (w : List ℕ) → FilesPrinted s first 0 w → at + length w + 60 ≤ far → (x : List ℕ) × PathPrinted s f.path 32 x × (to + length x + 60 ≤ far)

@@ -1,13 +1,11 @@
 // One line a file, for torrents of many files.
-ghost use Rattle.std.specs.Prelude.{◌≡◌, List, [], ◌∷◌, ◌++◌, ℕ, ◌+◌, ◌<◌, ◌≤◌, length};
+ghost use Rattle.std.specs.Prelude.{[], ◌∷◌, ◌++◌, List, ℕ, ◌+◌, ◌≤◌, length};
 ghost use Rattle.bencode_scalar.specs.Written.{decimal};
 ghost use Rattle.bencode_writer.specs.Put.{Ran};
 ghost use Rattle.torrent_lines.specs.Places.{PathPrinted, FilesPrinted, far};
 
 use crate::ink;
-use bencode_fields::Bytes;
-use refusal::Part;
-use torrent_metainfo::{File, Filed};
+use torrent_metainfo::File;
 
 // The lines of the files of which the first stands at `first`: each begins where those before it end.
 pub fn many(text: &[u8], first: usize, out: &mut [u8], at: usize) -> usize
@@ -17,16 +15,12 @@ pub fn many(text: &[u8], first: usize, out: &mut [u8], at: usize) -> usize
     let mut p = first;
     let mut to = at;
     let mut offset: u64 = 0;
-    loop {
-        match torrent_metainfo::file_at(text, p) {
-            Filed::Is(f) => {
-                to = line(text, f, offset, out, to);
-                offset += f.length;
-                p = f.next;
-            }
-            Filed::Refused(_) => return to,
-        }
+    while let Ok(f) = torrent_metainfo::file_at(text, p) {
+        to = line(text, f, offset, out, to);
+        offset += f.length;
+        p = f.next;
     }
+    to
 }
 
 // Offset, length and path of a file.
@@ -48,22 +42,11 @@ fn path(text: &[u8], first: usize, out: &mut [u8], at: usize) -> usize
     let mut p = first;
     let mut to = at;
     let mut mark = b' ';
-    loop {
-        match bencode_fields::string_at(text, p) {
-            Bytes::Are(part) => {
-                to = ink::byte(out, to, mark);
-                to = ink::escaped(out, to, bencode_walk::bytes(text, part));
-                mark = b'/';
-                p = past(part);
-            }
-            Bytes::Refused(_) => return to,
-        }
+    while let Ok(part) = bencode_fields::string_at(text, p) {
+        to = ink::byte(out, to, mark);
+        to = ink::escaped(out, to, bencode_walk::bytes(text, part));
+        mark = b'/';
+        p = part.from + part.len;
     }
-}
-
-fn past(part: Part) -> usize
-    requires { part.from + part.len < 18446744073709551616 }
-    ensures { result ≡ part.from + part.len }
-{
-    part.from + part.len
+    to
 }

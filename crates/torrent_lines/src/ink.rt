@@ -25,10 +25,8 @@ pub fn literal(out: &mut [u8], at: usize, bytes: &[u8]) -> usize
     ensures { Ran bytes.now at out.old result out.new }
 {
     let mut to = at;
-    let mut i = 0;
-    while i < bytes.len() {
-        to = byte(out, to, bytes[i]);
-        i += 1;
+    for &b in bytes {
+        to = byte(out, to, b);
     }
     to
 }
@@ -59,10 +57,8 @@ pub fn escaped(out: &mut [u8], at: usize, bytes: &[u8]) -> usize
     ensures { Ran (escaped bytes.now) at out.old result out.new }
 {
     let mut to = at;
-    let mut i = 0;
-    while i < bytes.len() {
-        to = one(out, to, bytes[i]);
-        i += 1;
+    for &b in bytes {
+        to = one(out, to, b);
     }
     to
 }
@@ -72,19 +68,14 @@ fn one(out: &mut [u8], at: usize, b: u8) -> usize
     ensures { Ran (escaped_byte plain b) at out.old result out.new }
 {
     if is_plain(b) {
-        return byte(out, at, b);
+        byte(out, at, b)
+    } else {
+        literal(out, at, &bencode_writer::escape(b))
     }
-    literal(out, at, &bencode_writer::escape(b))
 }
 
 fn is_plain(b: u8) -> bool
     ensures { result ≡ plain b }
 {
-    if b < 33 {
-        return false;
-    }
-    if 126 < b {
-        return false;
-    }
-    b != b'%'
+    33 <= b && b <= 126 && b != b'%'
 }

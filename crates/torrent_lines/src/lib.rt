@@ -5,17 +5,14 @@ mod files;
 mod ink;
 
 ghost use Rattle.std.specs.Prelude.{◌≡◌, [], ◌∷◌, ◌+◌, ◌≤◌, length};
-ghost use Rattle.refusal.specs.Paper.{taken};
-ghost use Rattle.refusal.specs.Numbers.{room};
+ghost use Rattle.refusal.specs.Paper.{paper, taken};
 ghost use Rattle.bencode_writer.specs.Put.{left, put_of, Ran};
-ghost use Rattle.bencode_writer.specs.Put.{paper as put_paper};
 ghost use Rattle.torrent_metainfo.specs.Reading.{read_of};
 ghost use Rattle.torrent_lines.specs.Lines.{escaped, first_line, file_line, refused_line, most_listed, most_printed, listing_of};
 ghost use Rattle.torrent_lines.specs.Places.{far};
 
-use bencode_writer::Put;
-use refusal::number;
-use torrent_metainfo::{Reading, Torrent};
+use refusal::{Refusal, number, refuse};
+use torrent_metainfo::Torrent;
 
 // The most bytes of a text that is listed.
 pub const TEXT: usize = 65536;
@@ -24,17 +21,14 @@ pub const MOST: usize = 393216;
 
 // Writes the listing of a text to the front of `out`, and tells how many bytes it has; where they do not fit, 37 and
 // `out` as it was. Output of `MOST` bytes is enough for every text.
-pub fn listing(text: &[u8], out: &mut [u8]) -> Put
-    ensures out_after { left (put_paper result) out.new ≡ put_of (listing_of text.now) 0 out.old }
-    ensures enough { most_printed ≤ length out.old → put_paper result ≡ taken (length (listing_of text.now)) }
+pub fn listing(text: &[u8], out: &mut [u8]) -> Result<usize, Refusal>
+    ensures out_after { left (paper result) out.new ≡ put_of (listing_of text.now) 0 out.old }
+    ensures enough { most_printed ≤ length out.old → paper result ≡ taken (length (listing_of text.now)) }
 {
-    if MOST <= out.len() {
-        return Put::To(write(text, out));
+    if out.len() < MOST && out.len() < size(text) {
+        return Err(refuse(number::ROOM, 0));
     }
-    if out.len() < size(text) {
-        return no_room();
-    }
-    Put::To(write(text, out))
+    Ok(write(text, out))
 }
 
 // How many bytes the listing of a text has.
@@ -64,8 +58,8 @@ fn write(text: &[u8], out: &mut [u8]) -> usize
         return refused(number::LONG, 0, out);
     }
     match torrent_metainfo::read(text) {
-        Reading::Read(t) => torrent(text, t, out),
-        Reading::Refused(r) => refused(r.number, r.place, out),
+        Ok(t) => torrent(text, t, out),
+        Err(r) => refused(r.number, r.place, out),
     }
 }
 
@@ -106,10 +100,4 @@ fn only_file(name: &[u8], total: u64, out: &mut [u8], at: usize) -> usize
     let b = ink::numbered(out, a, total, b" ");
     let c = ink::escaped(out, b, name);
     ink::byte(out, c, b'\n')
-}
-
-fn no_room() -> Put
-    ensures { result ≡ Put.Refused (record { number = room; place = 0 }) }
-{
-    Put::Refused(refusal::refuse(number::ROOM, 0))
 }

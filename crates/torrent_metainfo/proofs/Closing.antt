@@ -1,11 +1,7 @@
 -- Where a dictionary ends: past the entries that are left where a search stopped. Assumes nothing.
-use mathlib.Core.Path.{◌≡◌, refl, sym, ap, ◌∙◌, subst}
-use mathlib.Core.Bool.{Bool, true, false, cond}
-use mathlib.Core.List.{List}
-use Prim.Native.Nat.{ℕ, suc, ◌+◌, ◌-◌, ◌<◌, ◌≤◌}
-use native.Mathlib.Omega.{arith}
-use lib.ListN.{length}
-use Rattle.refusal.specs.Paper.{Outcome, taken, refused, map, then}
+use Rattle.std.proofs.Common.{Err, Ok, Result, ◌≡◌, refl, sym, ap, ◌∙◌, subst, Bool, true, false, cond, List, ℕ, suc, ◌+◌, ◌-◌, ◌<◌, ◌≤◌, arith, length}
+use Rattle.refusal.specs.declared.Refusal.{Refusal}
+use Rattle.refusal.specs.Paper.{paper, Outcome, taken, refused, map, then}
 use Rattle.refusal.specs.declared.Part.{Part}
 use Rattle.bencode_scalar.specs.Written.{written_string, key_lt}
 use Rattle.bencode.specs.Value.{Value, Items, Entries, dict, empty, entry, encode, encode_entries, Prev, last}
@@ -13,7 +9,7 @@ use Rattle.bencode_walk.specs.Walk.{Hit, found, missing, seek_paper, key, close,
 use Rattle.bencode_walk.specs.Stands.{StandEntries}
 use Rattle.bencode_walk.specs.Lookup.{Under, nothing, under, lookup}
 use Rattle.bencode_walk.specs.declared.Sought.{Sought}
-use Rattle.bencode_walk.specs.declared.Sought.TheVariants.{Found, Missing, Refused as Unread}
+use Rattle.bencode_walk.specs.declared.Sought.TheVariants.{Found, Missing}
 use Rattle.bencode_walk.proofs.Standing.{entries-end, entries_next, skip-past}
 use Rattle.bencode_walk.proofs.Seeking.{key-further, skip-further}
 use Rattle.bencode_walk.proofs.Finding.{sought_of, place_of, seek-stands, entry_length, beyond}
@@ -23,11 +19,9 @@ use Rattle.torrent_metainfo.specs.declared.Known.{Known}
 use Rattle.torrent_metainfo.specs.Keys.{files_key, length_key, name_key, piece_length_key, pieces_key, Tells, stop_of, past_of}
 use Rattle.bencode_fields.specs.Looks.{sought_from}
 use Rattle.torrent_metainfo.specs.Rules.{lengths_of}
-use Rattle.torrent_metainfo.specs.Reading.{listed_to, listing_paper, files_at, running}
+use Rattle.torrent_metainfo.specs.Reading.{listed_to, files_at, running}
 use Rattle.torrent_metainfo.specs.Noted.{Goes, Noted}
 use Rattle.torrent_metainfo.specs.declared.Content.{Content}
-use Rattle.torrent_metainfo.specs.declared.Listing.{Listing}
-use Rattle.torrent_metainfo.specs.declared.Listing.TheVariants.{Are, Refused as Absent}
 use Rattle.torrent_metainfo.proofs.Naming.{no_way}
 use Rattle.torrent_metainfo.proofs.Telling.{Told, tell, tell-first, tell-second}
 
@@ -44,15 +38,15 @@ goes-sought s d p before (entry j v es) k t = go (goes-sought s d (p + length (w
     go r false x true y = rw (x, y) (record { before = before; left = entry j v es; stands = t; ends = refl })
     go r false x false y = rw (x, y) (record { before = before; left = entry j v es; stands = t; ends = refl })
 
-stopped-at : (w : Sought) (h : Hit) → seek_paper w ≡ taken h → place_of h ≡ stop_of w
-stopped-at (Found i j) (found a b) e = cc
-stopped-at (Found i j) (missing a) e = no_way (cc)
-stopped-at (Missing i) (found a b) e = no_way (cc)
-stopped-at (Missing i) (missing a) e = cc
-stopped-at (Unread r) h e = no_way (cc)
+stopped-at : (w : Result Sought Refusal) (h : Hit) → seek_paper w ≡ taken h → place_of h ≡ stop_of w
+stopped-at (Ok (Found i j)) (found a b) e = cc
+stopped-at (Ok (Found i j)) (missing a) e = no_way (cc)
+stopped-at (Ok (Missing i)) (found a b) e = no_way (cc)
+stopped-at (Ok (Missing i)) (missing a) e = cc
+stopped-at (Err r) h e = no_way (cc)
 
 module _ (s : List ℕ) (d : ℕ) (levels : d ≤ 32) (p : ℕ) (es : Entries) where
-  goes-seek : (q : ℕ) → Goes s d p es q → (k : List ℕ) (w : Sought) → seek_paper w ≡ sought_from s q k → Goes s d p es (stop_of w)
+  goes-seek : (q : ℕ) → Goes s d p es q → (k : List ℕ) (w : Result Sought Refusal) → seek_paper w ≡ sought_from s q k → Goes s d p es (stop_of w)
   goes-seek q g k w e =
       let r = goes-sought s d q g.before g.left k g.stands in
       let z = stopped-at w (sought_of q g.left k) (e ∙ seek-stands s k d levels q g.before g.left g.stands) in
@@ -135,10 +129,10 @@ files-past x v c q e = go (list_at_of x v) e
 
 module _ (s : List ℕ) (d : ℕ) (levels : d ≤ 32) (p : ℕ) (before : Prev) (es : Entries) (t : StandEntries s d p before es) (info : ℕ) where
   -- past the files, all later keys are left, up to the same end
-  passed : (w : Sought) (l : Listing) → Told s d levels p before es t files_key w → Goes s d p es (stop_of w) → listing_paper l ≡ must info (lookup p es files_key) files_at
+  passed : (w : Result Sought Refusal) (l : Result (Content × ℕ) Refusal) → Told s d levels p before es t files_key w → Goes s d p es (stop_of w) → paper l ≡ must info (lookup p es files_key) files_at
       → Left s d p es (last files_key) (past_of w l) × Goes s d p es (past_of w l)
-  passed w (Absent r) a g e = (a.next, g)
-  passed w (Are c q) a g e = go (lookup p es files_key) refl e
+  passed w (Err r) a g e = (a.next, g)
+  passed w (Ok (c, q)) a g e = go (lookup p es files_key) refl e
     where
       go : (u : Under) → lookup p es files_key ≡ u → taken (listed_to q c) ≡ must info u files_at → Left s d p es (last files_key) q × Goes s d p es q
       go nothing f h = no_way (cc)
@@ -149,7 +143,7 @@ module _ (s : List ℕ) (d : ℕ) (levels : d ≤ 32) (p : ℕ) (before : Prev) 
             subst (Goes s d p es) i (record { before = last files_key; left = b.left; stands = b.stands; ends = b.ends }),
           )
 
-  pub noted : (k : Known) → seek_paper k.files ≡ sought_from s p files_key → ((u : Under) → Tells s d u k.files → listing_paper k.listed ≡ must info u files_at)
+  pub noted : (k : Known) → seek_paper k.files ≡ sought_from s p files_key → ((u : Under) → Tells s d u k.files → paper k.listed ≡ must info u files_at)
       → seek_paper k.length ≡ sought_from s (past_of k.files k.listed) length_key → seek_paper k.name ≡ sought_from s (stop_of k.length) name_key
       → seek_paper k.piece_length ≡ sought_from s (stop_of k.name) piece_length_key → seek_paper k.pieces ≡ sought_from s (stop_of k.piece_length) pieces_key
       → Noted s d info p es k

@@ -1,7 +1,5 @@
 -- Torrent-exact: a text is read as a torrent exactly when it is the encoding of a value that keeps the limits and the rules. Assumes nothing.
-use mathlib.Core.Path.{◌≡◌, refl, ap, ◌∙◌}
-use mathlib.Core.List.{List}
-use Prim.Native.Nat.{ℕ}
+use Rattle.std.proofs.Common.{◌≡◌, refl, ap, ◌∙◌, List, ℕ}
 use Rattle.refusal.specs.Paper.{Outcome, taken, refused, then}
 use Rattle.bencode.specs.Value.{Value}
 use Rattle.bencode.specs.Decode.{decode}

@@ -1,13 +1,6 @@
 -- A file that stands at a place, and the files one after the other. Assumes nothing.
-use mathlib.Core.Path.{◌≡◌, refl, sym, ap, ◌∙◌, subst}
-use mathlib.Core.Bool.{Bool, true, false, cond}
-use mathlib.Core.List.{List, [], ◌∷◌, ◌++◌}
-use Prim.Native.Nat.{ℕ, suc, ◌+◌, ◌<◌, ◌≤◌, min}
-use native.Mathlib.Omega.{arith}
-use lib.ListN.{length, drop, length-append, length-drop, drop_of_length-le}
-use lib.Dec.{ltb, leb}
-use lib.IntN.{pos, negsuc}
-use borrow.Author.Tests.{ltb-true, ltb-false, leb-true}
+use Rattle.std.proofs.Common.{◌≡◌, refl, sym, ap, ◌∙◌, subst, arith, Bool, true, false, cond, List, [], ◌∷◌, ◌++◌, ℕ, suc, ◌+◌, ◌<◌, ◌≤◌, min, length, drop, length-append, length-drop, drop_of_length-le, ltb, leb, pos, negsuc, ltb-true, ltb-false, leb-true, Err, Ok, Result}
+use Rattle.refusal.specs.declared.Refusal.{Refusal}
 use Rattle.refusal.specs.Paper.{Outcome, taken, refused, then, map}
 use Rattle.refusal.specs.Limits.{most_text, longest_file}
 use Rattle.refusal.proofs.Cases.{less-or}
@@ -23,11 +16,11 @@ use Rattle.bencode_walk.specs.Walk.{seek_paper, skip_of, past_of}
 use Rattle.bencode_walk.specs.Stands.{Stands, StandItems, StandEntries}
 use Rattle.bencode_walk.specs.Lookup.{Under, nothing, under, lookup}
 use Rattle.bencode_walk.specs.declared.Sought.{Sought}
-use Rattle.bencode_walk.specs.declared.Sought.TheVariants.{Found, Missing, Refused}
+use Rattle.bencode_walk.specs.declared.Sought.TheVariants.{Found, Missing}
 use Rattle.bencode_walk.proofs.Standing.{list-stands, dictionary-stands, items-next, room, keeps-more, closes-none, closes-item, skip-long, skip-short}
 use Rattle.bencode_walk.proofs.Limited.{unless-long, unless-short}
 use Rattle.bencode_walk.proofs.Finding.{beyond}
-use Rattle.bencode_fields.specs.Looks.{ending_at, number_of, list_of, dictionary_of, sought_from}
+use Rattle.bencode_fields.specs.Looks.{ending_at, needed, number_of, list_of, dictionary_of, sought_from}
 use Rattle.bencode_fields.specs.Values.{natural_at, list_at_of, dictionary_at, must}
 use Rattle.bencode_fields.proofs.Standing.{number_is, list-is, dictionary-is}
 use Rattle.bencode_fields.proofs.Typed.{dictionary-checks}
@@ -35,15 +28,36 @@ use Rattle.torrent_blocks.specs.Rules.{sum, largest}
 use Rattle.torrent_metainfo.specs.declared.File.{File}
 use Rattle.torrent_metainfo.specs.declared.Content.{Content}
 use Rattle.torrent_metainfo.specs.Keys.{length_key, path_key, Tells}
-use Rattle.torrent_metainfo.specs.Rules.{path_at, file_in, file_of, lengths_of, one_file, many_files, content_of}
+use Rattle.torrent_metainfo.specs.Rules.{path_at, file_in, file_of, lengths_of, one_file, content_of}
 use Rattle.torrent_metainfo.specs.Reading.{value_in_of, value_at, file_at, listed_to, files_at, running, stopped}
 use Rattle.torrent_metainfo.proofs.Naming.{no_way, moved, not_taken, not-then}
-use Rattle.torrent_metainfo.proofs.Telling.{tells-found, tells-missing, tells-read, tell-first}
+use Rattle.torrent_metainfo.proofs.Telling.{tells-read, tell-first}
 
 -- what is read with the place past it, and without
 took : (y m past : ℕ) (o : Outcome ℕ) → taken (ending_at past m) ≡ map (ending_at y) o → (taken m ≡ o) × (y ≡ past)
 took y m past (taken n) e = let g : ending_at past m ≡ ending_at y n = cc in (ap (λ (x : ℕ × ℕ). taken x.0) g, sym (ap (λ (x : ℕ × ℕ). x.1) g))
 took y m past (refused r i) e = no_way (cc)
+
+-- what a search tells of a key that must be there, once its value's place is known or the key is refused
+module _ {A : Type 0} (s : List ℕ) (d D : ℕ) (f : ℕ → Value → Outcome A) where
+  value-under : (u : Under) (w : Result Sought Refusal) → Tells s d u w → (q : ℕ) → taken q ≡ needed D (seek_paper w) taken → (v : Value) × (u ≡ under q v) × Stands s d q v
+  value-under (under p v) (Ok (Found i j)) t q e = let j : q ≡ p = (cc) ∙ t.0 in (v, ap (λ (r : ℕ). under r v) (sym j), rw j t.1)
+  value-under (under p v) (Ok (Missing i)) t q e = absurd t
+  value-under (under p v) (Err i) t q e = absurd t
+  value-under nothing (Ok (Found i j)) t q e = absurd t
+  value-under nothing (Ok (Missing i)) t q e = no_way (cc)
+  value-under nothing (Err i) t q e = absurd t
+
+  pub with-under : (u : Under) (w : Result Sought Refusal) → Tells s d u w → (q : ℕ) → taken q ≡ needed D (seek_paper w) taken → (o : Outcome A) → ((v : Value) → Stands s d q v → o ≡ f q v) → o ≡ must D u f
+  with-under u w t q e o h = let x = value-under u w t q e in h x.0 x.2 ∙ ap (λ (r : Under). must D r f) (sym x.1)
+
+  pub not-under : (u : Under) (w : Result Sought Refusal) → Tells s d u w → (r o : ℕ) → refused r o ≡ needed D (seek_paper w) taken → refused r o ≡ must D u f
+  not-under (under p v) (Ok (Found i j)) t r o e = no_way (cc)
+  not-under (under p v) (Ok (Missing i)) t r o e = absurd t
+  not-under (under p v) (Err i) t r o e = absurd t
+  not-under nothing (Ok (Found i j)) t r o e = absurd t
+  not-under nothing (Ok (Missing i)) t r o e = moved e
+  not-under nothing (Err i) t r o e = absurd t
 
 -- a dictionary was seen at p, and its first key: that is what stands there
 pub opened : (s : List ℕ) (d p : ℕ) (v : Value) (first : ℕ) → Stands s d p v → taken first ≡ dictionary_of s p → (es : Entries) × (v ≡ dict es) × Stands s d p (dict es) × (first ≡ p + 1)
@@ -59,7 +73,7 @@ module _ (s : List ℕ) (d p : ℕ) (levels : d ≤ 32) where
   unfolding file_of
   file-none v t r o e = not-then (λ es. p + 1) (file_in p (p + length (encode v))) (dictionary_at p v) (e ∙ dictionary-is s d p v t)
 
-  module _ (first : ℕ) (e : taken first ≡ dictionary_of s p) (w : Sought) (a : seek_paper w ≡ sought_from s first length_key) where
+  module _ (first : ℕ) (e : taken first ≡ dictionary_of s p) (w : Result Sought Refusal) (a : seek_paper w ≡ sought_from s first length_key) where
     -- the entries of the file's dictionary, and the search for its length
     record Entered (v : Value) : Type 0 where
       pub entries : Entries
@@ -87,81 +101,68 @@ module _ (s : List ℕ) (d p : ℕ) (levels : d ≤ 32) where
         by_entries v n (refused r o)
         (ap (λ (y : Outcome ℕ). then y (λ m. then (must p (lookup (p + 1) n.entries path_key) path_at) (λ q. taken (record { length = m; path = q; next = p + length (encode (dict n.entries)) })))) h)
 
-    pub file-missing : (v : Value) → Stands s d p v → (i : ℕ) → w ≡ Missing i → refused 10 p ≡ file_of p v
-    file-missing v t i f =
-        let n = entered v t in
-        stop-file v n 10 p (tells-missing s n.deep p (natural_at longest_file) (lookup (p + 1) n.entries length_key) w i n.length f)
-
-    pub file-unread : {B : Type 0} (v : Value) → Stands s d p v → {r : _} → w ≡ Refused r → B
+    pub file-unread : {B : Type 0} (v : Value) → Stands s d p v → {r : _} → w ≡ Err r → B
     file-unread v t f = let n = entered v t in tells-read s n.deep (lookup (p + 1) n.entries length_key) w n.length f
 
-    module _ (i q : ℕ) (f : w ≡ Found i q) where
+    pub file-missing : (v : Value) → Stands s d p v → (r o : ℕ) → refused r o ≡ needed p (seek_paper w) taken → refused r o ≡ file_of p v
+    file-missing v t r o f = let n = entered v t in stop-file v n r o (not-under s n.deep p (natural_at longest_file) (lookup (p + 1) n.entries length_key) w n.length r o f)
+
+    module _ (q : ℕ) (f : taken q ≡ needed p (seek_paper w) taken) where
       pub file-not : (v : Value) → Stands s d p v → (r o : ℕ) → refused r o ≡ number_of longest_file s q → refused r o ≡ file_of p v
       file-not v t r o h =
           let n = entered v t in
           stop-file v n r o
-          (tells-found s n.deep p (natural_at longest_file) (lookup (p + 1) n.entries length_key) w i q n.length f (refused r o)
+          (with-under s n.deep p (natural_at longest_file) (lookup (p + 1) n.entries length_key) w n.length q f (refused r o)
           (λ x u. not_taken (ending_at (q + length (encode x))) r o (natural_at longest_file q x) (h ∙ number_is s n.deep q longest_file (omega arith) x u)))
 
       module _ (m past : ℕ) (h : taken (ending_at past m) ≡ number_of longest_file s q) (o : Outcome File)
           (j : (d : ℕ) → (before : Prev) → (es : Entries) → d ≤ 32 → StandEntries s d past before es → o ≡ then (must p (lookup past es path_key) path_at) (λ b. taken (record { length = m; path = b; next = past + length (encode_entries es) }))) where
         length-with : (es : Entries) (k : ℕ) → k ≤ 32 → StandEntries s k (p + 1) start es → Tells s k (lookup (p + 1) es length_key) w → o ≡ file_in p (p + length (encode (dict es))) es
         unfolding key_lt encode
-        length-with es k l t g = go (lookup (p + 1) es length_key) refl g
-          where
-            go : (u : Under) → lookup (p + 1) es length_key ≡ u → Tells s k u w
-                → o ≡ then (must p u (natural_at longest_file)) (λ n. then (must p (lookup (p + 1) es path_key) path_at) (λ b. taken (record { length = n; path = b; next = p + suc (length (encode_entries es)) })))
-            go nothing x y = let z : Tells s k nothing (Found i q) = subst (Tells s k nothing) f y in absurd z
-            go (under z v) x y =
-                let b : Tells s k (under z v) (Found i q) = subst (Tells s k (under z v)) f y in
-                let c = took (z + length (encode v)) m past (natural_at longest_file z v) (h ∙ ap (number_of longest_file s) b.0 ∙ number_is s k z longest_file (omega arith) v b.1) in
-                let n = beyond s k (p + 1) start es length_key t z v x in
-                let same : lookup past n.left path_key ≡ lookup (p + 1) es path_key = ap (λ (r : ℕ). lookup r n.left path_key) (sym c.1) ∙ n.same path_key refl in
-                let ends : past + length (encode_entries n.left) ≡ p + suc (length (encode_entries es)) = omega (arith, c.1, n.ends) in
-                j k (last length_key) n.left l (subst (λ (r : ℕ). StandEntries s k r (last length_key) n.left) c.1 n.stands)
-                ∙ ap (λ (r : Under). then (must p r path_at) (λ b. taken (record { length = m; path = b; next = past + length (encode_entries n.left) }))) same
-                ∙ ap (λ (r : ℕ). then (must p (lookup (p + 1) es path_key) path_at) (λ b. taken (record { length = m; path = b; next = r }))) ends
-                ∙ ap (λ (r : Outcome ℕ). then r (λ n. then (must p (lookup (p + 1) es path_key) path_at) (λ b. taken (record { length = n; path = b; next = p + suc (length (encode_entries es)) })))) c.0
+        length-with es k l t g =
+            let y = value-under s k p (natural_at longest_file) (lookup (p + 1) es length_key) w g q f in
+            let c = took (q + length (encode y.0)) m past (natural_at longest_file q y.0) (h ∙ number_is s k q longest_file (omega arith) y.0 y.2) in
+            let n = beyond s k (p + 1) start es length_key t q y.0 y.1 in
+            let same : lookup past n.left path_key ≡ lookup (p + 1) es path_key = ap (λ (r : ℕ). lookup r n.left path_key) (sym c.1) ∙ n.same path_key refl in
+            let ends : past + length (encode_entries n.left) ≡ p + suc (length (encode_entries es)) = omega (arith, c.1, n.ends) in
+            j k (last length_key) n.left l (subst (λ (r : ℕ). StandEntries s k r (last length_key) n.left) c.1 n.stands)
+            ∙ ap (λ (r : Under). then (must p r path_at) (λ b. taken (record { length = m; path = b; next = past + length (encode_entries n.left) }))) same
+            ∙ ap (λ (r : ℕ). then (must p (lookup (p + 1) es path_key) path_at) (λ b. taken (record { length = m; path = b; next = r }))) ends
+            ∙ ap (λ (r : Outcome ℕ). then r (λ n. then (must p (lookup (p + 1) es path_key) path_at) (λ b. taken (record { length = n; path = b; next = p + suc (length (encode_entries es)) })))) (c.0 ∙ ap (λ (r : Under). must p r (natural_at longest_file)) (sym y.1))
 
         pub file-with : (v : Value) → Stands s d p v → o ≡ file_of p v
         file-with v t = let n = entered v t in by_entries v n o (length-with n.entries n.deep n.low n.stands n.length)
 
 -- ---- the rest of a file, whose path is sought among the entries that stand at `from`
 
-module _ (s : List ℕ) (d from : ℕ) (before : Prev) (es : Entries) (levels : d ≤ 32) (t : StandEntries s d from before es) (at m : ℕ) (w : Sought) (a : seek_paper w ≡ sought_from s from path_key) where
+module _ (s : List ℕ) (d from : ℕ) (before : Prev) (es : Entries) (levels : d ≤ 32) (t : StandEntries s d from before es) (at m : ℕ) (w : Result Sought Refusal) (a : seek_paper w ≡ sought_from s from path_key) where
   abbrev on_path : Outcome ℕ → Outcome File
   on_path o = then o (λ b. taken (record { length = m; path = b; next = from + length (encode_entries es) }))
 
   path-told : Tells s d (lookup from es path_key) w
   path-told = (tell-first s d levels from before es t path_key w a).told
 
-  pub rest-missing : (i : ℕ) → w ≡ Missing i → refused 10 at ≡ on_path (must at (lookup from es path_key) path_at)
-  rest-missing i f = ap on_path (tells-missing s d at path_at (lookup from es path_key) w i path-told f)
-
-  pub rest-unread : {B : Type 0} {r : _} → w ≡ Refused r → B
+  pub rest-unread : {B : Type 0} {r : _} → w ≡ Err r → B
   rest-unread f = tells-read s d (lookup from es path_key) w path-told f
 
-  module _ (i q : ℕ) (f : w ≡ Found i q) where
+  pub rest-missing : (r o : ℕ) → refused r o ≡ needed at (seek_paper w) taken → refused r o ≡ on_path (must at (lookup from es path_key) path_at)
+  rest-missing r o f = ap on_path (not-under s d at path_at (lookup from es path_key) w path-told r o f)
+
+  module _ (q : ℕ) (f : taken q ≡ needed at (seek_paper w) taken) where
     pub rest-not : (r o : ℕ) → ((d : ℕ) → (v : Value) → Stands s d q v → refused r o ≡ map (ending_at (q + length (encode v))) (path_at q v)) → refused r o ≡ on_path (must at (lookup from es path_key) path_at)
-    rest-not r o h = ap on_path (tells-found s d at path_at (lookup from es path_key) w i q path-told f (refused r o) (λ v u. not_taken (ending_at (q + length (encode v))) r o (path_at q v) (h d v u)))
+    rest-not r o h = ap on_path (with-under s d at path_at (lookup from es path_key) w path-told q f (refused r o) (λ v u. not_taken (ending_at (q + length (encode v))) r o (path_at q v) (h d v u)))
 
     pub rest-with : (b past : ℕ) → ((d : ℕ) → (v : Value) → Stands s d q v → taken (ending_at past b) ≡ map (ending_at (q + length (encode v))) (path_at q v)) → (o : Outcome ℕ)
         → ((d : ℕ) → (before : Prev) → (ws : Entries) → d ≤ 32 → StandEntries s d past before ws → o ≡ taken (past + length (encode_entries ws)))
         → map {B = File} (λ x. record { length = m; path = b; next = x }) o ≡ on_path (must at (lookup from es path_key) path_at)
-    rest-with b past h o j = go (lookup from es path_key) refl path-told
-      where
-        go : (u : Under) → lookup from es path_key ≡ u → Tells s d u w → map {B = File} (λ x. record { length = m; path = b; next = x }) o ≡ on_path (must at u path_at)
-        go nothing x y = let z : Tells s d nothing (Found i q) = subst (Tells s d nothing) f y in absurd z
-        go (under z v) x y =
-            let k : Tells s d (under z v) (Found i q) = subst (Tells s d (under z v)) f y in
-            let u : Stands s d q v = subst (λ (r : ℕ). Stands s d r v) (sym k.0) k.1 in
-            let c = took (q + length (encode v)) b past (path_at q v) (h d v u) in
-            let n = beyond s d from before es path_key t z v x in
-            let g : z + length (encode v) ≡ past = ap (λ (r : ℕ). r + length (encode v)) (sym k.0) ∙ c.1 in
-            let ends : past + length (encode_entries n.left) ≡ from + length (encode_entries es) = ap (λ (r : ℕ). r + length (encode_entries n.left)) (sym g) ∙ n.ends in
-            ap (λ (r : Outcome ℕ). map {B = File} (λ x. record { length = m; path = b; next = x }) r)
-            (j d (last path_key) n.left levels (subst (λ (r : ℕ). StandEntries s d r (last path_key) n.left) g n.stands) ∙ ap taken ends)
-            ∙ ap on_path (c.0 ∙ ap (λ (r : ℕ). path_at r v) k.0)
+    rest-with b past h o j =
+        let y = value-under s d at path_at (lookup from es path_key) w path-told q f in
+        let c = took (q + length (encode y.0)) b past (path_at q y.0) (h d y.0 y.2) in
+        let n = beyond s d from before es path_key t q y.0 y.1 in
+        let ends : past + length (encode_entries n.left) ≡ from + length (encode_entries es) = ap (λ (r : ℕ). r + length (encode_entries n.left)) (sym c.1) ∙ n.ends in
+        ap (λ (r : Outcome ℕ). map {B = File} (λ x. record { length = m; path = b; next = x }) r)
+        (j d (last path_key) n.left levels (subst (λ (r : ℕ). StandEntries s d r (last path_key) n.left) c.1 n.stands) ∙ ap taken ends)
+        ∙ ap on_path (c.0 ∙ ap (λ (r : Under). must at r path_at) (sym y.1))
 
 -- ---- a file at any place
 
@@ -287,13 +288,6 @@ without-place place y r i (refused n q) e = moved e
 pub listing_start : (s : List ℕ) (place first : ℕ) → Listing s place first first 0 0
 listing_start s place first d vs h t = record { left = vs; stands = t; same = refl; within = omega arith; ends = refl }
 
-pub closes-inside : (s : List ℕ) (p : ℕ) → closes (drop p s) ≡ true → p < length s
-closes-inside s p c = go (ltb p (length s)) refl
-  where
-    go : (b : Bool) → ltb p (length s) ≡ b → p < length s
-    go true e = ltb-true p (length s) e
-    go false e = let f : closes (drop p s) ≡ false = ap closes (drop_of_length-le s (ltb-false p (length s) e)) in no_way (cc)
-
 module _ (s : List ℕ) (place first p files total : ℕ) (g : Listing s place first p files total) where
   -- each file has a byte
   pub listing-out : {A : Type 0} → length s ≤ files → (d : ℕ) → (vs : Items) → d ≤ 32 → StandItems s d first vs → A
@@ -375,17 +369,6 @@ module _ (s : List ℕ) (p : ℕ) where
       h n.0 vs (omega (arith, n.1)) (rw i n.2) ∙ ap (λ (q : ℕ). Listed p q vs) i ∙ ap (λ (q : ℕ). map (λ ns. listed_to q (running p 0 0 ns)) (lengths_of (p + 1) vs)) j
   many-with d (dict es) l t first e o h = let f = e ∙ list-is s d p (dict es) t in no_way (cc)
 
--- the content without the place past it
-only-content : (p : ℕ) (v : Value) → map (λ (x : Content × ℕ). x.0) (files_at p v) ≡ then (list_at_of p v) (λ vs. map (running p 0 0) (lengths_of (p + 1) vs))
-only-content p (str bs) = refl
-only-content p (int z) = refl
-only-content p (list vs) = go (lengths_of (p + 1) vs)
-  where
-    go : (o : Outcome (List ℕ)) → map (λ (x : Content × ℕ). x.0) (map (λ ns. listed_to (p + length (encode (list vs))) (running p 0 0 ns)) o) ≡ map (running p 0 0) o
-    go (taken ns) = refl
-    go (refused r i) = refl
-only-content p (dict es) = refl
-
 -- a content that did not have to stop
 stop-one : (p : ℕ) (v : Value) → map (one_file p) (natural_at longest_file p v) ≡ map stopped (map (one_file p) (natural_at longest_file p v))
 stop-one p (str bs) = refl
@@ -398,35 +381,12 @@ stop-one p (int (negsuc n)) = refl
 stop-one p (list vs) = refl
 stop-one p (dict es) = refl
 
-stop-many : (p : ℕ) (v : Value) → then (list_at_of p v) (λ vs. map (running p 0 0) (lengths_of (p + 1) vs)) ≡ map stopped (then (list_at_of p v) (λ vs. map (many_files p) (lengths_of (p + 1) vs)))
-stop-many p (str bs) = refl
-stop-many p (int z) = refl
-stop-many p (list vs) = go (lengths_of (p + 1) vs)
-  where
-    go : (o : Outcome (List ℕ)) → map (running p 0 0) o ≡ map stopped (map (many_files p) o)
-    go (taken ns) =
-        let a : 0 + length ns ≡ length ns = omega arith in
-        let b : 0 + sum ns ≡ sum ns = omega arith in
-        ap (λ (x : ℕ). taken (record { single = false; place = p; files = x; total = min (0 + sum ns) largest })) a ∙ ap (λ (x : ℕ). taken (record { single = false; place = p; files = length ns; total = min x largest })) b
-    go (refused r o) = refl
-stop-many p (dict es) = refl
-
 module _ (s : List ℕ) (d info : ℕ) (levels : d ≤ 32) where
-  pub content-both : (a b : Under) (l f : Sought) → Tells s d a l → Tells s d b f → (i j k m : ℕ) → l ≡ Found i j → f ≡ Found k m → refused 10 info ≡ map stopped (content_of info a b)
-  content-both (under p v) (under q w) l f t u i j k m x y = refl
-  content-both (under p v) nothing l f t u i j k m x y = let z : Tells s d nothing (Found k m) = subst (Tells s d nothing) y u in absurd z
-  content-both nothing b l f t u i j k m x y = let z : Tells s d nothing (Found i j) = subst (Tells s d nothing) x t in absurd z
-
-  pub content-one : (a b : Under) (l f : Sought) → Tells s d a l → Tells s d b f → (i j k : ℕ) → l ≡ Found i j → f ≡ Missing k
+  pub content-one : (a b : Under) (l f : Result Sought Refusal) → Tells s d a l → Tells s d b f → (i j k : ℕ) → l ≡ (Ok (Found i j)) → f ≡ (Ok (Missing k))
       → (o : Outcome Content) → ((d : ℕ) → (v : Value) → Stands s d j v → o ≡ map (one_file j) (natural_at longest_file j v)) → o ≡ map stopped (content_of info a b)
   content-one (under p v) nothing l f t u i j k x y o h =
-      let z : Tells s d (under p v) (Found i j) = subst (Tells s d (under p v)) x t in
+      let z : Tells s d (under p v) (Ok (Found i j)) = subst (Tells s d (under p v)) x t in
       let w : Stands s d j v = rw z.0 z.1 in
       h d v w ∙ ap (λ (q : ℕ). map (one_file q) (natural_at longest_file q v)) z.0 ∙ stop-one p v
-  content-one (under p v) (under q w) l f t u i j k x y o h = let z : Tells s d (under q w) (Missing k) = subst (Tells s d (under q w)) y u in absurd z
-  content-one nothing b l f t u i j k x y o h = let z : Tells s d nothing (Found i j) = subst (Tells s d nothing) x t in absurd z
-
-  pub content-listed : (a b : Under) (l : Sought) → Tells s d a l → (i : ℕ) → l ≡ Missing i → (o : Outcome (Content × ℕ)) → o ≡ must info b files_at → map (λ (x : Content × ℕ). x.0) o ≡ map stopped (content_of info a b)
-  content-listed nothing nothing l t i x o e = ap (map (λ (x : Content × ℕ). x.0)) e
-  content-listed nothing (under p v) l t i x o e = ap (map (λ (x : Content × ℕ). x.0)) e ∙ only-content p v ∙ stop-many p v
-  content-listed (under p v) b l t i x o e = let z : Tells s d (under p v) (Missing i) = subst (Tells s d (under p v)) x t in absurd z
+  content-one (under p v) (under q w) l f t u i j k x y o h = let z : Tells s d (under q w) (Ok (Missing k)) = subst (Tells s d (under q w)) y u in absurd z
+  content-one nothing b l f t u i j k x y o h = let z : Tells s d nothing (Ok (Found i j)) = subst (Tells s d nothing) x t in absurd z

@@ -1,33 +1,26 @@
 -- The info hash: its answer is determined, a refusal leaves the lent bytes, and a torrent's is the digest of info's bytes. Assumes nothing.
-use mathlib.Core.Path.{◌≡◌, refl, sym, ap, ◌∙◌}
-use mathlib.Core.List.{List}
-use Prim.Native.Nat.{ℕ, ◌≤◌}
-use native.Mathlib.Omega.{arith}
-use lib.ListN.{length, length-take, length-drop}
-use borrow.Author.Tests.{le-leb}
-use Rattle.refusal.specs.Paper.{Outcome, taken, refused}
+use Rattle.std.proofs.Common.{Err, Ok, Result, ◌≡◌, refl, sym, ap, ◌∙◌, List, ℕ, ◌≤◌, arith, length, length-take, length-drop, le-leb}
+use Rattle.refusal.specs.declared.Refusal.{Refusal}
+use Rattle.refusal.specs.Paper.{paper, Outcome, taken, refused}
 use Rattle.refusal.specs.Limits.{most_text, longest_piece}
 use Rattle.refusal.specs.Parts.{bytes_at}
 use Rattle.refusal.specs.declared.Part.{Part}
 use Rattle.hash_sha1.specs.Sha1.{sha1}
 use Rattle.hash_sha1.specs.Digest.{Left, left, digest_of}
-use Rattle.hash_sha1.specs.Digest.{paper as hash_paper}
-use Rattle.hash_sha1.specs.declared.Hashed.{Hashed}
-use Rattle.hash_sha1.specs.declared.Hashed.TheVariants.{Written, Refused}
 use Rattle.torrent_metainfo.specs.declared.Torrent.{Torrent}
 use Rattle.torrent_metainfo.specs.Reading.{read_of}
 use Rattle.torrent_metainfo.specs.Hashes.{hashed_in, info_hash_of}
 use Rattle.torrent_metainfo.proofs.Exact.{torrent-exact}
 
-abbrev hashed_as : Outcome (Unit {0}) → Hashed
-hashed_as (taken u) = Written
-hashed_as (refused n p) = Refused (record { number = n; place = p })
+abbrev hashed_as : Outcome (Unit {0}) → Result (Unit {0}) Refusal
+hashed_as (taken u) = (Ok tt)
+hashed_as (refused n p) = Err (record { number = n; place = p })
 
-again : (r : Hashed) → hashed_as (hash_paper r) ≡ r
-again Written = refl
-again (Refused r) = refl
+again : (r : Result (Unit {0}) Refusal) → hashed_as (paper r) ≡ r
+again (Ok tt) = refl
+again (Err r) = refl
 
-pub info_hash-determined : (s o : List ℕ) (r t : Hashed) (x y : List ℕ) → left (hash_paper r) x ≡ info_hash_of s o → left (hash_paper t) y ≡ info_hash_of s o → (r ≡ t) × (x ≡ y)
+pub info_hash-determined : (s o : List ℕ) (r t : Result (Unit {0}) Refusal) (x y : List ℕ) → left (paper r) x ≡ info_hash_of s o → left (paper t) y ≡ info_hash_of s o → (r ≡ t) × (x ≡ y)
 info_hash-determined s o r t x y e f = (sym (again r) ∙ ap (λ (l : Left). hashed_as l.answer) (e ∙ sym f) ∙ again t, ap (λ (l : Left). l.out) (e ∙ sym f))
 
 -- of a text that is a torrent

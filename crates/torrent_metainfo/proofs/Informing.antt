@@ -1,9 +1,6 @@
 -- The checks of info and of the whole, one after the other. Assumes nothing.
-use mathlib.Core.Path.{◌≡◌, refl, sym, ap, ◌∙◌, subst}
-use mathlib.Core.List.{List}
-use Prim.Native.Nat.{ℕ, ◌+◌, ◌≤◌}
-use native.Mathlib.Omega.{arith}
-use lib.ListN.{length}
+use Rattle.std.proofs.Common.{Result, ◌≡◌, refl, sym, ap, ◌∙◌, subst, List, ℕ, ◌+◌, ◌≤◌, arith, length}
+use Rattle.refusal.specs.declared.Refusal.{Refusal}
 use Rattle.refusal.specs.Paper.{Outcome, taken, refused, then, map}
 use Rattle.refusal.specs.declared.Part.{Part}
 use Rattle.bencode_scalar.specs.Written.{key_lt}
@@ -124,7 +121,7 @@ pieces-place s p es k i = tells-place s i.deep (lookup (p + 1) es pieces_key) k.
 
 -- ---- the whole
 
-module _ (s : List ℕ) (d : ℕ) (before : Prev) (es : Entries) (levels : d ≤ 32) (first : ℕ) (t : StandEntries s d first before es) (one : first ≡ 1) (a i : Sought)
+module _ (s : List ℕ) (d : ℕ) (before : Prev) (es : Entries) (levels : d ≤ 32) (first : ℕ) (t : StandEntries s d first before es) (one : first ≡ 1) (a i : Result Sought Refusal)
     (e : seek_paper a ≡ sought_from s first announce_key) (f : seek_paper i ≡ sought_from s (stop_of a) info_key) where
   told : Tells s d (lookup 1 es announce_key) a × Tells s d (lookup 1 es info_key) i
   unfolding key_lt

@@ -1,18 +1,12 @@
 -- Names and paths: the rule for their bytes as the code tests it, and what the looks say where a value stands. Assumes nothing.
-use mathlib.Core.Path.{◌≡◌, refl, sym, ap, ◌∙◌}
-use mathlib.Core.Bool.{Bool, true, false, cond}
-use mathlib.Core.List.{List, [], ◌∷◌, ◌++◌}
-use Prim.Native.Nat.{ℕ, suc, ◌+◌, ◌<◌, ◌≤◌}
-use native.Mathlib.Omega.{arith}
-use lib.Dec.{eqb}
-use lib.ListN.{length, get_or, take, drop, length-append, drop_of_length-le}
-use borrow.Author.Tests.{eq-eqb, ne_eqb}
+use Rattle.std.proofs.Common.{◌≡◌, refl, sym, ap, ◌∙◌, Bool, true, false, cond, not, ◌&&◌, ◌||◌, List, [], ◌∷◌, ◌++◌, ℕ, suc, ◌+◌, ◌<◌, ◌≤◌, arith, eqb, length, take, drop, length-append}
+use mathlib.Core.Bool.{and-false}
+use Rattle.std.specs.List.{list_any}
 use Rattle.refusal.specs.Paper.{Outcome, taken, refused, then, map}
 use Rattle.refusal.specs.declared.Part.{Part}
 pub use Rattle.refusal.proofs.Cases.{no_way}
 use Rattle.refusal.proofs.Cases.{by-test}
 use Rattle.bencode_scalar.specs.Written.{written_int, in_range}
-use Rattle.bencode_scalar.proofs.Forms.{at_head}
 use Rattle.bencode.specs.Value.{Value, Items, str, int, list, dict, none, item, encode, encode_items}
 use Rattle.bencode.specs.Decode.{closes}
 use Rattle.bencode_walk.specs.Walk.{Head, string, integer, long, end, look_of, as_entry}
@@ -41,69 +35,21 @@ not-then f g {r} {i} o e = ap (λ x. then x g) (not_taken f r i o e)
 
 -- ---- the bytes of a name
 
--- a scan for bytes that may not stand in a name
-module _ (s : List ℕ) (i : ℕ) (e : clean (drop i s) ≡ clean s) where
-  pub clean-more : i < length s → (get_or s i 0 ≡ 47 → ⊥) → (get_or s i 0 ≡ 0 → ⊥) → clean (drop (i + 1) s) ≡ clean s
-  unfolding clean
-  clean-more l x y = (rw (at_head s i l, ne_eqb _ _ x, ne_eqb _ _ y) at e)
+pub clean-by : (s : List ℕ) → (not (list_any (λ y. eqb y 47) s) && not (list_any (λ y. eqb y 0) s)) ≡ clean s
+unfolding clean
+clean-by [] = refl
+clean-by (b ∷ t) = go (clean-by t) (eqb b 47) (eqb b 0)
+  where
+    A : Bool
+    A = list_any (λ y. eqb y 47) t
 
-  pub clean-slash : i < length s → get_or s i 0 ≡ 47 → false ≡ clean s
-  unfolding clean
-  clean-slash l x = (rw (at_head s i l, eq-eqb _ _ x) at e)
+    B : Bool
+    B = list_any (λ y. eqb y 0) t
 
-  pub clean-zero : i < length s → (get_or s i 0 ≡ 47 → ⊥) → get_or s i 0 ≡ 0 → false ≡ clean s
-  unfolding clean
-  clean-zero l x y = (rw (at_head s i l, ne_eqb _ _ x, eq-eqb _ _ y) at e)
-
-  pub clean_end : length s ≤ i → true ≡ clean s
-  unfolding clean
-  clean_end l = (rw (drop_of_length-le s l) at e)
-
--- names by their length
-pub name-empty : (s : List ℕ) → length s ≡ 0 → false ≡ good_name s
-unfolding good_name
-name-empty [] l = refl
-name-empty (b ∷ t) l = absurd (omega arith)
-
-pub name-dot : (s : List ℕ) → length s ≡ 1 → get_or s 0 0 ≡ 46 → false ≡ good_name s
-unfolding good_name
-name-dot [] l x = absurd (omega arith)
-name-dot (b ∷ []) l x = rw (eq-eqb _ _ x)
-name-dot (b ∷ c ∷ t) l x = absurd (omega arith)
-
-pub name-one : (s : List ℕ) → length s ≡ 1 → (get_or s 0 0 ≡ 46 → ⊥) → clean s ≡ good_name s
-unfolding good_name
-name-one [] l x = absurd (omega arith)
-name-one (b ∷ []) l x = rw (ne_eqb _ _ x)
-name-one (b ∷ c ∷ t) l x = absurd (omega arith)
-
-pub name-dots : (s : List ℕ) → length s ≡ 2 → get_or s 0 0 ≡ 46 → get_or s 1 0 ≡ 46 → false ≡ good_name s
-unfolding good_name
-name-dots [] l x y = absurd (omega arith)
-name-dots (b ∷ []) l x y = absurd (omega arith)
-name-dots (b ∷ c ∷ []) l x y = rw (eq-eqb _ _ x, eq-eqb _ _ y)
-name-dots (b ∷ c ∷ d ∷ t) l x y = absurd (omega arith)
-
-pub name-two : (s : List ℕ) → length s ≡ 2 → get_or s 0 0 ≡ 46 → (get_or s 1 0 ≡ 46 → ⊥) → clean s ≡ good_name s
-unfolding good_name
-name-two [] l x y = absurd (omega arith)
-name-two (b ∷ []) l x y = absurd (omega arith)
-name-two (b ∷ c ∷ []) l x y = rw (eq-eqb _ _ x, ne_eqb _ _ y)
-name-two (b ∷ c ∷ d ∷ t) l x y = absurd (omega arith)
-
-pub name-pair : (s : List ℕ) → length s ≡ 2 → (get_or s 0 0 ≡ 46 → ⊥) → clean s ≡ good_name s
-unfolding good_name
-name-pair [] l x = absurd (omega arith)
-name-pair (b ∷ []) l x = absurd (omega arith)
-name-pair (b ∷ c ∷ []) l x = rw (ne_eqb _ _ x)
-name-pair (b ∷ c ∷ d ∷ t) l x = absurd (omega arith)
-
-pub name-long : (s : List ℕ) → (length s ≡ 0 → ⊥) → (length s ≡ 1 → ⊥) → (length s ≡ 2 → ⊥) → clean s ≡ good_name s
-unfolding good_name
-name-long [] x y z = absurd (x refl)
-name-long (b ∷ []) x y z = absurd (y refl)
-name-long (b ∷ c ∷ []) x y z = absurd (z refl)
-name-long (b ∷ c ∷ d ∷ t) x y z = refl
+    go : (not A && not B) ≡ clean t → (x y : Bool) → (not (x || A) && not (y || B)) ≡ cond x false (cond y false (clean t))
+    go e true y = refl
+    go e false true = and-false (not A)
+    go e false false = e
 
 -- ---- a name that stands at p
 
@@ -267,12 +213,6 @@ module _ (s : List ℕ) (d p : ℕ) where
       path-some (dict es) t c = let f = e ∙ list-is s d p (dict es) t in no_way (cc)
 
 -- ---- as the code sees it
-
-pub ends-out : (s : List ℕ) (p : ℕ) → length s ≤ p → false ≡ closes (drop p s)
-ends-out s p h = rw (drop_of_length-le s h)
-
-pub ends-in : (s : List ℕ) (p : ℕ) → p < length s → eqb (get_or s p 0) 101 ≡ closes (drop p s)
-ends-in s p h = rw (at_head s p h)
 
 module _ (s : List ℕ) (first p : ℕ) (g : Going s first p) where
   pub going-other : refused 10 p ≡ string_of s p → taken false ≡ then (look_of s p) (λ h. taken (is_end h)) → (d : ℕ) (vs : Items) → StandItems s d first vs → refused 10 p ≡ map (λ q. q + 1) (elements_of first vs)

@@ -1,12 +1,8 @@
 -- The numbers of a torrent, as the code tests them. Assumes nothing.
-use mathlib.Core.Path.{◌≡◌, refl, sym, ap, ◌∙◌}
-use mathlib.Core.Bool.{Bool, true, false, cond, and-false}
-use mathlib.Core.Logic.{⊎_elim}
-use mathlib.Core.List.{List}
-use Prim.Native.Nat.{ℕ, ◌*◌, ◌<◌, ◌≤◌, min}
-use native.Mathlib.Omega.{arith}
-use lib.Dec.{leb, eqb}
-use borrow.Author.Tests.{eq-eqb, ne_eqb, lt-leb, leb-true}
+use Rattle.std.proofs.Common.{Result, ◌≡◌, refl, sym, ap, ◌∙◌, Bool, true, false, cond, ⊎_elim, List, ℕ, ◌*◌, ◌<◌, ◌≤◌, min, arith, leb, eqb, eq-eqb, ne_eqb, leb-true}
+use Rattle.refusal.specs.declared.Refusal.{Refusal}
+use mathlib.Core.Bool.{and-false}
+use borrow.Author.Tests.{lt-leb}
 use Rattle.refusal.specs.Paper.{Outcome, taken, refused, then}
 use Rattle.refusal.specs.Limits.{most_pieces, longest_piece}
 use Rattle.refusal.specs.declared.Part.{Part}
@@ -73,7 +69,7 @@ sized-stopped a i n s p pl c h = ⊎_elim over under (lt-or-le largest c.total)
 
 -- ---- the piece length under its key
 
-module _ (s : List ℕ) (d D : ℕ) (u : Under) (w : Sought) (t : Tells s d u w) where
+module _ (s : List ℕ) (d D : ℕ) (u : Under) (w : Result Sought Refusal) (t : Tells s d u w) where
   asked : unless_long s (needed D (seek_paper w) (natural_of longest_piece s)) ≡ must D u (natural_at longest_piece)
   asked = tells-needed s d D (natural_at longest_piece) u w t (natural_of longest_piece s) (λ q v x. natural-is s d q longest_piece (omega arith) v x)
 

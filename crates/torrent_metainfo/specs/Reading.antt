@@ -1,53 +1,21 @@
 -- What the calls answer for a text, in document 01's words. Assumes nothing: these are definitions.
 use Rattle.std.specs.Prelude.{List, ℕ, ◌+◌, min, false, length, drop}
 use Rattle.torrent_blocks.specs.Rules.{sum, largest}
-use Rattle.refusal.specs.Paper.{Outcome, taken, refused, refusal, map, then}
+use Rattle.refusal.specs.Paper.{Outcome, taken, refused, map, then}
 use Rattle.refusal.specs.Limits.{most_levels}
 use Rattle.refusal.specs.declared.Part.{Part}
 use Rattle.bencode_scalar.specs.Reading.{Got, got, bad}
 use Rattle.bencode.specs.Value.{Value, encode}
 use Rattle.bencode.specs.Decode.{value_from, unless_long, decode}
-use Rattle.bencode_fields.specs.Looks.{ending_at}
 use Rattle.bencode_fields.specs.Values.{list_at_of}
 use Rattle.torrent_metainfo.specs.Rules.{file_of, lengths_of, torrent_of}
 use Rattle.torrent_metainfo.specs.declared.File.{File}
-use Rattle.torrent_metainfo.specs.declared.Filed.{Filed}
-use Rattle.torrent_metainfo.specs.declared.Filed.TheVariants.{Is, Refused as Not}
 use Rattle.torrent_metainfo.specs.declared.Content.{Content}
-use Rattle.torrent_metainfo.specs.declared.Contents.{Contents}
-use Rattle.torrent_metainfo.specs.declared.Contents.TheVariants.{Are, Refused as Absent}
-use Rattle.torrent_metainfo.specs.declared.Listing.{Listing}
-use Rattle.torrent_metainfo.specs.declared.Listing.TheVariants.{Are as AreTo, Refused as NoList}
-use Rattle.torrent_metainfo.specs.declared.Path.{Path}
-use Rattle.torrent_metainfo.specs.declared.Path.TheVariants.{Is as IsTo, Refused as NoPath}
 use Rattle.torrent_metainfo.specs.declared.Torrent.{Torrent}
-use Rattle.torrent_metainfo.specs.declared.Reading.{Reading}
-use Rattle.torrent_metainfo.specs.declared.Reading.TheVariants.{Read, Refused}
-
--- the answers
-abbrev pub paper : Reading → Outcome Torrent
-paper (Read t) = taken t
-paper (Refused r) = refusal r
-
-abbrev pub file_paper : Filed → Outcome File
-file_paper (Is f) = taken f
-file_paper (Not r) = refusal r
-
-abbrev pub content_paper : Contents → Outcome Content
-content_paper (Are c) = taken c
-content_paper (Absent r) = refusal r
 
 -- files with the place past their list, and a path with the place past it
 abbrev pub listed_to : ℕ → Content → Content × ℕ
 listed_to q c = (c, q)
-
-abbrev pub listing_paper : Listing → Outcome (Content × ℕ)
-listing_paper (AreTo c q) = taken (listed_to q c)
-listing_paper (NoList r) = refusal r
-
-abbrev pub path_paper : Path → Outcome (ℕ × ℕ)
-path_paper (IsTo a q) = taken (ending_at q a)
-path_paper (NoPath r) = refusal r
 
 -- the torrent that a text is
 abbrev pub read_of : List ℕ → Outcome Torrent

@@ -1,92 +1,74 @@
 // The info dictionary: its checks in document 01's order.
+ghost use Rattle.refusal.specs.Paper.{paper};
 ghost use Rattle.std.specs.Prelude.{◌≡◌, ℕ, ◌+◌, ◌-◌, ◌≤◌};
 ghost use Rattle.bencode.specs.Value.{dict, Entries};
 ghost use Rattle.bencode_walk.specs.Stands.{Stands};
-ghost use Rattle.refusal.specs.Numbers.{kind, range};
-ghost use Rattle.bencode_fields.specs.Looks.{string_paper, natural_paper};
 ghost use Rattle.bencode_fields.specs.Values.{must};
 ghost use Rattle.bencode_walk.specs.Lookup.{Under};
 ghost use Rattle.torrent_metainfo.specs.Keys.{Tells};
 ghost use Rattle.torrent_metainfo.specs.Rules.{name_at, piece_length_at, info_of, sized_of};
-ghost use Rattle.torrent_metainfo.specs.Reading.{paper};
 
-use crate::{Content, Contents, Reading, Torrent, files, keys, names};
-use bencode_fields::{Bytes, Natural};
-use bencode_walk::{Past, Sought};
-use refusal::{Part, limit, number};
+use crate::{Content, Torrent, files, keys, names};
+use bencode_walk::Sought;
+use refusal::{Part, Refusal, limit, number, refuse};
 use torrent_blocks::rules;
 use torrent_blocks::rules::Total;
 
 // The torrent whose info stands at `at`, with its first key at `first`.
-pub fn read(text: &[u8], announce: Part, at: usize, first: usize) -> Reading
+pub fn read(text: &[u8], announce: Part, at: usize, first: usize) -> Result<Torrent, Refusal>
     ensures { (d : ℕ) → (es : Entries) → d ≤ 32 → Stands text.now d at (dict es) → first ≡ at + 1 → paper result ≡ info_of announce at es }
 {
     let k = keys::note(text, at, first);
-    let files = k.files;
-    let listed = k.listed;
-    let length = k.length;
-    let name = k.name;
-    let piece_length = k.piece_length;
-    let pieces = k.pieces;
-    match name_under(text, at, name) {
-        Bytes::Are(name) => match piece_length_under(text, at, piece_length) {
-            Natural::Is(n) => match bencode_fields::string_under(text, at, pieces) {
-                Bytes::Are(hashes) => match files::content(text, at, length, files, listed) {
-                    Contents::Are(c) => match keys::close(text, keys::stop(pieces)) {
-                        Past::To(end) => sized(
-                            announce,
-                            from_to(at, end),
-                            name,
-                            hashes,
-                            keys::value(pieces),
-                            n,
-                            c,
-                        ),
-                        Past::Refused(r) => Reading::Refused(r),
-                    },
-                    Contents::Refused(r) => Reading::Refused(r),
-                },
-                Bytes::Refused(r) => Reading::Refused(r),
-            },
-            Natural::Refused(r) => Reading::Refused(r),
-        },
-        Bytes::Refused(r) => Reading::Refused(r),
-    }
+    let name = name_under(text, at, k.name)?;
+    let n = piece_length_under(text, at, k.piece_length)?;
+    let hashes = bencode_fields::string_under(text, at, k.pieces)?;
+    let c = files::content(text, at, k)?;
+    let end = keys::close(text, keys::stop(k.pieces))?;
+    sized(
+        announce,
+        from_to(at, end),
+        name,
+        hashes,
+        keys::value(k.pieces),
+        n,
+        c,
+    )
 }
 
 fn from_to(from: usize, to: usize) -> Part
     ensures { result ≡ record { from = from; len = to - from } }
 {
-    if to < from {
-        return Part { from, len: 0 };
-    }
     Part {
         from,
-        len: to - from,
+        len: to.saturating_sub(from),
     }
 }
 
-fn name_under(text: &[u8], dictionary: usize, sought: Sought) -> Bytes
-    ensures { (d : ℕ) → (u : Under) → Tells text.now d u sought → string_paper result ≡ must dictionary u name_at }
+fn name_under(
+    text: &[u8],
+    dictionary: usize,
+    sought: Result<Sought, Refusal>,
+) -> Result<Part, Refusal>
+    ensures { (d : ℕ) → (u : Under) → Tells text.now d u sought → paper result ≡ must dictionary u name_at }
 {
-    match sought {
+    match sought? {
         Sought::Found(_, at) => names::name_at(text, at),
-        Sought::Missing(_) => no_name(dictionary),
-        Sought::Refused(r) => Bytes::Refused(r),
+        Sought::Missing(_) => Err(refuse(number::KIND, dictionary)),
     }
 }
 
-fn piece_length_under(text: &[u8], dictionary: usize, sought: Sought) -> Natural
-    ensures { (d : ℕ) → (u : Under) → Tells text.now d u sought → natural_paper result ≡ must dictionary u piece_length_at }
+fn piece_length_under(
+    text: &[u8],
+    dictionary: usize,
+    sought: Result<Sought, Refusal>,
+) -> Result<u64, Refusal>
+    ensures { (d : ℕ) → (u : Under) → Tells text.now d u sought → paper result ≡ must dictionary u piece_length_at }
 {
-    match bencode_fields::natural_under(text, dictionary, sought, limit::PIECE as u64) {
-        Natural::Is(n) => {
-            if rules::legal_piece_length(n) {
-                return Natural::Is(n);
-            }
-            no_length(keys::value(sought))
-        }
-        Natural::Refused(r) => Natural::Refused(r),
+    let n = bencode_fields::natural_under(text, dictionary, sought, limit::PIECE as u64)?;
+    if rules::legal_piece_length(n) {
+        Ok(n)
+    } else {
+        Err(refuse(number::RANGE, keys::value(sought)))
     }
 }
 
@@ -99,14 +81,14 @@ fn sized(
     place: usize,
     piece_length: u64,
     c: Content,
-) -> Reading
+) -> Result<Torrent, Refusal>
     ensures { paper result ≡ sized_of announce info name pieces place piece_length c }
 {
     if rules::legal_file_count(c.files) {
         if rules::legal_total(Total(c.total), piece_length) {
             let count = rules::pieces(Total(c.total), piece_length);
             if pieces.len as u64 == 20 * count {
-                return Reading::Read(Torrent {
+                return Ok(Torrent {
                     announce,
                     info,
                     name,
@@ -116,27 +98,9 @@ fn sized(
                     content: c,
                 });
             }
-            return refused(number::PIECES, place);
+            return Err(refuse(number::PIECES, place));
         }
-        return refused(number::RANGE, c.place);
+        return Err(refuse(number::RANGE, c.place));
     }
-    refused(number::RANGE, c.place)
-}
-
-fn no_name(at: usize) -> Bytes
-    ensures { result ≡ Bytes.Refused (record { number = kind; place = at }) }
-{
-    Bytes::Refused(refusal::refuse(number::KIND, at))
-}
-
-fn no_length(at: usize) -> Natural
-    ensures { result ≡ Natural.Refused (record { number = range; place = at }) }
-{
-    Natural::Refused(refusal::refuse(number::RANGE, at))
-}
-
-fn refused(number: u8, place: usize) -> Reading
-    ensures { result ≡ Reading.Refused (record { number = number; place = place }) }
-{
-    Reading::Refused(refusal::refuse(number, place))
+    Err(refuse(number::RANGE, c.place))
 }

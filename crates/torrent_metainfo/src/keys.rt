@@ -1,34 +1,34 @@
 // Where the keys of a dictionary were sought.
 ghost use Rattle.std.specs.Prelude.{◌≡◌, ℕ, ◌+◌, ◌≤◌, length};
-ghost use Rattle.refusal.specs.Paper.{taken};
+ghost use Rattle.refusal.specs.Paper.{paper, taken};
 ghost use Rattle.bencode.specs.Value.{Entries, Prev, encode_entries};
-ghost use Rattle.bencode_walk.specs.Walk.{past_paper};
 ghost use Rattle.bencode_walk.specs.Stands.{StandEntries};
 ghost use Rattle.torrent_metainfo.specs.Keys.{stop_of, place_found, past_of};
 ghost use Rattle.torrent_metainfo.specs.Noted.{Noted};
 
-use crate::{Known, Listing, files};
-use bencode_walk::{Next, Past, Sought};
+use crate::{Content, Known, files};
+use bencode_walk::{Next, Sought};
+use refusal::Refusal;
 
 // Where a search stopped: a later key is sought from there on.
-pub fn stop(sought: Sought) -> usize
+pub fn stop(sought: Result<Sought, Refusal>) -> usize
     ensures { result ≡ stop_of sought }
 {
     match sought {
-        Sought::Found(at, _) => at,
-        Sought::Missing(at) => at,
-        Sought::Refused(r) => r.place,
+        Ok(Sought::Found(at, _)) => at,
+        Ok(Sought::Missing(at)) => at,
+        Err(r) => r.place,
     }
 }
 
 // The place of the value that was found.
-pub fn value(sought: Sought) -> usize
+pub fn value(sought: Result<Sought, Refusal>) -> usize
     ensures { result ≡ place_found sought }
 {
     match sought {
-        Sought::Found(_, at) => at,
-        Sought::Missing(_) => 0,
-        Sought::Refused(_) => 0,
+        Ok(Sought::Found(_, at)) => at,
+        Ok(Sought::Missing(_)) => 0,
+        Err(_) => 0,
     }
 }
 
@@ -53,28 +53,24 @@ pub fn note(text: &[u8], info: usize, first: usize) -> Known
 }
 
 // The place past the dictionary whose entry, or e, stands at `from`: only the entries from there on are passed.
-pub fn close(text: &[u8], from: usize) -> Past
-    ensures { (d : ℕ) → (before : Prev) → (es : Entries) → d ≤ 32 → StandEntries text.now d from before es → past_paper result ≡ taken (from + length (encode_entries es)) }
+pub fn close(text: &[u8], from: usize) -> Result<usize, Refusal>
+    ensures { (d : ℕ) → (before : Prev) → (es : Entries) → d ≤ 32 → StandEntries text.now d from before es → paper result ≡ taken (from + length (encode_entries es)) }
 {
     let mut p = from;
     loop {
-        match bencode_walk::entry(text, p) {
-            Next::Key(_, value) => match bencode_walk::skip(text, value) {
-                Past::To(next) => p = next,
-                Past::Refused(r) => return Past::Refused(r),
-            },
-            Next::Close(past) => return Past::To(past),
-            Next::Refused(r) => return Past::Refused(r),
+        match bencode_walk::entry(text, p)? {
+            Next::Key(_, value) => p = bencode_walk::skip(text, value)?,
+            Next::Close(past) => return Ok(past),
         }
     }
 }
 
 // Where the key after files is sought: past their list, if it was read.
-fn past(files: Sought, listed: Listing) -> usize
+fn past(files: Result<Sought, Refusal>, listed: Result<(Content, usize), Refusal>) -> usize
     ensures { result ≡ past_of files listed }
 {
     match listed {
-        Listing::Are(_, past) => past,
-        Listing::Refused(_) => stop(files),
+        Ok((_, past)) => past,
+        Err(_) => stop(files),
     }
 }

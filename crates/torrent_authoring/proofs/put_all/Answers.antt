@@ -1,5 +1,5 @@
 -- `torrent_authoring::put_all` meets its contract. Assumes nothing.
-use native.Mathlib.Omega.{arith}
+use Rattle.std.proofs.Common.{arith}
 use Rattle.torrent_authoring.proofs.Putting.{room-announce, room-length, room-name, room-piece, room-pieces, all-put}
 use Rattle.torrent_authoring.specs.Writing.{fields}
 use Rattle.torrent_authoring.proofs.put_all.Goals as goal

@@ -1,18 +1,21 @@
 -- `torrent_authoring::write` meets its contract. Assumes nothing.
+use Rattle.std.proofs.Common.{◌≡◌, Err, ap, ◌∙◌, arith, rules}
+use Rattle.refusal.specs.Paper.{paper}
+use Rattle.bencode_writer.specs.Put.{left}
 use Rattle.torrent_authoring.proofs.Steps.{size_is, write-not, write-none, write-whole}
-use Rattle.torrent_authoring.specs.Writing.{fields, paper}
-use mathlib.Core.Path.{sym, ap, ◌∙◌}
-use native.Mathlib.Omega.{arith}
 use Rattle.torrent_authoring.proofs.write.Goals as goal
 
+pub returns-in_err-n : goal.returns-in_err-n
+returns-in_err-n c =
+    let a = c.args in
+    let e : c.from_residual.result ≡ Err c.in_err-n.field-0.0 = search rules in
+    ap (λ r. left (paper r) a.out.now) e ∙ write-not _ a.out.now _ _ c.in_err-n.ensures
+
 pub returns-then-out-n : goal.returns-then-out-n
-returns-then-out-n c = let a = c.args in let f = fields a.announce.now a.name.now a.piece_length a.pieces.now a.length in write-none f a.out.now _ (ap paper (sym c.in-Bytes.is) ∙ c.size.ensures) (omega arith) c.no_room.ensures
+returns-then-out-n c = write-none _ c.args.out.now _ c.in_ok-n.ensures (omega arith) (ap Err c.refuse.ensures)
 
 pub put_all-requires : goal.put_all-requires
-put_all-requires c = let a = c.args in let f = fields a.announce.now a.name.now a.piece_length a.pieces.now a.length in omega (arith, size_is f _ (ap paper (sym c.in-Bytes.is) ∙ c.size.ensures))
+put_all-requires c = omega (arith, size_is _ _ c.in_ok-n.ensures)
 
-pub returns-else-out-n : goal.returns-else-out-n
-returns-else-out-n c = let a = c.args in let f = fields a.announce.now a.name.now a.piece_length a.pieces.now a.length in write-whole f a.out.now _ (ap paper (sym c.in-Bytes.is) ∙ c.size.ensures) (omega arith) c.put_all.ensures
-
-pub returns-in-Refused : goal.returns-in-Refused
-returns-in-Refused c = let a = c.args in let f = fields a.announce.now a.name.now a.piece_length a.pieces.now a.length in write-not f a.out.now _ _ (ap paper (sym c.in-Refused.is) ∙ c.size.ensures)
+pub returns : goal.returns
+returns c = write-whole _ c.args.out.now _ c.in_ok-n.ensures (omega arith) c.put_all.ensures

@@ -1,67 +1,61 @@
 -- `torrent_blocks::block` meets its contract: each end is a law of `Ends`, from what the tests before it have shown. Assumes nothing.
-use Rattle.torrent_blocks.specs.Answers.{lies}
-use Rattle.torrent_blocks.specs.Steps.{files_from}
-use Rattle.torrent_blocks.specs.Spans.{parts_from}
-use Rattle.torrent_blocks.specs.Numberings.{content_offset}
-use Prim.Native.Nat.{ℕ, ◌+◌, ◌*◌, ◌^◌, ◌<◌}
-use mathlib.Core.Bool.{true}
-use Rattle.torrent_blocks.proofs.Legal.{piece-length-is, piece-bounds, offset-exact}
-use Rattle.torrent_blocks.proofs.Ends.{Known, total-all, breaks-first, test-fails, test-holds, block-11, block-31, block-34, block-37, block-done}
-use borrow.Author.Tests.{not-true, not-false}
-use mathlib.Core.Path.{◌≡◌, sym, ◌∙◌}
-use native.Mathlib.Omega.{arith}
-use mathlib.Core.Path.{ap}
-use mathlib.Core.Bool.{not}
+use Rattle.std.specs.Prelude.{Err}
+use Rattle.std.proofs.Common.{◌≡◌, ◌+◌, ◌*◌, ◌^◌, ◌<◌, inl, length, arith, rules, ap, refl, sym}
+use Rattle.std.proofs.lemmas.Iterator.Consumers.{YieldsList-from_first, count_from_yields_List}
+use Rattle.torrent_blocks.specs.Spans.{joined_files}
+use Rattle.torrent_blocks.specs.Steps.{part_of, parts_in, parts_left}
+use Rattle.torrent_blocks.specs.declared.parts.Parts.{Parts}
+use Rattle.torrent_blocks.proofs.Legal.{offset-exact}
+use Rattle.torrent_blocks.proofs.Ends.{piece-high, block-of-piece, block-34, block-37, block-done}
+use Rattle.torrent_blocks.proofs.Steps.{parts-fit}
 use Rattle.torrent_blocks.proofs.block.Goals as goal
-use Rattle.torrent_blocks.proofs.block.Goals.{Else-not-keeps_rules, Else-not-legal_piece_length, Else-not-lies_within}
+use Rattle.torrent_blocks.proofs.block.Goals.{In_ok-held, After-count-n}
 
-pub returns-then-not-legal_piece_length : goal.returns-then-not-legal_piece_length
-returns-then-not-legal_piece_length c =
+pub returns-in_err-held : goal.returns-in_err-held
+returns-in_err-held c =
     let a = c.args in
-    block-11 a.lengths.now a.piece_length a.piece.0 a.offset.0 a.count a.out.now c.no_parts.ensures (breaks-first a.lengths.now a.piece_length (sym c.legal_piece_length.ensures ∙ not-true c.legal_piece_length.result (ap not c.if-not-legal_piece_length.true)))
+    let e = block-of-piece (joined_files a.lengths.now) a.piece_length a.piece.0 a.offset.0 a.count a.out.now c.in_err-held.field-0.0 c.in_err-held.ensures in
+    search rules
 
 -- where the piece length is legal, the block's place is what it says
-placed : (c : Else-not-legal_piece_length) (r : ℕ) → r ≡ content_offset c.args.piece_length c.args.piece.0 c.args.offset.0
-    → (r ≡ c.args.piece.0 * c.args.piece_length + c.args.offset.0) × (r < 2 ^ 57)
-placed c r e =
+placed : (c : In_ok-held) → (c.content_offset-from.result.0 ≡ c.args.piece.0 * c.args.piece_length + c.args.offset.0) × (c.content_offset-from.result.0 < 2 ^ 57)
+placed c =
     let a = c.args in
-    offset-exact a.piece_length a.piece.0 a.offset.0 (omega (arith, piece-bounds a.piece_length (piece-length-is a.piece_length (sym c.legal_piece_length.ensures ∙ not-false c.legal_piece_length.result (ap not c.if-not-legal_piece_length.false))))) (omega arith) (omega arith) e
-
-pub past-to-requires : goal.past-to-requires
-past-to-requires c = (placed (goal.at.past-to-requires c).Else-not-legal_piece_length c.content_offset-from.result.0 c.content_offset-from.ensures).1
-
-pub returns-then-not-keeps_rules : goal.returns-then-not-keeps_rules
-returns-then-not-keeps_rules c =
-    let a = c.args in
-    block-11 a.lengths.now a.piece_length a.piece.0 a.offset.0 a.count a.out.now c.no_parts-then-not-keeps_rules.ensures (test-fails a.lengths.now a.piece_length c.add_up-total.result.0 (c.add_up-total.ensures ∙ c.overlaps-run.ensures.2 ∙ c.seek-first.ensures.1 ∙ total-all a.lengths.now) c.keeps_rules.ensures (not-true c.keeps_rules.result (ap not c.if-not-keeps_rules.true)))
-
-rules-kept : (c : Else-not-keeps_rules) → Known c.args.lengths.now c.args.piece_length c.add_up-total.result.0
-rules-kept c =
-    let a = c.args in
-    test-holds a.lengths.now a.piece_length c.add_up-total.result.0 (c.add_up-total.ensures ∙ c.overlaps-run.ensures.2 ∙ c.seek-first.ensures.1 ∙ total-all a.lengths.now) c.keeps_rules.ensures (not-false c.keeps_rules.result (ap not c.if-not-keeps_rules.false))
-
-pub returns-then-pieces-piece : goal.returns-then-pieces-piece
-returns-then-pieces-piece c =
-    let a = c.args in
-    block-31 a.lengths.now a.piece_length a.piece.0 a.offset.0 a.count a.out.now c.add_up-total.result.0 (rules-kept (goal.at.returns-then-pieces-piece c).Else-not-keeps_rules) c.no_parts-then-pieces-piece.ensures (omega arith)
+    offset-exact a.piece_length a.piece.0 a.offset.0 (piece-high a.lengths.now a.piece_length a.piece.0 c.in_ok-held.held c.in_ok-held.ensures) (omega arith) (omega arith) c.content_offset-from.ensures
 
 pub returns-then-not-lies_within : goal.returns-then-not-lies_within
 returns-then-not-lies_within c =
     let a = c.args in
-    block-34 a.lengths.now a.piece_length a.piece.0 a.offset.0 a.count a.out.now c.add_up-total.result.0 (rules-kept (goal.at.returns-then-not-lies_within c).Else-not-keeps_rules) (omega arith) c.piece_bytes.result c.piece_bytes.ensures c.no_parts-then-not-lies_within.ensures (sym c.lies_within.ensures ∙ not-true c.lies_within.result (ap not c.if-not-lies_within.true))
+    block-34 a.lengths.now a.piece_length a.piece.0 c.in_ok-held.held c.in_ok-held.ensures a.offset.0 a.count a.out.now (ap Err c.refuse.ensures) (sym c.if-not-lies_within.ensures)
 
-block-lies : (c : Else-not-lies_within) → lies c.piece_bytes.result c.args.offset.0 c.args.count ≡ true
-block-lies c = sym c.lies_within.ensures ∙ not-false c.lies_within.result (ap not c.if-not-lies_within.false)
+-- the block's place ends before 64 bits do
+pub overflow_add-to : goal.overflow_add-to
+overflow_add-to c = omega (arith, (placed (goal.at.overflow_add-to c).In_ok-held).1)
 
-pub returns-then-out-run : goal.returns-then-out-run
-returns-then-out-run c =
+pub count-n-requires-clause-fits : goal.count-n-requires-clause-fits
+count-n-requires-clause-fits c = inl (omega (arith, parts-fit c.seek-files.result c.content_offset-from.result.0 (c.content_offset-from.result.0 + c.args.count)))
+
+counted : (c : After-count-n) → c.count-n.result ≡ length (parts_in c.seek-files.result c.content_offset-from.result.0 (c.content_offset-from.result.0 + c.args.count))
+counted c =
+    let x = c.content_offset-from.result in
+    let p : Parts = record { files = c.seek-files.result; from = x; to = record { 0 = x.0 + c.args.count } } in
+    count_from_yields_List p c.count-n.result c.count-n.ensures.ran (YieldsList-from_first part_of parts_left (parts_left p) refl)
+
+pub returns-then-out-n : goal.returns-then-out-n
+returns-then-out-n c =
     let a = c.args in
-    block-37 a.lengths.now a.piece_length a.piece.0 a.offset.0 a.count a.out.now c.add_up-total.result.0 (rules-kept (goal.at.returns-then-out-run c).Else-not-keeps_rules) (omega arith) c.piece_bytes.result c.piece_bytes.ensures (block-lies (goal.at.returns-then-out-run c).Else-not-lies_within) c.content_offset-from.result.0 c.past-to.result.0 c.overlaps-run.result.parts (parts_from c.seek-first.result.number (files_from a.lengths.now c.seek-first.result) c.content_offset-from.result.0 c.past-to.result.0) (placed (goal.at.returns-then-out-run c).Else-not-legal_piece_length c.content_offset-from.result.0 c.content_offset-from.ensures).0 c.past-to.ensures.0 (c.seek-first.ensures.2 c.past-to.result.0 (omega arith)) c.overlaps-run.ensures.0 c.no_parts-then-out-run.ensures (omega arith)
+    let x = c.content_offset-from.result.0 in
+    let e = goal.at.returns-then-out-n c in
+    let place = placed e.In_ok-held in
+    block-37 a.lengths.now a.piece_length a.piece.0 c.in_ok-held.held c.in_ok-held.ensures a.offset.0 a.count a.out.now (sym c.if-not-lies_within.ensures) x (x + a.count) c.count-n.result (parts_in c.seek-files.result x (x + a.count)) place.0 refl (c.seek-files.ensures.1 (x + a.count) (omega (arith, place.1))) (counted e.After-count-n) (ap Err c.refuse-then-out-n.ensures) (omega arith)
 
 pub write-requires : goal.write-requires
-write-requires c = omega (arith, c.overlaps-run.ensures.0)
+write-requires c = omega (arith, counted (goal.at.write-requires c).After-count-n)
 
 pub returns : goal.returns
 returns c =
     let a = c.args in
-    block-done a.lengths.now a.piece_length a.piece.0 a.offset.0 a.count a.out.now c.add_up-total.result.0 (rules-kept (goal.at.returns c).Else-not-keeps_rules) (omega arith) c.piece_bytes.result c.piece_bytes.ensures (block-lies (goal.at.returns c).Else-not-lies_within) c.content_offset-from.result.0 c.past-to.result.0 c.overlaps-run.result.parts (parts_from c.seek-first.result.number (files_from a.lengths.now c.seek-first.result) c.content_offset-from.result.0 c.past-to.result.0) (placed (goal.at.returns c).Else-not-legal_piece_length c.content_offset-from.result.0 c.content_offset-from.ensures).0 c.past-to.ensures.0 (c.seek-first.ensures.2 c.past-to.result.0 (omega arith)) c.overlaps-run.ensures.0 (omega arith) c.write.ensures
+    let x = c.content_offset-from.result.0 in
+    let e = goal.at.returns c in
+    let place = placed e.In_ok-held in
+    block-done a.lengths.now a.piece_length a.piece.0 c.in_ok-held.held c.in_ok-held.ensures a.offset.0 a.count a.out.now (sym c.if-not-lies_within.ensures) x (x + a.count) c.count-n.result (parts_in c.seek-files.result x (x + a.count)) place.0 refl (c.seek-files.ensures.1 (x + a.count) (omega (arith, place.1))) (counted e.After-count-n) (omega arith) c.write.ensures

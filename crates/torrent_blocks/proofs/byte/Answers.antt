@@ -1,45 +1,50 @@
 -- `torrent_blocks::byte` meets its contract: each end is a law of `Ends`, from what the tests before it have shown. Assumes nothing.
-use Rattle.torrent_blocks.proofs.Ends.{Known, test-fails, test-holds, reached-all, byte-11, byte-31, byte-34, byte-done, place_inside, place-number}
-use borrow.Author.Tests.{not-true, not-false}
-use mathlib.Core.Path.{◌≡◌}
-use Prim.Native.Nat.{◌/◌, ◌%◌}
+use Rattle.std.specs.Prelude.{Err}
+use Rattle.std.proofs.Common.{◌≡◌, ◌<◌, ◌/◌, ◌%◌, ◌+◌, ◌≤◌, length, get_or, arith, rules, ap, refl}
 use native.Mathlib.Nat.{mod-lt}
-use native.Mathlib.Omega.{arith}
-use mathlib.Core.Path.{ap}
-use mathlib.Core.Bool.{not}
+use Rattle.torrent_blocks.proofs.Ends.{Known, test-fails, test-holds, byte-11, byte-31, byte-34, byte-done, place_inside, place-number}
 use Rattle.torrent_blocks.proofs.byte.Goals as goal
-use Rattle.torrent_blocks.proofs.byte.Goals.{Else-not-keeps_rules}
+use Rattle.torrent_blocks.proofs.byte.Goals.{Else-not-keeps_rules, In-Some}
 
 pub returns-then-not-keeps_rules : goal.returns-then-not-keeps_rules
 returns-then-not-keeps_rules c =
     let a = c.args in
-    byte-11 a.lengths.now a.piece_length a.file a.offset c.nowhere.ensures (test-fails a.lengths.now a.piece_length c.add_up-total.result.0 (reached-all a.lengths.now c.reach-at.result.number c.reach-at.result.start.0 c.add_up-total.result.0 c.reach-at.ensures.1 c.add_up-total.ensures) c.keeps_rules.ensures (not-true c.keeps_rules.result (ap not c.if-not-keeps_rules.true)))
+    byte-11 a.lengths.now a.piece_length a.file a.offset (ap Err c.refuse.ensures)
+    (test-fails a.lengths.now a.piece_length c.total-total.result.0 (omega arith) c.if-not-keeps_rules.ensures)
 
-rules-kept : (c : Else-not-keeps_rules) → Known c.args.lengths.now c.args.piece_length c.add_up-total.result.0
+rules-kept : (c : Else-not-keeps_rules) → Known c.args.lengths.now c.args.piece_length c.total-total.result.0
 rules-kept c =
     let a = c.args in
-    test-holds a.lengths.now a.piece_length c.add_up-total.result.0 (reached-all a.lengths.now c.reach-at.result.number c.reach-at.result.start.0 c.add_up-total.result.0 c.reach-at.ensures.1 c.add_up-total.ensures) c.keeps_rules.ensures (not-false c.keeps_rules.result (ap not c.if-not-keeps_rules.false))
+    test-holds a.lengths.now a.piece_length c.total-total.result.0 (omega arith) c.if-not-keeps_rules.ensures
 
-pub returns-then-lengths-file : goal.returns-then-lengths-file
-returns-then-lengths-file c =
+pub returns-in_default : goal.returns-in_default
+returns-in_default c =
     let a = c.args in
-    byte-31 a.lengths.now a.piece_length a.file a.offset c.add_up-total.result.0 (rules-kept (goal.at.returns-then-lengths-file c).Else-not-keeps_rules) c.nowhere-then-lengths-file.ensures (omega arith)
+    let out : length a.lengths.now ≤ a.file = search rules in
+    byte-31 a.lengths.now a.piece_length a.file a.offset c.total-total.result.0 (rules-kept (goal.at.returns-in_default c).Else-not-keeps_rules) (ap Err c.refuse-in_default.ensures) out
 
-pub returns-then-lengths-file-2 : goal.returns-then-lengths-file-2
-returns-then-lengths-file-2 c =
-    let a = c.args in
-    byte-34 a.lengths.now a.piece_length a.file a.offset c.add_up-total.result.0 (rules-kept (goal.at.returns-then-lengths-file-2 c).Else-not-keeps_rules) (omega arith) c.nowhere-then-lengths-file-2.ensures (omega arith)
+there : (c : In-Some) → (c.args.file < length c.args.lengths.now) × (c.in-Some.size.now ≡ get_or c.args.lengths.now c.args.file 0)
+there c = (search rules, search rules)
 
-pub in_file-place-requires : goal.in_file-place-requires
-in_file-place-requires c =
+pub returns-then-size-offset : goal.returns-then-size-offset
+returns-then-size-offset c =
     let a = c.args in
-    let k = (rules-kept (goal.at.in_file-place-requires c).Else-not-keeps_rules) in omega (arith, place_inside a.lengths.now a.piece_length a.file a.offset c.add_up-total.result.0 (rules-kept (goal.at.in_file-place-requires c).Else-not-keeps_rules) (omega arith) (omega arith) c.reach-at.result.number c.reach-at.result.start.0 c.reach-at.ensures.0 c.reach-at.ensures.1)
+    let e = goal.at.returns-then-size-offset c in
+    byte-34 a.lengths.now a.piece_length a.file a.offset c.total-total.result.0 (rules-kept e.Else-not-keeps_rules) (there e.In-Some).0 (ap Err c.refuse-then-size-offset.ensures) (omega (arith, there e.In-Some))
+
+pub overflow_add-place : goal.overflow_add-place
+overflow_add-place c =
+    let a = c.args in
+    let e = goal.at.overflow_add-place c in
+    omega (arith, place_inside a.lengths.now a.piece_length a.file a.offset c.total-total.result.0 (rules-kept e.Else-not-keeps_rules) (there e.In-Some).0 (omega (arith, there e.In-Some)) c.reach-files.result.start.0 c.reach-files.ensures.1)
 
 pub returns : goal.returns
 returns c =
     let a = c.args in
-    let k = rules-kept (goal.at.returns c).Else-not-keeps_rules in
-    let x = c.in_file-place.result.0 in
-    let n : c.piece_number.result.0 ≡ x / a.piece_length = omega (arith, c.piece_number.ensures, place-number a.lengths.now a.piece_length a.file a.offset c.add_up-total.result.0 (rules-kept (goal.at.returns c).Else-not-keeps_rules) (omega arith) (omega arith) c.reach-at.result.number c.reach-at.result.start.0 c.reach-at.ensures.0 c.reach-at.ensures.1 c.in_file-place.result.0 c.in_file-place.ensures) in
-    let m : c.piece_offset.result.0 ≡ x % a.piece_length = omega (arith, c.piece_offset.ensures, mod-lt x {m = a.piece_length} (omega arith)) in
-    byte-done a.lengths.now a.piece_length a.file a.offset c.add_up-total.result.0 (rules-kept (goal.at.returns c).Else-not-keeps_rules) (omega arith) (omega arith) c.reach-at.result.number c.reach-at.result.start.0 c.reach-at.ensures.0 c.reach-at.ensures.1 c.in_file-place.result.0 c.piece_number.result c.piece_offset.result c.in_file-place.ensures n m
+    let e = goal.at.returns c in
+    let k = rules-kept e.Else-not-keeps_rules in
+    let t = there e.In-Some in
+    let x = c.reach-files.result.start.0 + a.offset in
+    let n : c.piece_number.result.0 ≡ x / a.piece_length = omega (arith, c.piece_number.ensures, place-number a.lengths.now a.piece_length a.file a.offset c.total-total.result.0 k t.0 (omega arith) c.reach-files.result.start.0 c.reach-files.ensures.1 x refl) in
+    let m : c.piece_offset.result.0 ≡ x % a.piece_length = omega (arith, c.piece_offset.ensures, mod-lt x {m = a.piece_length} (omega (arith, k.low)), k.high) in
+    byte-done a.lengths.now a.piece_length a.file a.offset c.total-total.result.0 k t.0 (omega arith) c.reach-files.result.start.0 c.reach-files.ensures.1 x (record { piece = c.piece_number.result; offset = c.piece_offset.result }) refl n m

@@ -3,17 +3,7 @@ use Rattle.torrent_lines.proofs.Running.{first-joined}
 use Rattle.bencode_writer.proofs.Runs.{ran_then, ran-as}
 use Rattle.torrent_lines.specs.Lines.{escaped}
 use Rattle.bencode_scalar.specs.Written.{decimal}
-use native.Mathlib.Omega.{arith}
 use Rattle.torrent_lines.proofs.first_line.Goals as goal
-
-pub numbered-d-requires : goal.numbered-d-requires
-numbered-d-requires c = omega (arith, c.escaped-a.ensures.place, c.byte-b.ensures.place, c.numbered-c.ensures.near)
-
-pub numbered-e-requires : goal.numbered-e-requires
-numbered-e-requires c = omega (arith, c.escaped-a.ensures.place, c.byte-b.ensures.place, c.numbered-c.ensures.near, c.numbered-d.ensures.near)
-
-pub numbered-requires : goal.numbered-requires
-numbered-requires c = omega (arith, c.escaped-a.ensures.place, c.byte-b.ensures.place, c.numbered-c.ensures.near, c.numbered-d.ensures.near, c.numbered-e.ensures.near)
 
 pub returns : goal.returns
 returns c = ran-as (ran_then c.escaped-a.ensures (ran_then c.byte-b.ensures (ran_then c.numbered-c.ensures.ran (ran_then c.numbered-d.ensures.ran (ran_then c.numbered-e.ensures.ran c.numbered.ensures.ran))))) (first-joined (escaped c.args.name.now) (decimal c.args.t.content.files) (decimal c.args.t.content.total) (decimal c.args.t.piece_count) (decimal c.args.t.piece_length))

@@ -2,14 +2,7 @@
 use Rattle.torrent_lines.proofs.Running.{only-joined}
 use Rattle.bencode_writer.proofs.Runs.{ran_then, ran-as}
 use Rattle.bencode_scalar.specs.Written.{decimal}
-use native.Mathlib.Omega.{arith}
 use Rattle.torrent_lines.proofs.only_file.Goals as goal
-
-pub escaped-c-requires : goal.escaped-c-requires
-escaped-c-requires c = omega (arith, c.numbered-b.ensures.near, c.literal-a.ensures.place)
-
-pub byte-requires : goal.byte-requires
-byte-requires c = omega (arith, c.numbered-b.ensures.near, c.literal-a.ensures.place, c.escaped-c.ensures.place)
 
 pub returns : goal.returns
 returns c = ran-as (ran_then c.literal-a.ensures (ran_then c.numbered-b.ensures.ran (ran_then c.escaped-c.ensures c.byte.ensures))) (only-joined (decimal c.args.total) c.args.name.now)

@@ -1,11 +1,13 @@
 -- `torrent_metainfo::top` meets its contract. Assumes nothing.
-use Rattle.bencode_fields.specs.Looks.{inside_paper}
+use Rattle.std.proofs.Common.{◌≡◌, Err, ap, ◌∙◌, rules}
+use Rattle.refusal.specs.Paper.{paper}
 use Rattle.torrent_metainfo.proofs.Informing.{whole-not, whole_with}
-use mathlib.Core.Path.{sym, ap, ◌∙◌}
 use Rattle.torrent_metainfo.proofs.top.Goals as goal
 
-pub returns-in-At : goal.returns-in-At
-returns-in-At c = λ v f. whole_with c.args.text.now v f c.in-At.first (ap inside_paper (sym c.in-At.is) ∙ c.dictionary_at.ensures) _ (λ d before es l t e. c.announced.ensures d before es l t e)
+pub returns-in_err-first : goal.returns-in_err-first
+returns-in_err-first c =
+    let e : c.from_residual.result ≡ Err c.in_err-first.field-0.0 = search rules in
+    λ v f. ap paper e ∙ whole-not c.args.text.now v f _ _ c.in_err-first.ensures
 
-pub returns-in-Refused : goal.returns-in-Refused
-returns-in-Refused c = λ v f. whole-not c.args.text.now v f c.in-Refused.r.number c.in-Refused.r.place (ap inside_paper (sym c.in-Refused.is) ∙ c.dictionary_at.ensures)
+pub returns : goal.returns
+returns c = λ v f. whole_with c.args.text.now v f c.in_ok-first.first c.in_ok-first.ensures _ (λ d before es l t e. c.announced.ensures d before es l t e)

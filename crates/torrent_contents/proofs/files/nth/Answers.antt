@@ -1,25 +1,23 @@
 -- `torrent_contents::files::nth` meets its contract. Assumes nothing.
+use Rattle.std.proofs.Common.{◌≡◌, refl, ap, ◌∙◌, ◌-◌, arith}
+use Rattle.refusal.specs.Paper.{paper}
+use Rattle.bencode_scalar.proofs.Forms.{passed_on}
 use Rattle.torrent_contents.proofs.Numbering.{walk_here, walk-bad, walk_more}
-use Rattle.torrent_contents.specs.Files.{found_paper}
-use Rattle.torrent_metainfo.specs.Reading.{file_paper}
-use native.Mathlib.Omega.{arith}
-use mathlib.Core.Path.{refl, sym, ap, ◌∙◌}
 use Rattle.torrent_contents.proofs.files.nth.Goals as goal
 
-pub loop-f-init : goal.loop-f-init
-loop-f-init c = refl
+pub loop-n-init : goal.loop-n-init
+loop-n-init c =
+    let e : c.args.number - 0 ≡ c.args.number = omega arith in
+    rw e refl
 
-pub returns-then-left-eq0 : goal.returns-then-left-eq0
-returns-then-left-eq0 c = ap found_paper c.listed.ensures ∙ walk_here c.args.text.now c.loop-f.at c.loop-f.passed.0 c.loop-f.left c.in-Is.f (omega arith) (ap file_paper (sym c.in-Is.is) ∙ c.file_at.ensures) ∙ c.loop-f.invariant
+pub loop-n-preserved : goal.loop-n-preserved
+loop-n-preserved c = walk_more _ _ _ c.in_ok-f.ensures (omega arith) c.with_file-passed.ensures ∙ c.loop-n.invariant
 
-pub overflow_sub-left : goal.overflow_sub-left
-overflow_sub-left c = omega arith
+pub returns-in_err-f : goal.returns-in_err-f
+returns-in_err-f c = ap paper (passed_on _ _ c.from_residual.ensures.1) ∙ walk-bad _ _ _ _ c.in_err-f.ensures ∙ c.loop-n.invariant
 
-pub loop-f-smaller : goal.loop-f-smaller
-loop-f-smaller c = omega arith
+pub returns-in_err-f-2 : goal.returns-in_err-f-2
+returns-in_err-f-2 c = ap paper (passed_on _ _ c.from_residual-in_err-f-2.ensures.1) ∙ walk-bad _ _ _ _ c.in_err-f-2.ensures ∙ c.loop-n.invariant
 
-pub loop-f-preserved : goal.loop-f-preserved
-loop-f-preserved c = walk_more c.args.text.now c.loop-f.at c.loop-f.passed.0 c.loop-f.left c.in-Is.f c.with_file-passed.result.0 (λ e. omega arith) (ap file_paper (sym c.in-Is.is) ∙ c.file_at.ensures) (omega (arith, c.with_file-passed.ensures)) ∙ c.loop-f.invariant
-
-pub returns-in-Refused : goal.returns-in-Refused
-returns-in-Refused c = walk-bad c.args.text.now c.loop-f.at c.loop-f.passed.0 c.loop-f.left c.in-Refused.r.number c.in-Refused.r.place (ap file_paper (sym c.in-Refused.is) ∙ c.file_at.ensures) ∙ c.loop-f.invariant
+pub returns : goal.returns
+returns c = walk_here _ _ _ c.in_ok-f-2.ensures (omega arith) ∙ c.loop-n.invariant

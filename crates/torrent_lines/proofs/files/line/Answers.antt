@@ -2,12 +2,8 @@
 use Rattle.torrent_lines.proofs.Running.{digits-most}
 use Rattle.bencode_writer.proofs.Runs.{ran_then, ran-as}
 use Rattle.bencode_scalar.specs.Written.{decimal}
-use mathlib.Core.List.{[], ◌∷◌, ◌++◌, append_assoc}
-use native.Mathlib.Omega.{arith}
+use Rattle.std.proofs.Common.{[], ◌∷◌, ◌++◌, append_assoc, arith}
 use Rattle.torrent_lines.proofs.files.line.Goals as goal
-
-pub decimal-b-requires : goal.decimal-b-requires
-decimal-b-requires c = omega (arith, c.numbered-a.ensures.near, c.requires.2)
 
 pub path-c-requires : goal.path-c-requires
 path-c-requires c = (c.requires.0, c.requires.1, omega (arith, c.numbered-a.ensures.near, c.decimal-b.ensures.place, digits-most c.args.f.length (omega arith), c.requires.2))

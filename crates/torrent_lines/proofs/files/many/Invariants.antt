@@ -1,7 +1,6 @@
 -- `torrent_lines::files::many` meets its contract. Assumes nothing.
+use Rattle.std.proofs.Common.{◌-◌, length}
 use Rattle.torrent_lines.proofs.Walking.{FilesGoing}
-use Prim.Native.Nat.{◌-◌}
-use lib.ListN.{length}
 use Rattle.torrent_lines.proofs.files.many.Given as goal
 
 abbrev pub invariant-loop-f : goal.invariant-loop-f

@@ -1,7 +1,6 @@
 -- `torrent_lines::files::path` meets its contract. Assumes nothing.
+use Rattle.std.proofs.Common.{◌-◌, length}
 use Rattle.torrent_lines.proofs.Walking.{PathGoing}
-use Prim.Native.Nat.{◌-◌}
-use lib.ListN.{length}
 use Rattle.torrent_lines.proofs.files.path.Given as goal
 
 abbrev pub invariant-loop-part : goal.invariant-loop-part

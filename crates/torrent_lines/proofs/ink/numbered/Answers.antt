@@ -1,7 +1,7 @@
 -- `torrent_lines::ink::numbered` meets its contract. Assumes nothing.
 use Rattle.torrent_lines.proofs.Running.{digits-most}
 use Rattle.bencode_writer.proofs.Runs.{ran_then}
-use native.Mathlib.Omega.{arith}
+use Rattle.std.proofs.Common.{arith}
 use Rattle.torrent_lines.proofs.ink.numbered.Goals as goal
 
 pub literal-requires : goal.literal-requires

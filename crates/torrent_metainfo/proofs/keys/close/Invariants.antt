@@ -1,6 +1,5 @@
 -- `torrent_metainfo::keys::close` meets its contract. Assumes nothing.
-use lib.ListN.{length}
-use Prim.Native.Nat.{◌-◌}
+use Rattle.std.proofs.Common.{length, ◌-◌}
 use Rattle.torrent_metainfo.proofs.Closing.{Closing}
 use Rattle.torrent_metainfo.proofs.keys.close.Given as goal
 

@@ -1,9 +1,8 @@
 -- `torrent_metainfo::keys::note` meets its contract. Assumes nothing.
 use Rattle.torrent_metainfo.proofs.Closing.{noted}
-use Prim.Native.Nat.{ℕ}
+use Rattle.std.proofs.Common.{ℕ, ap, ◌∙◌}
 use Rattle.torrent_metainfo.specs.Keys.{length_key, name_key, piece_length_key, pieces_key}
 use Rattle.bencode_fields.specs.Looks.{sought_from}
-use mathlib.Core.Path.{ap, ◌∙◌}
 use Rattle.torrent_metainfo.proofs.keys.note.Goals as goal
 
 pub returns : goal.returns

@@ -1,7 +1,6 @@
 -- `torrent_metainfo::names::elements` meets its contract. Assumes nothing.
 use Rattle.torrent_metainfo.proofs.Naming.{Going}
-use lib.ListN.{length}
-use Prim.Native.Nat.{◌-◌}
+use Rattle.std.proofs.Common.{length, ◌-◌}
 use Rattle.torrent_metainfo.proofs.names.elements.Given as goal
 
 abbrev pub invariant-loop-part : goal.invariant-loop-part

@@ -1,18 +1,21 @@
 -- `torrent_metainfo::names::path_at` meets its contract. Assumes nothing.
+use Rattle.std.proofs.Common.{◌≡◌, Err, sym, ap, ◌∙◌, rules}
+use Rattle.refusal.specs.Paper.{paper, refusal}
 use Rattle.torrent_metainfo.proofs.Naming.{path-not, path_empty, path-some}
-use Rattle.torrent_metainfo.specs.Reading.{path_paper}
-use Rattle.bencode_fields.specs.Looks.{inside_paper}
-use mathlib.Core.Path.{sym, ap, ◌∙◌}
 use Rattle.torrent_metainfo.proofs.names.path_at.Goals as goal
 
+pub returns-in_err-first : goal.returns-in_err-first
+returns-in_err-first c =
+    let e : c.from_residual.result ≡ Err c.in_err-first.field-0.0 = search rules in
+    λ d v t. ap paper e ∙ path-not c.args.text.now d c.args.at v t _ _ c.in_err-first.ensures
+
 pub returns-then-ends : goal.returns-then-ends
-returns-then-ends c = λ d v t. ap path_paper c.no_path.ensures ∙ path_empty c.args.text.now d c.args.at c.in-At.first (ap inside_paper (sym c.in-At.is) ∙ c.list_at.ensures) v t (sym c.ends.ensures ∙ c.if-ends.true)
+returns-then-ends c = λ d v t. ap refusal c.refuse.ensures ∙ path_empty c.args.text.now d c.args.at c.in_ok-first.first c.in_ok-first.ensures v t (sym c.ends.ensures ∙ c.if-ends.true)
 
-pub returns-in-At-elements : goal.returns-in-At-elements
-returns-in-At-elements c = λ d v t. path-some c.args.text.now d c.args.at c.in-At.first (ap inside_paper (sym c.in-At.is) ∙ c.list_at.ensures) _ (λ e vs u. ap inside_paper (sym c.in-At-elements.is) ∙ c.elements.ensures e vs u) v t (sym c.ends.ensures ∙ c.if-ends.false)
+pub returns-in_err-past : goal.returns-in_err-past
+returns-in_err-past c =
+    let e : c.from_residual-in_err-past.result ≡ Err c.in_err-past.field-0.0 = search rules in
+    λ d v t. ap paper e ∙ path-some c.args.text.now d c.args.at c.in_ok-first.first c.in_ok-first.ensures _ (λ e vs u. c.in_err-past.ensures e vs u) v t (sym c.ends.ensures ∙ c.if-ends.false)
 
-pub returns-in-Refused-elements : goal.returns-in-Refused-elements
-returns-in-Refused-elements c = λ d v t. path-some c.args.text.now d c.args.at c.in-At.first (ap inside_paper (sym c.in-At.is) ∙ c.list_at.ensures) _ (λ e vs u. ap inside_paper (sym c.in-Refused-elements.is) ∙ c.elements.ensures e vs u) v t (sym c.ends.ensures ∙ c.if-ends.false)
-
-pub returns-in-Refused : goal.returns-in-Refused
-returns-in-Refused c = λ d v t. path-not c.args.text.now d c.args.at v t c.in-Refused.r.number c.in-Refused.r.place (ap inside_paper (sym c.in-Refused.is) ∙ c.list_at.ensures)
+pub returns : goal.returns
+returns c = λ d v t. path-some c.args.text.now d c.args.at c.in_ok-first.first c.in_ok-first.ensures _ (λ e vs u. c.in_ok-past.ensures e vs u) v t (sym c.ends.ensures ∙ c.if-ends.false)
