@@ -1,4 +1,5 @@
 -- Values and hashes stored byte by byte. Assumes nothing.
+use Rattle.std.specs.Prelude.{None, Some}
 use mathlib.Core.Path.{◌≡◌, refl, sym, ap, ◌∙◌, subst}
 use mathlib.Core.List.{List, ◌++◌, append-nil}
 use Prim.Native.Nat.{ℕ, ◌+◌, ◌*◌, ◌<◌, ◌≤◌}
@@ -28,13 +29,11 @@ pub record Bytes (R : ℕ → List ℕ → Type 0) (p k : ℕ) (v : Said) : Type
   pub count : k ≡ length bytes
 
 module _ {R : ℕ → List ℕ → Type 0} where
-  pub held_none : {x : Spelt} {v : Said} → Holds R x v → x.from ≡ 0 → v ≡ absent
-  held_none unheld e = refl
-  held_none (held p k bs h r f) e = absurd (omega (arith, h, e))
+  pub held_none : {v : Said} → Holds R None v → v ≡ absent
+  held_none unheld = refl
 
-  pub held_bytes : {x : Spelt} {v : Said} → Holds R x v → (x.from ≡ 0 → ⊥) → Bytes R x.from x.size v
-  held_bytes unheld n = absurd (n refl)
-  held_bytes (held p k bs h r e) n = record { bytes = bs; told = refl; there = r; count = e }
+  pub held_bytes : {x : Spelt} {v : Said} → Holds R (Some x) v → Bytes R x.from x.size v
+  held_bytes (held p k bs r e) = record { bytes = bs; told = refl; there = r; count = e }
 
 -- ---- a value
 

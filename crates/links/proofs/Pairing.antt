@@ -1,10 +1,10 @@
 -- A pair as the code goes through it: what each of its steps comes to. Assumes nothing.
+use Rattle.std.specs.Prelude.{Err, None, Ok, Option, Some}
 use mathlib.Core.Path.{◌≡◌, refl, sym, ap, ◌∙◌, subst}
 use mathlib.Core.Bool.{true, false}
 use mathlib.Core.List.{List, [], ◌++◌}
 use Prim.Native.Nat.{ℕ, ◌+◌, ◌-◌, ◌<◌, ◌≤◌, min}
 use native.Mathlib.Omega.{arith}
-use borrow.Author.Tests.{ne_eqb}
 use lib.ListN.{length, get_or, take, drop, length-append, length-drop, get_or-eq_default}
 use lib.Seq.{drop-drop, drop_at}
 use Rattle.refusal.specs.Texts.{bytes}
@@ -13,16 +13,11 @@ use Rattle.refusal.specs.Numbers as no
 use Rattle.refusal.proofs.Cases.{less-or}
 use Rattle.links.specs.Link.{Meaning, Said}
 use Rattle.links.specs.Reading.{is_hex, field_of, Seen, unsaid, with, naming, digits, value, opening, going, fed, finish, told, begun}
-use Rattle.links.specs.Places.{answer_at, runs, common, HashAt, Holds, unheld, held, nowhere, Shows, Valued, TurnedAs, named_at, keeps, kept, closed_at, whole_of, ScannedAs, found, unfound}
+use Rattle.links.specs.Places.{answer_at, runs, common, HashAt, Holds, unheld, held, Shows, Valued, Turn, TurnedAs, named_at, keeps, kept, closed_at, found_by, whole_of, Scanned, ScannedAs, found, unfound}
 use Rattle.links.specs.declared.scan.Field.{Field}
 use Rattle.links.specs.declared.scan.Field.TheVariants.{Hash, Name, Address, Other}
 use Rattle.links.specs.declared.scan.Spelt.{Spelt}
 use Rattle.links.specs.declared.scan.Pass.{Pass}
-use Rattle.links.specs.declared.scan.Turn.{Turn}
-use Rattle.links.specs.declared.scan.Turn.TheVariants.{More, Last, Broken}
-use Rattle.links.specs.declared.scan.Scanned.{Scanned}
-use Rattle.links.specs.declared.scan.Scanned.TheVariants.{Broken as Unfound}
-use Rattle.links.specs.declared.values.Value.TheVariants.{To}
 use Rattle.links.proofs.Running.{prefix-run, urn-run, hex-run}
 use Rattle.links.proofs.Lengths.{common-within, common-there}
 use Rattle.links.proofs.Turning.{prefix-off, urn-off, keeps-has, keep-hash, keep-value, named_again, named-first, closes, closing-hash, closing-value, closing_end}
@@ -39,9 +34,9 @@ module _ (s : List ℕ) (o : Outcome Meaning) (p : ℕ) where
 
   -- it began before
   pub turned-lower : (q : ℕ) (r : Turn) → p ≤ q → TurnedAs s o q r → TurnedAs s o p r
-  turned-lower q (More x i) h (m, w, e, l, z) = (m, w, e, omega arith, z)
-  turned-lower q (Last x) h y = y
-  turned-lower q (Broken i) h y = y
+  turned-lower q (Ok (x, Some i)) h (m, w, e, l, z) = (m, w, e, omega arith, z)
+  turned-lower q (Ok (x, None)) h y = y
+  turned-lower q (Err i) h y = y
 
 -- ---- after the name
 
@@ -114,18 +109,18 @@ module _ (s : List ℕ) (p : ℕ) (x : Pass) where
           let there : HashAt s (p + 9) all.hash = record { text = all.text; rest = all.rest; there = all.there; hex = all.hex; whole = all.whole } in
           turned-from s (answer_at s p n (opening Hash)) p (answer_at s (p + 49) n (digits 0 all.hash)) (closed_at s (p + 49) (kept Hash (record { from = p + 9; size = 20 }) x)) (hash-goes n)
           (closes s p (p + 49) n (with Hash all.hash n) (digits 0 all.hash) (kept Hash (record { from = p + 9; size = 20 }) x) (closing-hash n all.hash (p + 49) (get_or s (p + 49) 0))
-          (keep-hash s x n w (p + 9) all.hash (omega arith) there) (omega arith) hash-within)
+          (keep-hash s x n w (p + 9) all.hash there) (omega arith) hash-within)
 
 -- ---- another value
 
 module _ (s : List ℕ) (p : ℕ) (x : Pass) (f : Field) where
-  pub value-within : (q k : ℕ) → Valued s p (To q k) → q ≤ length s
+  pub value-within : (q k : ℕ) → Valued s p (Ok (q, k)) → q ≤ length s
   value-within q k v = v.1.end
 
-  pub value-closed : 0 < p → (q k : ℕ) → Valued s p (To q k) → (n : Seen) → Shows s x n → (f ≡ Hash → ⊥) → TurnedAs s (answer_at s p n (value f [])) p (closed_at s q (kept f (record { from = p; size = k }) x))
-  value-closed z q k (bs, t, e, stops) n w g =
+  pub value-closed : (q k : ℕ) → Valued s p (Ok (q, k)) → (n : Seen) → Shows s x n → (f ≡ Hash → ⊥) → TurnedAs s (answer_at s p n (value f [])) p (closed_at s q (kept f (record { from = p; size = k }) x))
+  value-closed q k (bs, t, e, stops) n w g =
       turned-from s (answer_at s p n (value f [])) p (answer_at s q n (value f bs)) (closed_at s q (kept f (record { from = p; size = k }) x)) (spelt_run s t n f [])
-      (closes-value (keep-value s x n w f p k bs g z (spelt-at s t) e))
+      (closes-value (keep-value s x n w f p k bs g (spelt-at s t) e))
     where
       closes-value : Shows s (kept f (record { from = p; size = k }) x) (with f bs n) → TurnedAs s (answer_at s q n (value f bs)) p (closed_at s q (kept f (record { from = p; size = k }) x))
       closes-value y = less-or q (length s)
@@ -142,12 +137,12 @@ pub record Passing (s : List ℕ) (x : Pass) (p : ℕ) : Type 0 where
   pub end : p ≤ length s
 
 module _ (s : List ℕ) where
-  pub prefix-broken : (k : ℕ) (r : Scanned) → r ≡ Unfound k → k ≡ common (drop 0 s) (bytes "magnet:?") → k < 8 → ScannedAs s r (finish (fed begun s))
+  pub prefix-broken : (k : ℕ) (r : Scanned) → r ≡ Err k → k ≡ common (drop 0 s) (bytes "magnet:?") → k < 8 → ScannedAs s r (finish (fed begun s))
   prefix-broken k r z e h =
       let f : finish (fed begun s) ≡ refused no.link k = prefix-off 0 unsaid s (bytes "magnet:?") (omega (arith, e)) ∙ ap (refused no.link) (omega (arith, e)) in
-      subst (λ (t : Scanned). ScannedAs s t (finish (fed begun s))) (sym z) (subst (ScannedAs s (Unfound k)) (sym f) (unfound k))
+      subst (λ (t : Scanned). ScannedAs s t (finish (fed begun s))) (sym z) (subst (ScannedAs s (Err k)) (sym f) (unfound k))
 
-  pub passing-start : (x : Pass) → x ≡ record { hash = nowhere; name = nowhere; address = nowhere } → 8 ≤ common (drop 0 s) (bytes "magnet:?") → Passing s x 8
+  pub passing-start : (x : Pass) → x ≡ record { hash = None; name = None; address = None } → 8 ≤ common (drop 0 s) (bytes "magnet:?") → Passing s x 8
   passing-start x z i =
       let e : common s (bytes "magnet:?") ≡ 8 = omega (arith, i, common-within s (bytes "magnet:?")) in
       let t = common-there s (bytes "magnet:?") e in
@@ -159,18 +154,18 @@ module _ (s : List ℕ) where
       }
 
   module _ {x : Pass} {p : ℕ} (g : Passing s x p) where
-    pub passing-more : (y : Pass) (q : ℕ) → TurnedAs s (answer_at s p g.seen (naming [])) p (More y q) → Passing s y q
+    pub passing-more : (y : Pass) (q : ℕ) → TurnedAs s (answer_at s p g.seen (naming [])) p (Ok (y, Some q)) → Passing s y q
     passing-more y q (m, w, e, l, h) = record { seen = m; shows = w; same = g.same ∙ e; end = h }
 
-    pub passing-further : (y : Pass) (q : ℕ) → TurnedAs s (answer_at s p g.seen (naming [])) p (More y q) → (p < q) × (q ≤ length s)
+    pub passing-further : (y : Pass) (q : ℕ) → TurnedAs s (answer_at s p g.seen (naming [])) p (Ok (y, Some q)) → (p < q) × (q ≤ length s)
     passing-further y q (m, w, e, l, h) = (l, h)
 
-    pub passing-last : (y : Pass) (r : Scanned) → r ≡ whole_of y (length s) → TurnedAs s (answer_at s p g.seen (naming [])) p (Last y) → ScannedAs s r (finish (fed begun s))
+    pub passing-last : (y : Pass) (r : Scanned) → r ≡ whole_of y (length s) → TurnedAs s (answer_at s p g.seen (naming [])) p (Ok (y, None)) → ScannedAs s r (finish (fed begun s))
     passing-last y r z (m, w, e) = subst (λ (t : Scanned). ScannedAs s t (finish (fed begun s))) (sym z) (subst (ScannedAs s (whole_of y (length s))) (sym (g.same ∙ e)) (go y.hash m.hash w.hash))
       where
-        go : (v : Spelt) (u : Said) → Holds (HashAt s) v u → ScannedAs s (whole_of (record { hash = v; name = y.name; address = y.address }) (length s)) (told (length s) u m)
+        go : (v : Option Spelt) (u : Said) → Holds (HashAt s) v u → ScannedAs s (found_by v y (length s)) (told (length s) u m)
         go v u unheld = unfound (length s)
-        go v u (held h k bs z i j) = rw (ne_eqb h 0 (λ q. omega arith)) (found h y.name y.address (record { hash = bs; name = m.name; address = m.address }) i w.name w.address)
+        go v u (held h k bs i j) = found h y.name y.address (record { hash = bs; name = m.name; address = m.address }) i w.name w.address
 
-    pub passing-broken : (q : ℕ) (r : Scanned) → r ≡ Unfound q → TurnedAs s (answer_at s p g.seen (naming [])) p (Broken q) → ScannedAs s r (finish (fed begun s))
-    passing-broken q r z e = subst (λ (t : Scanned). ScannedAs s t (finish (fed begun s))) (sym z) (subst (ScannedAs s (Unfound q)) (sym (g.same ∙ e)) (unfound q))
+    pub passing-broken : (q : ℕ) (r : Scanned) → r ≡ Err q → TurnedAs s (answer_at s p g.seen (naming [])) p (Err q) → ScannedAs s r (finish (fed begun s))
+    passing-broken q r z e = subst (λ (t : Scanned). ScannedAs s t (finish (fed begun s))) (sym z) (subst (ScannedAs s (Err q)) (sym (g.same ∙ e)) (unfound q))

@@ -1,4 +1,5 @@
 -- Hashes and values at places of a text: how they go on, how they break off, and their bytes one by one. Assumes nothing.
+use Rattle.std.specs.Prelude.{Err, Ok}
 use mathlib.Core.Path.{◌≡◌, refl, sym, ap, ◌∙◌, subst}
 use mathlib.Core.Bool.{true, false, true≢false}
 use mathlib.Core.List.{List, [], ◌∷◌, ◌++◌, append_assoc, head-eq_of_cons-eq, tail-eq_of_cons-eq}
@@ -15,7 +16,6 @@ use Rattle.torrent_lines.proofs.Running.{one_more as from_place}
 use Rattle.links.specs.Link.{plain_byte, HexText, no_byte, a_byte, Spells, nothing, plain, escape, Meaning}
 use Rattle.links.specs.Reading.{nibble, is_hex, Seen, digits, value, percent, going, in_mode, fed, finish}
 use Rattle.links.specs.Places.{answer_at, runs, SpeltTo, SpeltAt, HashAt, Valued}
-use Rattle.links.specs.declared.values.Value.TheVariants.{To, Broken as Unspelt}
 use Rattle.links.specs.declared.scan.Field.{Field}
 use Rattle.links.proofs.Digits.{nibble-hex, hex-nibble}
 use Rattle.links.proofs.Running.{value-run}
@@ -191,10 +191,10 @@ module _ (s : List ℕ) (p : ℕ) where
             count = omega (arith, x.count, length-append x.bytes b);
           }
 
-      pub counted-off : (j : ℕ) → j ≡ min 2 (runs is_hex (drop (q + 1) s)) → j < 2 → Valued s p (Unspelt (q + 1 + j))
+      pub counted-off : (j : ℕ) → j ≡ min 2 (runs is_hex (drop (q + 1) s)) → j < 2 → Valued s p (Err (q + 1 + j))
       counted-off j f l = escape-off s p q j x.bytes x.spelt h (eq-eqb (get_or s q 0) 37 i) f l
 
-    pub counted-to : ((q < length s) → (plain_byte (get_or s q 0) ≡ false) × (eqb (get_or s q 0) 37 ≡ false)) → Valued s p (To q (q - p - 2 * e))
+    pub counted-to : ((q < length s) → (plain_byte (get_or s q 0) ≡ false) × (eqb (get_or s q 0) 37 ≡ false)) → Valued s p (Ok (q, q - p - 2 * e))
     counted-to h = (x.bytes, x.spelt, omega (arith, x.count), h)
 
 -- ---- the bytes one by one

@@ -1,4 +1,5 @@
 -- The pass over a link: names, hashes, values and what ends them, as the reader takes them. Assumes nothing.
+use Rattle.std.specs.Prelude.{Err, None, Ok, Option, Some, is_some}
 use mathlib.Core.Path.{◌≡◌, refl, sym, ap, ◌∙◌}
 use mathlib.Core.Bool.{Bool, true, false, cond}
 use mathlib.Core.List.{List, [], ◌∷◌, ◌++◌, append_assoc, append-nil}
@@ -18,12 +19,11 @@ use Rattle.refusal.proofs.Cases.{by_bool, less-or, false-if}
 use Rattle.torrent_lines.proofs.Running.{one_more as from_place}
 use Rattle.links.specs.Link.{name_byte, plain_byte, Said, Meaning}
 use Rattle.links.specs.Reading.{field_of, Seen, has, is_said, with, Mode, naming, prefixed, urned, digits, value, State, going, stopped, opening, valued, in_mode, fed, meant, finish}
-use Rattle.links.specs.Places.{answer_at, runs, common, SpeltAt, HashAt, Holds, unheld, held, Shows, TurnedAs, named_at, is_held, keeps, kept, closed_at}
+use Rattle.links.specs.Places.{answer_at, runs, common, SpeltAt, HashAt, Holds, unheld, held, Shows, TurnedAs, named_at, keeps, kept, closed_at}
 use Rattle.links.specs.declared.scan.Field.{Field}
 use Rattle.links.specs.declared.scan.Field.TheVariants.{Hash, Name, Address, Other}
 use Rattle.links.specs.declared.scan.Spelt.{Spelt}
 use Rattle.links.specs.declared.scan.Pass.{Pass}
-use Rattle.links.specs.declared.scan.Turn.TheVariants.{More, Last, Broken}
 use Rattle.links.proofs.Running.{fed-stopped}
 
 -- a fault is the answer whatever comes after it
@@ -181,9 +181,9 @@ two-letters s p q h e = sym (ap (λ (k : ℕ). take k (drop p s)) e ∙ two-ther
 
 -- ---- what the pass keeps
 
-said-held : {R : ℕ → List ℕ → Type 0} {x : Spelt} {v : Said} → Holds R x v → is_held x ≡ is_said v
+said-held : {R : ℕ → List ℕ → Type 0} {x : Option Spelt} {v : Said} → Holds R x v → is_some x ≡ is_said v
 said-held unheld = refl
-said-held (held p k bs h r e) = rw (ne_eqb p 0 (λ z. omega arith))
+said-held (held p k bs r e) = refl
 
 module _ (s : List ℕ) (x : Pass) (n : Seen) (w : Shows s x n) where
   pub keeps-has : (f : Field) → keeps f x ≡ has f n
@@ -192,14 +192,14 @@ module _ (s : List ℕ) (x : Pass) (n : Seen) (w : Shows s x n) where
   keeps-has Address = said-held w.address
   keeps-has Other = refl
 
-  pub keep-hash : (p : ℕ) (bs : List ℕ) → 0 < p → HashAt s p bs → Shows s (kept Hash (record { from = p; size = 20 }) x) (with Hash bs n)
-  keep-hash p bs i h = record { hash = held p 20 bs i h (sym h.whole); name = w.name; address = w.address }
+  pub keep-hash : (p : ℕ) (bs : List ℕ) → HashAt s p bs → Shows s (kept Hash (record { from = p; size = 20 }) x) (with Hash bs n)
+  keep-hash p bs h = record { hash = held p 20 bs h (sym h.whole); name = w.name; address = w.address }
 
-  pub keep-value : (f : Field) (p k : ℕ) (bs : List ℕ) → (f ≡ Hash → ⊥) → 0 < p → SpeltAt s p bs → k ≡ length bs → Shows s (kept f (record { from = p; size = k }) x) (with f bs n)
-  keep-value Hash p k bs y i h e = absurd (y refl)
-  keep-value Name p k bs y i h e = record { hash = w.hash; name = held p k bs i h e; address = w.address }
-  keep-value Address p k bs y i h e = record { hash = w.hash; name = w.name; address = held p k bs i h e }
-  keep-value Other p k bs y i h e = w
+  pub keep-value : (f : Field) (p k : ℕ) (bs : List ℕ) → (f ≡ Hash → ⊥) → SpeltAt s p bs → k ≡ length bs → Shows s (kept f (record { from = p; size = k }) x) (with f bs n)
+  keep-value Hash p k bs y h e = absurd (y refl)
+  keep-value Name p k bs y h e = record { hash = w.hash; name = held p k bs h e; address = w.address }
+  keep-value Address p k bs y h e = record { hash = w.hash; name = w.name; address = held p k bs h e }
+  keep-value Other p k bs y h e = w
 
 -- ---- the end of a pair
 
@@ -221,13 +221,13 @@ closes s p q n then m x c w l h =
     rw (le-leb (length s) q i) (then, w, ap (λ (t : List ℕ). finish (fed (going q n m) t)) (drop_of_length-le s i) ∙ c.at-end ∙ ap (λ (k : ℕ). meant k then) z))
 
 module _ (s : List ℕ) (p : ℕ) (x : Pass) where
-  pub closed-last : length s ≤ p → Last x ≡ closed_at s p x
+  pub closed-last : length s ≤ p → Ok (x, None) ≡ closed_at s p x
   closed-last h = rw (le-leb (length s) p h)
 
-  pub closed-off : p < length s → (get_or s p 0 ≡ 38 → ⊥) → Broken p ≡ closed_at s p x
+  pub closed-off : p < length s → (get_or s p 0 ≡ 38 → ⊥) → Err p ≡ closed_at s p x
   closed-off h e = rw (lt-leb (length s) p h, ne_eqb (get_or s p 0) 38 e)
 
-  pub closed-more : p < length s → get_or s p 0 ≡ 38 → More x (p + 1) ≡ closed_at s p x
+  pub closed-more : p < length s → get_or s p 0 ≡ 38 → Ok (x, Some (p + 1)) ≡ closed_at s p x
   closed-more h e = rw (lt-leb (length s) p h, eq-eqb (get_or s p 0) 38 e)
 
 pub closing-hash : (n : Seen) (h : List ℕ) (q b : ℕ) → Closing n (digits 0 h) (with Hash h n) q b

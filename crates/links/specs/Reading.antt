@@ -1,6 +1,7 @@
 -- What the reader answers for a text and two lent outputs. Assumes nothing: these are definitions.
 -- The steps from byte to byte need not be believed: `link-exact` and `link-19` of the book tie `read_of` to Form.antt and Causes.antt of links_laws/specs.
-use Rattle.std.specs.Prelude.{Bool, true, false, cond, ◌&&◌, List, [], ◌∷◌, ◌++◌, ℕ, zero, suc, ◌+◌, ◌*◌, ◌-◌, ltb, leb, eqb, length}
+use Rattle.refusal.specs.declared.Refusal.{Refusal}
+use Rattle.std.specs.Prelude.{Bool, true, false, cond, ◌&&◌, List, [], ◌∷◌, ◌++◌, ℕ, zero, suc, ◌+◌, ◌*◌, ◌-◌, ltb, leb, eqb, length, Err, None, Ok, Option, Result, Some}
 use Rattle.std.proofs.lemmas.List.Edits.{sets}
 use Rattle.refusal.specs.Texts.{bytes}
 use Rattle.refusal.specs.Paper.{Outcome, taken, refused, refusal}
@@ -10,10 +11,6 @@ use Rattle.bencode_walk.specs.Lookup.{same_key}
 use Rattle.links.specs.Link.{between, name_byte, plain_byte, Said, absent, said, Meaning}
 use Rattle.links.specs.declared.scan.Field.{Field}
 use Rattle.links.specs.declared.scan.Field.TheVariants.{Hash, Name, Address, Other}
-use Rattle.links.specs.declared.Given.{Given}
-use Rattle.links.specs.declared.Given.TheVariants.{Absent, Bytes}
-use Rattle.links.specs.declared.Linked.{Linked}
-use Rattle.links.specs.declared.Linked.TheVariants.{Is, Refused}
 
 -- ---- from byte to byte
 
@@ -152,13 +149,13 @@ stored_in absent o = o
 stored_in (said bs) o = sets o 0 bs
 
 -- the answer's words for it
-abbrev pub given_of : Said → Given
-given_of absent = Absent
-given_of (said bs) = Bytes (length bs)
+abbrev pub given_of : Said → Option ℕ
+given_of absent = None
+given_of (said bs) = Some (length bs)
 
 pub record Sizes : Type 0 where
-  pub name : Given
-  pub address : Given
+  pub name : Option ℕ
+  pub address : Option ℕ
 
 abbrev pub sizes_of : Meaning → Sizes
 sizes_of m = record { name = given_of m.name; address = given_of m.address }
@@ -185,6 +182,6 @@ unfoldable pub left_of : List ℕ → List ℕ → List ℕ → List ℕ → Lef
 left_of s h d t = decoded_to h d t (read_of s)
 
 -- the code's answer in document 02's words
-abbrev pub paper : Linked → Outcome Sizes
-paper (Is a b) = taken (record { name = a; address = b })
-paper (Refused r) = refusal r
+abbrev pub linked_paper : Result (Option ℕ × Option ℕ) Refusal → Outcome Sizes
+linked_paper (Ok (a, b)) = taken (record { name = a; address = b })
+linked_paper (Err r) = refusal r

@@ -1,7 +1,7 @@
 -- Links as they are written, by document 02. Assumes nothing: these are definitions.
 use Rattle.std.specs.Prelude.{Bool, cond, ◌||◌, List, ◌++◌, ℕ, ltb, eqb, length}
 use Rattle.refusal.specs.Texts.{bytes}
-use Rattle.refusal.specs.Paper.{Outcome, taken, refused, refusal, then}
+use Rattle.refusal.specs.Paper.{Outcome, taken, refused, then}
 use Rattle.refusal.specs.Numbers.{long}
 use Rattle.refusal.specs.Limits.{most_text}
 use Rattle.refusal.specs.Parts.{bytes_at}
@@ -11,8 +11,6 @@ use Rattle.hash_sha1.specs.Sha1.{sha1}
 use Rattle.torrent_metainfo.specs.Reading.{read_of}
 use Rattle.torrent_metainfo.specs.declared.Torrent.{Torrent}
 use Rattle.links.specs.Link.{letter_or_digit}
-use Rattle.links.specs.declared.Sized.{Sized}
-use Rattle.links.specs.declared.Sized.TheVariants.{Bytes, Refused}
 
 -- RFC 3986's unreserved bytes: letters, digits, "-", ".", "_", "~"
 abbrev pub unreserved : ℕ → Bool
@@ -41,8 +39,3 @@ written_of s = then (read_of s) (λ t. unless_long (link_text s t))
 -- into the lent output o
 abbrev pub write_of : List ℕ → List ℕ → Left
 write_of s o = puts o (written_of s)
-
--- the code's answer in document 02's words
-abbrev pub size_paper : Sized → Outcome ℕ
-size_paper (Bytes n) = taken n
-size_paper (Refused r) = refusal r

@@ -10,14 +10,12 @@ pub fn name_end(text: &[u8], from: usize) -> usize
     requires { from ≤ length text.now }
     ensures { result ≡ from + runs name_byte (drop from text.now) }
 {
-    let mut at = from;
-    while at < text.len() {
+    for at in from..text.len() {
         if !is_name(text[at]) {
             return at;
         }
-        at += 1;
     }
-    at
+    text.len()
 }
 
 // How many of the 40 bytes of a hash at a place are hex digits, from the first on.
@@ -37,14 +35,12 @@ fn digits(text: &[u8], from: usize, most: usize) -> usize
     ensures { result ≡ min most (runs is_hex (drop from text.now)) }
 {
     let end = refusal::least(most, text.len() - from);
-    let mut count = 0;
-    while count < end {
+    for count in 0..end {
         if !is_hex(text[from + count]) {
             return count;
         }
-        count += 1;
     }
-    count
+    end
 }
 
 // How many of the two bytes after a "%" are hex digits, from the first on.
@@ -72,14 +68,12 @@ pub fn word(text: &[u8], from: usize, word: &[u8]) -> usize
     ensures { result ≡ common (drop from text.now) word.now }
 {
     let end = refusal::least(word.len(), text.len() - from);
-    let mut count = 0;
-    while count < end {
+    for count in 0..end {
         if text[from + count] != word[count] {
             return count;
         }
-        count += 1;
     }
-    count
+    end
 }
 
 // A byte that stands for itself in a value. Most do by the first two tests.
@@ -161,10 +155,8 @@ fn others(text: &[u8], from: usize) -> u8
     ensures { result ≡ 0 → 40 ≤ runs is_hex (drop from text.now) }
 {
     let mut count: u8 = 0;
-    let mut i = 0;
-    while i < 40 {
+    for i in 0..40 {
         count += other(text[from + i]);
-        i += 1;
     }
     count
 }

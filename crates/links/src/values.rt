@@ -3,20 +3,14 @@ ghost use Rattle.std.specs.Prelude.{◌≡◌, List, ℕ, ◌+◌, ◌*◌, ◌<
 ghost use Rattle.std.proofs.lemmas.List.Edits.{sets};
 ghost use Rattle.links.specs.Link.{Said};
 ghost use Rattle.links.specs.Reading.{nibble, stored_in};
-ghost use Rattle.links.specs.Places.{Valued, SpeltAt, HashAt, Holds};
+ghost use Rattle.links.specs.Places.{Valued, SpeltAt, HashAt, Holds, size_in};
 
 use crate::kinds;
 use crate::scan::Spelt;
 
-// The place where a value ends, and how many bytes it spells; or the place where an escape is broken off.
-#[derive(Clone, Copy)]
-pub enum Value {
-    To(usize, usize),
-    Broken(usize),
-}
-
-// The value that begins at a place.
-pub fn spelt(text: &[u8], from: usize) -> Value
+// The place where the value ends that begins at `from`, and how many bytes it spells; or the place where an escape is
+// broken off.
+pub fn spelt(text: &[u8], from: usize) -> Result<(usize, usize), usize>
     requires { from ≤ length text.now }
     ensures { Valued text.now from result }
 {
@@ -28,27 +22,27 @@ pub fn spelt(text: &[u8], from: usize) -> Value
             continue;
         }
         if text[at] != b'%' {
-            return to(at, at - from - 2 * escapes);
+            return Ok((at, at - from - 2 * escapes));
         }
         let count = kinds::escape_digits(text, at + 1);
         if count < 2 {
-            return broken(at + 1 + count);
+            return Err(at + 1 + count);
         }
         at += 3;
         escapes += 1;
     }
-    to(at, at - from - 2 * escapes)
+    Ok((at, at - from - 2 * escapes))
 }
 
 // Stores the bytes that a value spells at the front of output that has room for them.
-pub fn put(text: &[u8], x: Spelt, out: &mut [u8])
-    requires { (v : Said) × Holds (SpeltAt text.now) x v × (x.size ≤ length out.old) }
+pub fn put(text: &[u8], x: Option<Spelt>, out: &mut [u8])
+    requires { (v : Said) × Holds (SpeltAt text.now) x v × (size_in x ≤ length out.old) }
     ensures { (v : Said) → Holds (SpeltAt text.now) x v → out.new ≡ stored_in v out.old }
 {
-    if x.from == 0 {
-        return;
+    match x {
+        Some(v) => decode(text, v.from, v.size, out),
+        None => {}
     }
-    decode(text, x.from, x.size, out);
 }
 
 // The bytes of a hash whose first digit stands at a place.
@@ -57,10 +51,8 @@ pub fn hash(text: &[u8], from: usize) -> [u8; 20]
     ensures { (bs : List ℕ) → HashAt text.now from bs → result ≡ bs }
 {
     let mut hash = [0u8; 20];
-    let mut i = 0;
-    while i < 20 {
+    for i in 0..20 {
         hash[i] = pair(text, from + 2 * i);
-        i += 1;
     }
     hash
 }
@@ -70,17 +62,14 @@ fn decode(text: &[u8], from: usize, size: usize, out: &mut [u8])
     ensures { (bs : List ℕ) → SpeltAt text.now from bs → size ≡ length bs → out.new ≡ sets out.old 0 bs }
 {
     let mut at = from;
-    let mut i = 0;
-    while i < size {
+    for i in 0..size {
         if text[at] == b'%' {
             out[i] = pair(text, at + 1);
             at += 3;
-            i += 1;
             continue;
         }
         out[i] = text[at];
         at += 1;
-        i += 1;
     }
 }
 
@@ -90,16 +79,4 @@ fn pair(text: &[u8], at: usize) -> u8
     ensures { result ≡ 16 * nibble (get_or text.now at 0) + nibble (get_or text.now (at + 1) 0) }
 {
     16 * kinds::value(text[at]) + kinds::value(text[at + 1])
-}
-
-fn to(at: usize, size: usize) -> Value
-    ensures { result ≡ Value.To at size }
-{
-    Value::To(at, size)
-}
-
-fn broken(place: usize) -> Value
-    ensures { result ≡ Value.Broken place }
-{
-    Value::Broken(place)
 }

@@ -1,49 +1,45 @@
 // The link of a torrent that was read: how many bytes it has, and its bytes put into lent output.
 ghost use Rattle.std.specs.Prelude.{◌≡◌, ◌++◌, ◌+◌, ◌*◌, ◌≤◌, length};
 ghost use Rattle.refusal.specs.Limits.{most_text};
-ghost use Rattle.refusal.specs.Paper.{taken, map};
+ghost use Rattle.refusal.specs.Paper.{paper, taken, map};
 ghost use Rattle.bencode_writer.specs.Escaped.{escaped_byte};
 ghost use Rattle.bencode_writer.specs.Put.{left, puts, Ran};
-ghost use Rattle.bencode_writer.specs.Put.{paper as put_paper};
 ghost use Rattle.torrent_metainfo.specs.Reading.{read_of};
-ghost use Rattle.links.specs.Writing.{unreserved, escaped, text_of, link_text, unless_long, size_paper};
+ghost use Rattle.links.specs.Writing.{unreserved, escaped, text_of, link_text, unless_long};
 
-use crate::{Sized, kinds};
-use bencode_writer::{Put, end, literal, small_hex};
-use refusal::{limit, number};
+use crate::kinds;
+use bencode_writer::{end, literal, small_hex};
+use refusal::{Refusal, limit, number, refuse};
 use torrent_metainfo::Torrent;
 
 // Writes the link of the torrent that a text is.
-pub fn written(torrent: &[u8], t: Torrent, out: &mut [u8]) -> Put
+pub fn written(torrent: &[u8], t: Torrent, out: &mut [u8]) -> Result<usize, Refusal>
     requires { read_of torrent.now ≡ taken t }
-    ensures { left (put_paper result) out.new ≡ puts out.old (unless_long (link_text torrent.now t)) }
+    ensures { left (paper result) out.new ≡ puts out.old (unless_long (link_text torrent.now t)) }
 {
-    let name = bencode_walk::bytes(torrent, t.name);
-    let announce = bencode_walk::bytes(torrent, t.announce);
-    let count = needed(name, announce);
-    if limit::TEXT < count {
-        return not_put(number::LONG);
-    }
+    let count = measured(torrent, t)?;
     if out.len() < count {
-        return not_put(number::ROOM);
+        return Err(refuse(number::ROOM, 0));
     }
     let mut hash = [0u8; 20];
-    hash_sha1::digest(bencode_walk::bytes(torrent, t.info), &mut hash);
-    Put::To(put(&hash, name, announce, out))
+    let _ = hash_sha1::digest(bencode_walk::bytes(torrent, t.info), &mut hash);
+    let name = bencode_walk::bytes(torrent, t.name);
+    let announce = bencode_walk::bytes(torrent, t.announce);
+    Ok(put(&hash, name, announce, out))
 }
 
 // How many bytes it has.
-pub fn measured(torrent: &[u8], t: Torrent) -> Sized
+pub fn measured(torrent: &[u8], t: Torrent) -> Result<usize, Refusal>
     requires { read_of torrent.now ≡ taken t }
-    ensures { size_paper result ≡ map length (unless_long (link_text torrent.now t)) }
+    ensures { paper result ≡ map length (unless_long (link_text torrent.now t)) }
 {
     let name = bencode_walk::bytes(torrent, t.name);
     let announce = bencode_walk::bytes(torrent, t.announce);
     let count = needed(name, announce);
     if limit::TEXT < count {
-        return Sized::Refused(refusal::refuse(number::LONG, 0));
+        return Err(refuse(number::LONG, 0));
     }
-    Sized::Bytes(count)
+    Ok(count)
 }
 
 // How many bytes a link with this name and announce has: 60 with the hash, and 8 around the two.
@@ -59,10 +55,8 @@ fn escaped_size(bytes: &[u8]) -> usize
     ensures { (result ≡ length (escaped bytes.now)) × (result ≤ 3 * most_text) }
 {
     let mut count = 0;
-    let mut i = 0;
-    while i < bytes.len() {
-        count += byte_size(bytes[i]);
-        i += 1;
+    for &b in bytes {
+        count += byte_size(b);
     }
     count
 }
@@ -93,10 +87,8 @@ fn value(out: &mut [u8], at: usize, lead: &[u8], bytes: &[u8]) -> usize
     ensures { Ran (lead.now ++ escaped bytes.now) at out.old result out.new }
 {
     let mut to = end(literal(out, at, lead));
-    let mut i = 0;
-    while i < bytes.len() {
-        to = byte(out, to, bytes[i]);
-        i += 1;
+    for &b in bytes {
+        to = byte(out, to, b);
     }
     to
 }
@@ -110,10 +102,4 @@ fn byte(out: &mut [u8], at: usize, b: u8) -> usize
         return at + 1;
     }
     end(literal(out, at, &bencode_writer::escape(b)))
-}
-
-fn not_put(number: u8) -> Put
-    ensures { result ≡ Put.Refused (record { number = number; place = 0 }) }
-{
-    Put::Refused(refusal::refuse(number, 0))
 }

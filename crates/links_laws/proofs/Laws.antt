@@ -1,4 +1,6 @@
 -- The laws: which texts are read and what is left of the outputs, why a text is refused, and that each contract permits one outcome. Assumes nothing.
+use Rattle.std.specs.Prelude.{Err, Ok, Option, Result}
+use Rattle.refusal.specs.declared.Refusal.{Refusal}
 use mathlib.Core.Path.{◌≡◌, refl, sym, ap, ◌∙◌, subst}
 use mathlib.Core.Logic.{◌⊎◌, inl, inr, ◌↔◌}
 use mathlib.Core.List.{List, [], ◌∷◌, ◌++◌}
@@ -8,26 +10,20 @@ use borrow.Author.Tests.{lt-ltb, le-ltb, le-leb, lt-leb}
 use lib.Dec.{lit<}
 use lib.ListN.{length}
 use Rattle.refusal.specs.Limits.{most_text}
-use Rattle.refusal.specs.Paper.{Outcome, taken, refused, map}
+use Rattle.refusal.specs.Paper.{paper, Outcome, taken, refused, map}
 use Rattle.refusal.specs.Numbers as no
 use Rattle.refusal.specs.BigEndian.{Bytes, bytes_of}
 use Rattle.refusal.proofs.Cases.{less-or}
-use Rattle.refusal.proofs.Outcomes.{not_taken, not-refused, same-refusal}
-use Rattle.bencode_writer.specs.Put.{Left as PutLeft, left as put_left, paper as put_paper}
-use Rattle.bencode_writer.specs.declared.Put.{Put}
-use Rattle.bencode_writer.proofs.Laws.{paper-apart}
+use Rattle.refusal.proofs.Outcomes.{not_taken, not-refused, same-refusal, paper-determined}
+use Rattle.bencode_writer.specs.Put.{Left as PutLeft, left as put_left}
 use Rattle.hash_digest.specs.Message.{pad, hashed}
 use Rattle.hash_sha1.specs.Sha1.{initial, compress, output, sha1}
 use Rattle.hash_sha1.specs.declared.block.Hash.{Hash}
 use Rattle.links.specs.Link.{Meaning}
 use Rattle.links_laws.specs.Form.{IsLink}
 use Rattle.links_laws.specs.Causes.{Fault}
-use Rattle.links.specs.Reading.{fed, finish, begun, read_of, size_of, stored_in, Sizes, sizes_of, Left, left, decoded_to, left_of, paper}
-use Rattle.links.specs.Writing.{written_of, write_of, size_paper}
-use Rattle.links.specs.declared.Linked.{Linked}
-use Rattle.links.specs.declared.Linked.TheVariants.{Is, Refused}
-use Rattle.links.specs.declared.Sized.{Sized}
-use Rattle.links.specs.declared.Sized.TheVariants as sized
+use Rattle.links.specs.Reading.{fed, finish, begun, read_of, size_of, stored_in, Sizes, sizes_of, Left, left, decoded_to, left_of, linked_paper}
+use Rattle.links.specs.Writing.{written_of, write_of}
 use Rattle.links.proofs.Answers.{reading-keeps}
 use Rattle.links_laws.proofs.Exact.{link-sound, link-complete}
 use Rattle.links_laws.proofs.Faults.{fault-sound, fault-complete}
@@ -155,38 +151,30 @@ module _ (s h d t : List ℕ) where
 
 -- ---- each contract permits one outcome, and a refusal keeps the outputs
 
-abbrev linked_as : Outcome Sizes → Linked
-linked_as (taken x) = Is x.name x.address
-linked_as (refused n p) = Refused (record { number = n; place = p })
+abbrev linked_as : Outcome Sizes → Result (Option ℕ × Option ℕ) Refusal
+linked_as (taken x) = Ok (x.name, x.address)
+linked_as (refused n p) = Err (record { number = n; place = p })
 
-again : (r : Linked) → linked_as (paper r) ≡ r
-again (Is a b) = refl
-again (Refused r) = refl
+again : (r : Result (Option ℕ × Option ℕ) Refusal) → linked_as (linked_paper r) ≡ r
+again (Ok (a, b)) = refl
+again (Err r) = refl
 
-module _ (s h d t : List ℕ) (r : Linked) {h₁ d₁ t₁ : List ℕ} (e : left (paper r) h₁ d₁ t₁ ≡ left_of s h d t) where
-  pub read-determined : (q : Linked) {h₂ d₂ t₂ : List ℕ} → left (paper q) h₂ d₂ t₂ ≡ left_of s h d t → (r ≡ q) × (h₁ ≡ h₂) × (d₁ ≡ d₂) × (t₁ ≡ t₂)
+module _ (s h d t : List ℕ) (r : Result (Option ℕ × Option ℕ) Refusal) {h₁ d₁ t₁ : List ℕ} (e : left (linked_paper r) h₁ d₁ t₁ ≡ left_of s h d t) where
+  pub read-determined : (q : Result (Option ℕ × Option ℕ) Refusal) {h₂ d₂ t₂ : List ℕ} → left (linked_paper q) h₂ d₂ t₂ ≡ left_of s h d t → (r ≡ q) × (h₁ ≡ h₂) × (d₁ ≡ d₂) × (t₁ ≡ t₂)
   read-determined q f =
       let g = e ∙ sym f in
       (sym (again r) ∙ ap (λ (x : Left). linked_as x.answer) g ∙ again q, ap (λ (x : Left). x.hash) g, ap (λ (x : Left). x.name) g, ap (λ (x : Left). x.address) g)
 
-  pub read-keeps : (n p : ℕ) → paper r ≡ refused n p → (h₁ ≡ h) × (d₁ ≡ d) × (t₁ ≡ t)
+  pub read-keeps : (n p : ℕ) → linked_paper r ≡ refused n p → (h₁ ≡ h) × (d₁ ≡ d) × (t₁ ≡ t)
   read-keeps n p k =
       let (x, y, z) = reading-keeps s h d t n p (sym (ap (λ (l : Left). l.answer) e) ∙ k) in
       (ap (λ (l : Left). l.hash) e ∙ x, ap (λ (l : Left). l.name) e ∙ y, ap (λ (l : Left). l.address) e ∙ z)
 
-pub write-determined : (s o : List ℕ) (r q : Put) {out out₁ : List ℕ} → put_left (put_paper r) out ≡ write_of s o → put_left (put_paper q) out₁ ≡ write_of s o → (r ≡ q) × (out ≡ out₁)
-write-determined s o r q e f = (paper-apart r q (ap (λ (x : PutLeft). x.answer) (e ∙ sym f)), ap (λ (x : PutLeft). x.out) (e ∙ sym f))
+pub write-determined : (s o : List ℕ) (r q : Result ℕ Refusal) {out out₁ : List ℕ} → put_left (paper r) out ≡ write_of s o → put_left (paper q) out₁ ≡ write_of s o → (r ≡ q) × (out ≡ out₁)
+write-determined s o r q e f = (paper-determined (paper q) r q (ap (λ (x : PutLeft). x.answer) (e ∙ sym f)) refl, ap (λ (x : PutLeft). x.out) (e ∙ sym f))
 
-abbrev sized_as : Outcome ℕ → Sized
-sized_as (taken n) = sized.Bytes n
-sized_as (refused n p) = sized.Refused (record { number = n; place = p })
-
-sized-again : (r : Sized) → sized_as (size_paper r) ≡ r
-sized-again (sized.Bytes n) = refl
-sized-again (sized.Refused r) = refl
-
-pub size-determined : (s : List ℕ) (r q : Sized) → size_paper r ≡ map length (written_of s) → size_paper q ≡ map length (written_of s) → r ≡ q
-size-determined s r q e f = sym (sized-again r) ∙ ap sized_as (e ∙ sym f) ∙ sized-again q
+pub size-determined : (s : List ℕ) (r q : Result ℕ Refusal) → paper r ≡ map length (written_of s) → paper q ≡ map length (written_of s) → r ≡ q
+size-determined s r q e f = paper-determined (map length (written_of s)) r q e f
 
 -- ---- bytes
 

@@ -21,24 +21,22 @@ use Rattle.torrent_laws.proofs.Laws.{torrent-exact}
 use Rattle.sheets.specs.declared.Source.{Source}
 use Rattle.sheets.specs.declared.Source.TheVariants.{Torrent, Sheet}
 use Rattle.sheets.specs.declared.Found.{Found}
-use Rattle.sheets.specs.declared.Found.TheVariants.{At, Refused}
+use Rattle.std.specs.Prelude.{Result}
+use Rattle.refusal.specs.declared.Refusal.{Refusal}
+use Rattle.refusal.proofs.Outcomes.{paper-determined}
 use Rattle.sheets.specs.Sheet.{IsSheet}
 use Rattle.sheets.specs.Rules.{Listed, listed, unlisted, sheet_of}
 use Rattle.sheets.specs.Reading.{Answered, of, told, address_in, found_by, find_of, about}
 use Rattle.sheets.proofs.Laws.{sheet-exact, sheet-listed, sheet-unlisted}
 
--- ---- determined: the way back
-
-abbrev found_as_of : Source → Outcome Part → Found
-found_as_of c (taken p) = At c p
-found_as_of c (refused n p) = Refused c (record { number = n; place = p })
-
-again : (r : Found) → found_as_of (told r).source (told r).what ≡ r
-again (At c p) = refl
-again (Refused c r) = refl
+-- ---- determined
 
 pub find-determined : (t s : List ℕ) (r q : Found) → told r ≡ find_of t s → told q ≡ find_of t s → r ≡ q
-find-determined t s r q e f = sym (again r) ∙ ap (λ (x : Answered). found_as_of x.source x.what) (e ∙ sym f) ∙ again q
+find-determined t s r q e f =
+    let w = find_of t s in
+    let c : r.source ≡ q.source = ap (λ (x : Answered). x.source) (e ∙ sym f) in
+    let p : r.part ≡ q.part = paper-determined w.what r.part q.part (ap (λ (x : Answered). x.what) e) (ap (λ (x : Answered). x.what) f) in
+    ap (λ (x : Source). record { source = x; part = r.part }) c ∙ ap (λ (x : Result Part Refusal). record { source = q.source; part = x }) p
 
 -- ---- whose refusal it is
 

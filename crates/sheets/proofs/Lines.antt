@@ -1,4 +1,5 @@
 -- What one row of a sheet comes to as the code reads it: its key, its value, and both together. Assumes nothing.
+use Rattle.std.specs.Prelude.{Err, Ok, Option, Result, Some}
 use mathlib.Core.Path.{◌≡◌, refl, sym, ap, ◌∙◌, subst}
 use mathlib.Core.Bool.{Bool, true, false, cond}
 use mathlib.Core.List.{List, ◌∷◌}
@@ -16,26 +17,20 @@ use Rattle.refusal.proofs.Cases.{no_way, by_bool, same_test, less-or}
 use Rattle.bencode_scalar.specs.Written.{decimal, written_string}
 use Rattle.bencode_scalar.specs.Reading.{Got, got, bad, and_then, map_got, is_digit, string_at, integer_of}
 use Rattle.bencode_scalar.specs.Answers.{text_of}
-use Rattle.bencode_scalar.specs.declared.Text.TheVariants.{Whole, Refused as Broken}
 use Rattle.bencode_scalar.proofs.Forms.{at_head, string-other}
 use Rattle.bencode_scalar.proofs.Sound.{Holds, holds-map, holds_then, at_left}
 use Rattle.bencode.specs.Value.{Value, Items, Entries, str, int, list, dict, encode, Prev, start}
 use Rattle.bencode.specs.Decode.{Kind, digit, letter_i, letter_l, letter_d, other, kind_of, value_by, key_of, value_from}
 use Rattle.bencode.specs.Answers.{step_of}
 use Rattle.bencode.specs.declared.Cursor.{Cursor}
-use Rattle.bencode.specs.declared.Step.TheVariants.{Past}
 use Rattle.bencode.proofs.Sound.{Took, KeyP, key-sound, value-sound, KindP, kind-view}
 use Rattle.bencode.proofs.Complete.{kind-digit}
-use Rattle.bencode.proofs.Turns.{past-got, value_out, value-many, key-further, key-broken, key-found, key-wrong}
+use Rattle.bencode.proofs.Turns.{past-got, value_out, value-many, key-further, key-read, key-refused, key-found, key-wrong}
 use Rattle.bencode_walk.specs.Lookup.{same_key}
 use Rattle.bencode_walk.proofs.Finding.{same_refl, same_true}
 use Rattle.bencode_fields.specs.Values.{part_of}
-use Rattle.sheets.specs.declared.rows.Row.{Row}
-use Rattle.sheets.specs.declared.rows.Before.TheVariants.{Key}
 use Rattle.sheets.specs.declared.rows.Stage.{Stage}
-use Rattle.sheets.specs.declared.rows.Turn.TheVariants.{On}
-use Rattle.sheets.specs.declared.rows.Keyed.TheVariants.{At, Refused as NoKey}
-use Rattle.sheets.specs.declared.rows.Held.TheVariants.{String, Other, Refused as Unheld}
+use Rattle.sheets.specs.declared.rows.Held.TheVariants.{String, Other}
 use Rattle.sheets.specs.Rules.{Listed}
 use Rattle.sheets.specs.Reading.{listed_as}
 use Rattle.sheets.specs.Turns.{prev_in, key_in, value_in_of, Reads, Line, line, line_in, noted, with_address, without_address, Turned}
@@ -48,12 +43,12 @@ same_bytes j k t f g = same_test t (same_key j k) (λ e. ap (λ (l : List ℕ). 
 -- ---- a key at p, by the string that the code found
 
 module _ (s : List ℕ) (before : Prev) (p n : ℕ) (l : p < length s) (few : n < 16384) where
-  pub key-unread : (r : Refusal) → text_of s (n + 1) (Broken r) ≡ string_at (length s) (drop p s) p (n + 1) → key_in s n (NoKey r) ≡ key_of (length s) before (drop p s) p n
+  pub key-unread : (r : Refusal) → text_of s (n + 1) (Err r) ≡ string_at (length s) (drop p s) p (n + 1) → key_in s n (Err r) ≡ key_of (length s) before (drop p s) p n
   key-unread r e =
-      by_bool (is_digit (get_or s p 0)) (λ d. key-broken s before p n l d few r e) (λ d. e ∙ sym (string-other s p (n + 1) l d) ∙ key-wrong s before p n l d)
+      by_bool (is_digit (get_or s p 0)) (λ d. key-refused s before p n r (key-read s p n l d few (Err r) e)) (λ d. e ∙ sym (string-other s p (n + 1) l d) ∙ key-wrong s before p n l d)
 
-pub key-whole : (s : List ℕ) (p n : ℕ) → p < length s → n < 16384 → (x : Part) → text_of s (n + 1) (Whole x.from x.len) ≡ string_at (length s) (drop p s) p (n + 1)
-    → key_in s n (At x) ≡ key_of (length s) start (drop p s) p n
+pub key-whole : (s : List ℕ) (p n : ℕ) → p < length s → n < 16384 → (x : Part) → text_of s (n + 1) (Ok x) ≡ string_at (length s) (drop p s) p (n + 1)
+    → key_in s n (Ok x) ≡ key_of (length s) start (drop p s) p n
 key-whole s p n l few x e =
     by_bool (is_digit (get_or s p 0)) (λ d. key-found s start p n l d few x.from x.len e refl) (λ d. no_way (let f = e ∙ sym (string-other s p (n + 1) l d) in cc))
 
@@ -65,13 +60,13 @@ module _ (s : List ℕ) (p n : ℕ) (l : p < length s) (d : is_digit (get_or s p
   string-here zero h = rw (at_head s p l, d, kind-digit (get_or s p 0) d, lt-ltb n 16384 h)
   string-here (suc levels) h = rw (at_head s p l, d, kind-digit (get_or s p 0) d, lt-ltb n 16384 h)
 
-  pub string-read : n < 16384 → (x : Part) → text_of s (n + 1) (Whole x.from x.len) ≡ string_at (length s) (drop p s) p (n + 1) → Reads s p n (String x)
+  pub string-read : n < 16384 → (x : Part) → text_of s (n + 1) (Ok x) ≡ string_at (length s) (drop p s) p (n + 1) → Reads s p n (Ok (String x))
   string-read h x e = string-here 31 h ∙ ap (map_got str) (sym e)
 
-  pub string-unread : n < 16384 → (r : Refusal) → text_of s (n + 1) (Broken r) ≡ string_at (length s) (drop p s) p (n + 1) → Reads s p n (Unheld r)
+  pub string-unread : n < 16384 → (r : Refusal) → text_of s (n + 1) (Err r) ≡ string_at (length s) (drop p s) p (n + 1) → Reads s p n (Err r)
   string-unread h r e = string-here 31 h ∙ ap (map_got str) (sym e)
 
-  pub string-many : 16384 ≤ n → Reads s p n (Unheld (record { number = many; place = p }))
+  pub string-many : 16384 ≤ n → Reads s p n (Err (record { number = many; place = p }))
   string-many h = value-many s p n l 31 (let k = kind-digit (get_or s p 0) d in rw k) h
 
 -- where no digit stands, no string is read
@@ -97,7 +92,7 @@ module _ (s : List ℕ) (p n : ℕ) (bs r : List ℕ) (q m : ℕ) where
   no_string : (p < length s → is_digit (get_or s p 0) ≡ false) → value_in_of s p n ≡ got (str bs) r q m → ⊥
   no_string d e = less-or p (length s) (λ l. not-here 31 l (d l) e) (λ l. no_way (let f = value_out s p n 31 l in cc))
 
-pub other-read : (s : List ℕ) (p n : ℕ) → p ≤ length s → (p < length s → is_digit (get_or s p 0) ≡ false) → (c : Cursor) → Past c ≡ step_of (value_in_of s p n) → Reads s p n (Other c.at c.count)
+pub other-read : (s : List ℕ) (p n : ℕ) → p ≤ length s → (p < length s → is_digit (get_or s p 0) ≡ false) → (c : Cursor) → Ok c ≡ step_of (value_in_of s p n) → Reads s p n (Ok (Other c.at c.count))
 other-read s p n h d c e =
     let w = past-got s 31 p n h c e in
     (w.what, w.is, λ bs x. no_string s p n bs (drop c.at s) c.at c.count d (w.is ∙ ap (λ (v : Value). got v (drop c.at s) c.at c.count) x))
@@ -123,7 +118,7 @@ pub part_length : (s : List ℕ) (x : Part) → x.from + x.len ≤ length s → 
 part_length s x h = simp (length-take, length-drop) (omega arith)
 
 -- the part of a string that is read is the one that its place and bytes give
-pub part-is : (s : List ℕ) (p n : ℕ) → p ≤ length s → (x : Part) → Reads s p n (String x) → part_of p (bytes_at s x) ≡ x
+pub part-is : (s : List ℕ) (p n : ℕ) → p ≤ length s → (x : Part) → Reads s p n (Ok (String x)) → part_of p (bytes_at s x) ≡ x
 unfolding encode
 part-is s p n h x e =
     let w = within s p n h (str (bytes_at s x)) (x.from + x.len) (n + 1) e in
@@ -151,16 +146,16 @@ module _ (h : List ℕ) (p q : ℕ) (k : List ℕ) (m : ℕ) (len : length k ≡
 
 -- ---- a whole row
 
-module _ (s : List ℕ) (before : Prev) (p n : ℕ) (x : Part) (e : key_in s n (At x) ≡ key_of (length s) before (drop p s) p n) where
+module _ (s : List ℕ) (before : Prev) (p n : ℕ) (x : Part) (e : key_in s n (Ok x) ≡ key_of (length s) before (drop p s) p n) where
   pub line_read : (v : Value) (q m : ℕ) → value_in_of s (x.from + x.len) (n + 1) ≡ got v (drop q s) q m → line_in s before p n ≡ got (line (bytes_at s x) (x.from + x.len) v) (drop q s) q m
   line_read v q m f =
       ap (λ (g : Got (List ℕ)). and_then g (λ k l i j. map_got (line k i) (value_from 31 (length s) l i j))) (sym e) ∙ ap (map_got (line (bytes_at s x) (x.from + x.len))) f
 
-  pub line-unread : (r : Refusal) → Reads s (x.from + x.len) (n + 1) (Unheld r) → line_in s before p n ≡ bad r.number r.place
+  pub line-unread : (r : Refusal) → Reads s (x.from + x.len) (n + 1) (Err r) → line_in s before p n ≡ bad r.number r.place
   line-unread r f =
       ap (λ (g : Got (List ℕ)). and_then g (λ k l i j. map_got (line k i) (value_from 31 (length s) l i j))) (sym e) ∙ ap (map_got (line (bytes_at s x) (x.from + x.len))) f
 
-pub line-no-key : (s : List ℕ) (before : Prev) (p n : ℕ) (r : Refusal) → key_in s n (NoKey r) ≡ key_of (length s) before (drop p s) p n → line_in s before p n ≡ bad r.number r.place
+pub line-no-key : (s : List ℕ) (before : Prev) (p n : ℕ) (r : Refusal) → key_in s n (Err r) ≡ key_of (length s) before (drop p s) p n → line_in s before p n ≡ bad r.number r.place
 line-no-key s before p n r e = ap (λ (g : Got (List ℕ)). and_then g (λ k l i j. map_got (line k i) (value_from 31 (length s) l i j))) (sym e)
 
 -- where a row that is read begins and ends
@@ -185,13 +180,13 @@ lies s before p n h x r q m e = subst (Holds (λ y l i j. Lies p (length s) y l 
 
 -- ---- the pass after one more row whose key is read
 
-module _ (s h : List ℕ) (p : Stage) (k : Part) (l : p.at < length s) (e : key_in s p.count (At k) ≡ key_of (length s) (prev_in s p.before) (drop p.at s) p.at p.count) where
+module _ (s h : List ℕ) (p : Stage) (k : Part) (l : p.at < length s) (e : key_in s p.count (Ok k) ≡ key_of (length s) (prev_in s p.before) (drop p.at s) p.at p.count) where
   -- where its value begins
   pub value-begins : (k.from + k.len ≤ length s) × (p.count < 16384)
   value-begins = let w = key-further s (prev_in s p.before) p.at p.count k.from k.len (omega arith) e in (w.1, w.2)
 
-  pub entered-string : (x : Part) → Reads s (k.from + k.len) (p.count + 1) (String x) → (row : Row) → listed_as row ≡ with_address h p.at (bytes_at s k) k.len x (listed_as p.row)
-      → Turned s h p (On (record { at = x.from + x.len; count = p.count + 1 + 1; before = Key k; row = row }))
+  pub entered-string : (x : Part) → Reads s (k.from + k.len) (p.count + 1) (Ok (String x)) → (row : Result (Option Part) Refusal) → listed_as row ≡ with_address h p.at (bytes_at s k) k.len x (listed_as p.row)
+      → Turned s h p (Ok (record { at = x.from + x.len; count = p.count + 1 + 1; before = Some k; row = row }))
   entered-string x r row f = (
     line (bytes_at s k) (k.from + k.len) (str (bytes_at s x)),
     line_read s (prev_in s p.before) p.at p.count k e (str (bytes_at s x)) (x.from + x.len) (p.count + 1 + 1) r,
@@ -199,8 +194,8 @@ module _ (s h : List ℕ) (p : Stage) (k : Part) (l : p.at < length s) (e : key_
     f ∙ with-noted h p.at (k.from + k.len) (bytes_at s k) k.len (part_length s k value-begins.0) (bytes_at s x) x (part-is s (k.from + k.len) (p.count + 1) value-begins.0 x r) (listed_as p.row),
   )
 
-  pub entered-other : (q m : ℕ) → Reads s (k.from + k.len) (p.count + 1) (Other q m) → (row : Row) → listed_as row ≡ without_address p.at k.len (k.from + k.len) (listed_as p.row)
-      → Turned s h p (On (record { at = q; count = m; before = Key k; row = row }))
+  pub entered-other : (q m : ℕ) → Reads s (k.from + k.len) (p.count + 1) (Ok (Other q m)) → (row : Result (Option Part) Refusal) → listed_as row ≡ without_address p.at k.len (k.from + k.len) (listed_as p.row)
+      → Turned s h p (Ok (record { at = q; count = m; before = Some k; row = row }))
   entered-other q m (v, r, no-str) row f = (
     line (bytes_at s k) (k.from + k.len) v,
     line_read s (prev_in s p.before) p.at p.count k e v q m r,
@@ -208,5 +203,5 @@ module _ (s h : List ℕ) (p : Stage) (k : Part) (l : p.at < length s) (e : key_
     f ∙ without-noted h p.at (k.from + k.len) (bytes_at s k) k.len (part_length s k value-begins.0) v no-str (listed_as p.row),
   )
 
-  pub string-ends : (x : Part) → Reads s (k.from + k.len) (p.count + 1) (String x) → (x.from + x.len ≤ length s) × (p.count + 1 + 1 ≤ 16384)
+  pub string-ends : (x : Part) → Reads s (k.from + k.len) (p.count + 1) (Ok (String x)) → (x.from + x.len ≤ length s) × (p.count + 1 + 1 ≤ 16384)
   string-ends x r = let w = within s (k.from + k.len) (p.count + 1) value-begins.0 (str (bytes_at s x)) (x.from + x.len) (p.count + 1 + 1) r in (w.inside, w.few)

@@ -1,4 +1,5 @@
 -- What the pass over a sheet comes to, turn by turn: what is left of it, from here on, comes to what the whole does. Assumes nothing.
+use Rattle.std.specs.Prelude.{Err, Ok}
 use mathlib.Core.Path.{◌≡◌, refl, sym, ap, ◌∙◌}
 use mathlib.Core.Bool.{Bool, true, false, cond}
 use mathlib.Core.List.{List, [], ◌∷◌}
@@ -23,7 +24,6 @@ use Rattle.bencode.proofs.Exact.{taken_fine}
 use Rattle.bencode_walk.specs.Lookup.{Under, under, same_key, lookup}
 use Rattle.bencode_fields.specs.Values.{part_of, string_at}
 use Rattle.sheets.specs.declared.rows.Stage.{Stage}
-use Rattle.sheets.specs.declared.rows.Turn.TheVariants.{On, Refused}
 use Rattle.sheets.specs.Rules.{rows_of, Listed, listed, unlisted, listed_under, searched, sheet_at, sheet_of}
 use Rattle.sheets.specs.Reading.{listed_as}
 use Rattle.sheets.specs.Turns.{prev_in, Line, line, line_in, either, under_key, noted, Turned, ended_as}
@@ -151,14 +151,14 @@ module _ (s h : List ℕ) (p : Stage) (t : Passing s h p) where
   passing-end l x = ended_by (listed_as p.row) (p.at + 1) p.count ∙ ap (came h (listed_as p.row) p.at) (sym (close-with t.left t.enough l x)) ∙ t.same
 
   module _ (l : p.at < length s) (x : get_or s p.at 0 ≡ 101 → ⊥) where
-    bad-with : (f : ℕ) → length s < p.at + f → (r : Refusal) → Turned s h p (Refused r) → rest s f (prev_in s p.before) p.at p.count ≡ bad r.number r.place
+    bad-with : (f : ℕ) → length s < p.at + f → (r : Refusal) → Turned s h p (Err r) → rest s f (prev_in s p.before) p.at p.count ≡ bad r.number r.place
     bad-with zero e r b = absurd (omega arith)
     bad-with (suc f) e r b = line_on s f (prev_in s p.before) p.at p.count l x ∙ rw b
 
-    pub passing-bad : (r : Refusal) → Turned s h p (Refused r) → refused r.number r.place ≡ whole s h
+    pub passing-bad : (r : Refusal) → Turned s h p (Err r) → refused r.number r.place ≡ whole s h
     passing-bad r b = sym (ap (came h (listed_as p.row) p.at) (bad-with t.left t.enough r b)) ∙ t.same
 
-    on-with : (f : ℕ) → length s < p.at + f → came h (listed_as p.row) p.at (rest s f (prev_in s p.before) p.at p.count) ≡ whole s h → (q : Stage) → Turned s h p (On q) → (p.at < q.at) × Passing s h q
+    on-with : (f : ℕ) → length s < p.at + f → came h (listed_as p.row) p.at (rest s f (prev_in s p.before) p.at p.count) ≡ whole s h → (q : Stage) → Turned s h p (Ok q) → (p.at < q.at) × Passing s h q
     on-with zero e g q b = absurd (omega arith)
     on-with (suc f) e g q (y, b, k, o) =
         let z = lies s (prev_in s p.before) p.at p.count (omega arith) y (drop q.at s) q.at q.count b in
@@ -174,7 +174,7 @@ module _ (s h : List ℕ) (p : Stage) (t : Passing s h p) where
           },
         )
 
-    pub passing-on : (q : Stage) → Turned s h p (On q) → (p.at < q.at) × Passing s h q
+    pub passing-on : (q : Stage) → Turned s h p (Ok q) → (p.at < q.at) × Passing s h q
     passing-on q b = on-with t.left t.enough t.same q b
 
 -- ---- the whole: what a text comes to that begins as a dictionary, and one that does not

@@ -1,6 +1,7 @@
 -- What the calls answer for a torrent and a sheet, in document 02's words. Assumes nothing: these are definitions.
-use Rattle.std.specs.Prelude.{List, ℕ, ◌+◌, min, length}
-use Rattle.refusal.specs.Paper.{Outcome, taken, refused, refusal, map}
+use Rattle.refusal.specs.declared.Refusal.{Refusal}
+use Rattle.std.specs.Prelude.{List, ℕ, ◌+◌, min, length, Err, None, Ok, Option, Result, Some}
+use Rattle.refusal.specs.Paper.{Outcome, taken, refused, refusal, paper, map}
 use Rattle.refusal.specs.Parts.{bytes_at}
 use Rattle.refusal.specs.declared.Part.{Part}
 use Rattle.hash_sha1.specs.Sha1.{sha1}
@@ -9,9 +10,6 @@ use Rattle.torrent_metainfo.specs.Reading.{read_of}
 use Rattle.sheets.specs.declared.Source.{Source}
 use Rattle.sheets.specs.declared.Source.TheVariants.{Torrent, Sheet}
 use Rattle.sheets.specs.declared.Found.{Found}
-use Rattle.sheets.specs.declared.Found.TheVariants.{At, Refused}
-use Rattle.sheets.specs.declared.rows.Row.{Row}
-use Rattle.sheets.specs.declared.rows.Row.TheVariants.{Listed as InRow, Unlisted, Refused as NoSheet}
 use Rattle.sheets.specs.Rules.{Listed, listed, unlisted, sheet_of}
 
 -- what is said, and of which text: where the address stands there, or its refusal
@@ -22,23 +20,15 @@ pub record Answered : Type 0 where
 abbrev pub of : Source → Outcome Part → Answered
 of c o = record { source = c; what = o }
 
--- the answer of `find`: its number and place, and its text
-abbrev pub paper : Found → Outcome Part
-paper (At c p) = taken p
-paper (Refused c r) = refusal r
-
-abbrev pub source_in : Found → Source
-source_in (At c p) = c
-source_in (Refused c r) = c
-
+-- the answer of `find` in these words
 abbrev pub told : Found → Answered
-told r = of (source_in r) (paper r)
+told r = of r.source (paper r.part)
 
 -- the answer of the pass over a sheet
-abbrev pub listed_as : Row → Outcome Listed
-listed_as (InRow p) = taken (listed p)
-listed_as Unlisted = taken unlisted
-listed_as (NoSheet r) = refusal r
+abbrev pub listed_as : Result (Option Part) Refusal → Outcome Listed
+listed_as (Ok (Some p)) = taken (listed p)
+listed_as (Ok None) = taken unlisted
+listed_as (Err r) = refusal r
 
 -- by what the sheet says: its own part, its refusal, or announce
 abbrev pub address_in : Part → Outcome Listed → Answered

@@ -12,10 +12,7 @@ ghost use Rattle.hash_sha1.specs.Sha1.{sha1};
 ghost use Rattle.sheets.specs.Rules.{sheet_of};
 ghost use Rattle.sheets.specs.Reading.{of, told, listed_as, address_in, find_of, chosen, handed, handed_at};
 
-use hash_sha1::Hashed;
 use refusal::{Part, Refusal};
-use rows::Row;
-use torrent_metainfo::Reading;
 
 // Which of the two texts.
 #[derive(Clone, Copy)]
@@ -24,11 +21,11 @@ pub enum Source {
     Sheet,
 }
 
-// In which text the address stands, and its bytes there; or which text is refused, and why.
+// In which text the address stands and its bytes there, or which text is refused and why.
 #[derive(Clone, Copy)]
-pub enum Found {
-    At(Source, Part),
-    Refused(Source, Refusal),
+pub struct Found {
+    pub source: Source,
+    pub part: Result<Part, Refusal>,
 }
 
 // Where the address for a torrent stands: in the sheet under the torrent's info hash, or else in the torrent, as its announce.
@@ -36,8 +33,8 @@ pub fn find(torrent: &[u8], sheet: &[u8]) -> Found
     ensures { told result ≡ find_of torrent.now sheet.now }
 {
     match torrent_metainfo::read(torrent) {
-        Reading::Read(t) => hashed(torrent, t.announce, t.info, sheet),
-        Reading::Refused(r) => Found::Refused(Source::Torrent, r),
+        Ok(t) => hashed(torrent, t.announce, t.info, sheet),
+        Err(r) => answered(Source::Torrent, Err(r)),
     }
 }
 
@@ -46,10 +43,12 @@ pub fn address<'a>(torrent: &'a [u8], sheet: &'a [u8]) -> &'a [u8]
     ensures same { result.now ≡ handed (find_of torrent.now sheet.now) torrent.now sheet.now }
     ensures there { (result.ref_ptr.0 ≡ chosen (find_of torrent.now sheet.now).source torrent.entry.ref_ptr.0 sheet.entry.ref_ptr.0) × (result.ref_ptr.1 ≡ handed_at (find_of torrent.now sheet.now) torrent.now sheet.now torrent.entry.ref_ptr.1 sheet.entry.ref_ptr.1) }
 {
-    match find(torrent, sheet) {
-        Found::At(source, part) => part_of(torrent, sheet, source, part),
-        Found::Refused(source, _) => part_of(torrent, sheet, source, Part { from: 0, len: 0 }),
-    }
+    let answer = find(torrent, sheet);
+    let part = match answer.part {
+        Ok(part) => part,
+        Err(_) => Part { from: 0, len: 0 },
+    };
+    part_of(torrent, sheet, answer.source, part)
 }
 
 // The very part of one of the two texts.
@@ -69,8 +68,8 @@ fn hashed(torrent: &[u8], announce: Part, info: Part, sheet: &[u8]) -> Found
 {
     let mut hash = [0u8; 20];
     match hash_sha1::digest(bencode_walk::bytes(torrent, info), &mut hash) {
-        Hashed::Written => listed(announce, sheet, &hash),
-        Hashed::Refused(r) => Found::Refused(Source::Torrent, r),
+        Ok(()) => listed(announce, sheet, &hash),
+        Err(r) => answered(Source::Torrent, Err(r)),
     }
 }
 
@@ -81,12 +80,18 @@ fn listed(announce: Part, sheet: &[u8], hash: &[u8; 20]) -> Found
     sourced(announce, rows::read(sheet, hash))
 }
 
-fn sourced(announce: Part, row: Row) -> Found
+fn sourced(announce: Part, row: Result<Option<Part>, Refusal>) -> Found
     ensures { told result ≡ address_in announce (listed_as row) }
 {
     match row {
-        Row::Listed(p) => Found::At(Source::Sheet, p),
-        Row::Unlisted => Found::At(Source::Torrent, announce),
-        Row::Refused(r) => Found::Refused(Source::Sheet, r),
+        Ok(Some(p)) => answered(Source::Sheet, Ok(p)),
+        Ok(None) => answered(Source::Torrent, Ok(announce)),
+        Err(r) => answered(Source::Sheet, Err(r)),
     }
+}
+
+fn answered(source: Source, part: Result<Part, Refusal>) -> Found
+    ensures { result ≡ record { source = source; part = part } }
+{
+    Found { source, part }
 }

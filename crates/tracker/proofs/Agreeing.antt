@@ -1,13 +1,7 @@
 -- Where a value stands, what the code goes through is what document 01's rules say of that value. Assumes nothing.
-use mathlib.Core.Path.{◌≡◌, refl, sym, ap, ◌∙◌}
-use mathlib.Core.Bool.{Bool, true, false, cond}
-use mathlib.Core.List.{List, [], ◌∷◌}
-use Prim.Native.Nat.{ℕ, zero, suc, ◌+◌, ◌/◌, ◌%◌, ◌<◌, ◌≤◌}
-use native.Mathlib.Omega.{arith}
-use lib.Dec.{eqb}
-use lib.ListN.{length}
+use Rattle.std.proofs.Common.{◌≡◌, refl, sym, ap, ◌∙◌, Bool, true, false, cond, List, [], ◌∷◌, ℕ, zero, suc, ◌+◌, ◌/◌, ◌%◌, ◌<◌, ◌≤◌, arith, eqb, length}
 use Rattle.refusal.specs.Paper.{Outcome, taken, refused, refusal, map, then}
-use Rattle.refusal.proofs.Cases.{by-test}
+use Rattle.refusal.proofs.Cases.{no_way, by-test}
 use Rattle.bencode_scalar.specs.Written.{in_range, key_lt}
 use Rattle.bencode.specs.Value.{Value, Items, Entries, str, int, list, dict, none, item, count, encode, start, last}
 use Rattle.bencode.specs.Decode.{decode}
@@ -200,7 +194,7 @@ whole_is s (dict es) t =
 module _ (s : List ℕ) where
   whole_by : (n : ℕ) (o : Outcome Value) → decode s ≡ o → taken n ≡ map count o → whole_of s ≡ map counted (then o (λ v. then (dictionary_at 0 v) reply_in))
   whole_by n (taken v) d e = whole_is s v (fine-stands s v (taken_fine s v d))
-  whole_by n (refused m p) d e = let z : ◌≡◌ {A = ℕ} 0 1 = cc in absurd (omega arith)
+  whole_by n (refused m p) d e = no_way (cc)
 
   -- a text that is taken as bencode
   pub read_whole : (n : ℕ) → taken n ≡ check_of s → whole_of s ≡ map counted (reply_of s)
@@ -208,7 +202,7 @@ module _ (s : List ℕ) where
   read_whole n e = whole_by n (decode s) refl e
 
   refused-by : (r : Refusal) (o : Outcome Value) → refusal r ≡ map count o → refusal r ≡ map counted (then o (λ v. then (dictionary_at 0 v) reply_in))
-  refused-by r (taken v) e = let z : ◌≡◌ {A = ℕ} 0 1 = cc in absurd (omega arith)
+  refused-by r (taken v) e = no_way (cc)
   refused-by r (refused m p) e = let f : r.number ≡ m = cc in let g : r.place ≡ p = cc in rw (f, g)
 
   -- and one that is not

@@ -1,8 +1,5 @@
 -- A refusal of the reader is given exactly where its cause holds. Assumes nothing.
-use mathlib.Core.Path.{◌≡◌, ap, ◌∙◌}
-use mathlib.Core.Logic.{⊎_elim}
-use mathlib.Core.List.{List}
-use Prim.Native.Nat.{ℕ}
+use Rattle.std.proofs.Common.{◌≡◌, ap, ◌∙◌, ⊎_elim, List, ℕ}
 use Rattle.refusal.specs.Paper.{Outcome, taken, refused, then}
 use Rattle.refusal.proofs.Outcomes.{then-refused}
 use Rattle.bencode.specs.Value.{Value}

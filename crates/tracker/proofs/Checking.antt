@@ -1,13 +1,5 @@
 -- The checks of a reply, both ways: what is taken is a reply that says so, every such reply is taken, and a refusal has its cause. Assumes nothing.
-use mathlib.Core.Path.{◌≡◌, refl, sym, ◌∙◌, subst}
-use mathlib.Core.Logic.{◌⊎◌, inl, inr}
-use mathlib.Core.List.{[], List, ◌∷◌}
-use Prim.Native.Nat.{ℕ, ◌+◌, ◌%◌, ◌≤◌}
-use native.Mathlib.Omega.{arith}
-use lib.Dec.{eqb}
-use lib.IntN.{pos}
-use lib.ListN.{length}
-use borrow.Author.Tests.{eq-eqb, eqb-true}
+use Rattle.std.proofs.Common.{◌≡◌, refl, sym, ◌∙◌, subst, ◌⊎◌, inl, inr, [], List, ◌∷◌, ℕ, ◌+◌, ◌%◌, ◌≤◌, arith, eqb, pos, length, eq-eqb, eqb-true}
 use Rattle.refusal.specs.Paper.{refused, then}
 use Rattle.refusal.proofs.Cases.{no_way}
 use Rattle.bencode.specs.Value.{Value, Items, Entries, str, int, list, dict, none, item, encode, start}

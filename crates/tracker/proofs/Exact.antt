@@ -1,6 +1,5 @@
 -- A text is taken as a reply exactly when it is the encoding of a value that is one and keeps the limits. Assumes nothing.
-use mathlib.Core.Path.{◌≡◌, ap, ◌∙◌}
-use mathlib.Core.List.{List}
+use Rattle.std.proofs.Common.{◌≡◌, ap, ◌∙◌, List, ℕ}
 use Rattle.refusal.specs.Paper.{Outcome, taken, then}
 use Rattle.refusal.proofs.Outcomes.{then-taken}
 use Rattle.bencode.specs.Value.{Value}
@@ -13,7 +12,6 @@ use Rattle.tracker.specs.Entries.{PeerEntry}
 use Rattle.tracker.specs.Reply.{Answer, reply_in, reply_of}
 use Rattle.tracker.specs.Exact.{ReplySays, IsReply, ShowsReply, ReplyExact}
 use Rattle.tracker.proofs.Checking.{reply-checks}
-use Prim.Native.Nat.{ℕ}
 
 module _ (s : List ℕ) where
   -- the only texts that are taken

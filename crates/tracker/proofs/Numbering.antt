@@ -1,9 +1,5 @@
 -- How many entries a reply has, and which numbers they have. Assumes nothing.
-use mathlib.Core.Path.{◌≡◌, refl, ap}
-use mathlib.Core.List.{List}
-use Prim.Native.Nat.{ℕ, suc, ◌<◌, ◌≤◌}
-use native.Mathlib.Omega.{arith}
-use lib.ListN.{length}
+use Rattle.std.proofs.Common.{◌≡◌, refl, ap, List, ℕ, suc, ◌<◌, ◌≤◌, arith, length}
 use Rattle.refusal.specs.Paper.{taken, refused}
 use Rattle.tracker.specs.Entries.{PeerEntry}
 use Rattle.tracker.specs.Reply.{Answer, failure, compact, listing, counted, nth_of}

@@ -1,15 +1,8 @@
 -- What is written is read back, and what is read with only those keys is written again as it was. Assumes nothing.
-use mathlib.Core.Path.{◌≡◌, refl, sym, ap, ◌∙◌, subst}
-use mathlib.Core.Bool.{Bool, true, false, cond}
-use mathlib.Core.List.{List}
-use Prim.Native.Nat.{ℕ, ◌+◌, ◌%◌, ◌<◌, ◌≤◌}
-use native.Mathlib.Omega.{arith}
-use lib.Dec.{ltb, leb}
-use lib.IntN.{pos}
-use lib.ListN.{length, take, drop}
-use lib.Seq.{sets}
-use borrow.Author.Tests.{ltb-true, ltb-false, leb-true, leb-false}
-use Rattle.refusal.specs.Paper.{taken, refused}
+use Rattle.std.proofs.Common.{Result, ◌≡◌, refl, sym, ap, ◌∙◌, subst, Bool, true, false, cond, List, ℕ, ◌+◌, ◌%◌, ◌<◌, ◌≤◌, arith, ltb, leb, pos, length, take, drop, ltb-true, ltb-false, leb-true, leb-false}
+use Rattle.std.proofs.lemmas.List.Edits.{sets}
+use Rattle.refusal.specs.declared.Refusal.{Refusal}
+use Rattle.refusal.specs.Paper.{paper, taken, refused}
 use Rattle.refusal.proofs.Cases.{no_way}
 use Rattle.bencode_scalar.specs.Written.{key_lt}
 use Rattle.bencode.specs.Value.{Value, Entries, str, int, dict, empty, entry, encode, count, Keeps, start}
@@ -18,8 +11,7 @@ use Rattle.bencode.specs.Exact.{Fine}
 use Rattle.bencode.proofs.Exact.{fine-taken}
 use Rattle.bencode_walk.specs.Has.{Has, here, there}
 use Rattle.bencode_walk.specs.Lookup.{same_key, nothing, lookup}
-use Rattle.bencode_writer.specs.Put.{Left, paper, left, put_of}
-use Rattle.bencode_writer.specs.declared.Put.{Put}
+use Rattle.bencode_writer.specs.Put.{Left, left, put_of}
 use Rattle.bencode_writer.proofs.Laws.{paper-apart, Standing, put_whole, put-none, standing}
 use Rattle.tracker.specs.Keys.{failure_reason, interval, peers}
 use Rattle.tracker.specs.Entries.{PeerEntry}
@@ -108,8 +100,8 @@ module _ (n : ℕ) (bs o : List ℕ) where
       go false e false f true g = let h = ltb-false 0 (length bs % 6) f in not_written 8 (too_long (ltb-false _ _ e) (omega arith) (ltb-true _ _ g))
       go false e false f false g = let h = ltb-false 0 (length bs % 6) f in case-room (ltb-false _ _ e) (omega arith) (ltb-false _ _ g) (leb (length (text_of n bs)) (length o)) refl
 
-  module _ (r : Put) {out : List ℕ} (e : left (paper r) out ≡ write_of n bs o) where
-    pub write-determined : (t : Put) {out' : List ℕ} → left (paper t) out' ≡ write_of n bs o → (r ≡ t) × (out ≡ out')
+  module _ (r : Result ℕ Refusal) {out : List ℕ} (e : left (paper r) out ≡ write_of n bs o) where
+    pub write-determined : (t : Result ℕ Refusal) {out' : List ℕ} → left (paper t) out' ≡ write_of n bs o → (r ≡ t) × (out ≡ out')
     write-determined t f = (paper-apart r t (ap (λ (x : Left). x.answer) (e ∙ sym f)), ap (λ (x : Left). x.out) (e ∙ sym f))
 
     -- a refusal leaves the output as it was, and has its cause

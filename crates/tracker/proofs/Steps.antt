@@ -1,48 +1,27 @@
 -- What the code goes through, step by step: an answer that was taken apart, an entry of a list, the loops. Assumes nothing.
-use mathlib.Core.Path.{◌≡◌, refl, sym, ap, ◌∙◌, subst}
-use mathlib.Core.Bool.{true, false, cond}
-use mathlib.Core.List.{List}
-use Prim.Native.Nat.{ℕ, zero, suc, ◌+◌, ◌-◌, ◌/◌, ◌%◌, ◌<◌, ◌≤◌}
-use native.Mathlib.Omega.{arith}
-use lib.Dec.{ltb, eqb}
-use lib.ListN.{length, get_or, drop, drop_of_length-le}
-use lib.Seq.{drop-cons}
-use borrow.Author.Tests.{le-leb, lt-leb, eq-eqb, ne_eqb, lt-ltb, le-ltb}
-use Rattle.refusal.specs.Paper.{Outcome, taken, refused, refusal, map, then}
+use Rattle.std.proofs.Common.{Err, Ok, ◌≡◌, refl, sym, ap, ◌∙◌, true, false, cond, List, ℕ, zero, suc, min, ◌+◌, ◌*◌, ◌-◌, ◌<◌, ◌≤◌, arith, ltb, eqb, length, get_or, take, drop, length-drop, drop_of_length-le, drop-cons, le-leb, eq-eqb, ne_eqb, lt-ltb, le-ltb}
+use Rattle.std.proofs.Math.Seq.{take-length}
+use Rattle.std.proofs.lemmas.Bool.{lt-leb}
+use Rattle.std.proofs.lemmas.List.{get_or-drop}
+use Rattle.refusal.specs.Paper.{paper, Outcome, taken, refused, refusal, map, then}
+use Rattle.refusal.proofs.Outcomes.{then-taken, map-taken}
 use Rattle.refusal.specs.Limits.{most_text}
 use Rattle.refusal.specs.declared.Refusal.{Refusal}
 use Rattle.refusal.specs.declared.Part.{Part}
 use Rattle.bencode_walk.proofs.Seeking.{skip-further}
-use Rattle.bencode_walk.proofs.Limited.{unless-long, Limited}
+use Rattle.bencode_walk.proofs.Limited.{unless-long}
 use Rattle.bencode_walk.proofs.Seeing.{look-out}
 use Rattle.bencode_fields.proofs.Seeking.{sought-limited, after-limited, needed-limited}
 use Rattle.bencode.specs.Decode.{closes, unless_long}
-use Rattle.bencode_walk.specs.Walk.{Head, Hit, seek_paper, skip_of, past_paper}
-use Rattle.bencode_walk.specs.declared.Sought.{Sought}
-use Rattle.bencode_walk.specs.declared.Past.TheVariants.{To, Refused as Bad}
-use Rattle.bencode_fields.specs.Looks.{string_paper, natural_paper, string_of, natural_of, dictionary_of, dictionary_in, needed, sought_from, sought_after}
-use Rattle.bencode_fields.specs.declared.Bytes.{Bytes}
-use Rattle.bencode_fields.specs.declared.Bytes.TheVariants.{Are, Refused as Unread}
-use Rattle.bencode_fields.specs.declared.Natural.{Natural}
-use Rattle.bencode_fields.specs.declared.Natural.TheVariants.{Is as Number, Refused as NoNumber}
+use Rattle.bencode_walk.specs.Walk.{Head, Hit, skip_of}
+use Rattle.bencode_fields.specs.Looks.{string_of, natural_of, dictionary_of, dictionary_in, needed, sought_from, sought_after}
 use Rattle.tracker.specs.Keys.{interval, peers, ip, peer_id, port}
-use Rattle.tracker.specs.Entries.{PeerEntry, packed, listed, PeerStep, id_length, id_of, six_at, packed_at, past_peer, peer_from, peer_by, listed_paper, listed_at, count_from, nth_at}
-use Rattle.tracker.specs.Reply.{compact}
-use Rattle.tracker.specs.Reading.{compact_of, peers_of, answered_of}
-use Rattle.tracker.specs.declared.listed.Listing.TheVariants.{Is, Refused as Not}
+use Rattle.tracker.specs.Entries.{PeerEntry, packed, listed, PeerStep, id_of, six_at, packed_at, past_peer, peer_by, listed_paper, listed_at, count_from, nth_at}
+use Rattle.tracker.specs.Reading.{reply_paper, peers_of, answered_of, entry_at}
+use Rattle.tracker.specs.declared.Peers.{Peers}
+use Rattle.tracker.specs.declared.Reply.{Reply}
+use Rattle.tracker.specs.declared.Reply.TheVariants.{Failure, Compact, List as Listing}
 use Rattle.tracker.specs.declared.listed.Listed.{Listed}
-
--- a call's answer r, known to be w, goes on as its outcome does
-pub via : {R A B : Type 0} (paper : R → Outcome A) (f : Outcome A → Outcome B) {r w : R} {o : Outcome A} → paper r ≡ o → r ≡ w → f (paper w) ≡ f o
-via paper f e g = ap (λ x. f (paper x)) (sym g) ∙ ap f e
-
--- an id of 20 bytes, and of another length
-module _ (q : ℕ) (x : Part) where
-  pub id-good : x.len ≡ 20 → taken x ≡ id_length q x
-  id-good h = rw (eq-eqb x.len 20 h)
-
-  pub id-bad : (x.len ≡ 20 → ⊥) → refused 15 q ≡ id_length q x
-  id-bad h = rw (ne_eqb x.len 20 h)
 
 -- the continuation of each check of a peer
 abbrev pub after_port : List ℕ → ℕ → Part → Part → ℕ → Outcome PeerStep
@@ -53,17 +32,6 @@ after_ip s p ports id a = then (needed p ports (natural_of 65535 s)) (after_port
 
 abbrev pub after_id : List ℕ → ℕ → Outcome Hit → Outcome Hit → Part → Outcome PeerStep
 after_id s p ips ports id = then (needed p ips (string_of s)) (after_ip s p ports id)
-
-pub hits : (s : List ℕ) (p first : ℕ) (ips ids ports : Outcome Hit) → ips ≡ sought_from s first ip → ids ≡ sought_after s ips peer_id → ports ≡ sought_after s ids port
-    → then (needed p ids (id_of s)) (after_id s p ips ports) ≡ peer_by s p first
-hits s p first ips ids ports a b c =
-    ap (peer_from s p ips ids) c
-    ∙ ap (λ (o : Outcome Hit). peer_from s p ips o (sought_after s o port)) b
-    ∙ ap (λ (o : Outcome Hit). peer_from s p o (sought_after s o peer_id) (sought_after s (sought_after s o peer_id) port)) a
-
-pub listed_by : (s : List ℕ) (p : ℕ) → then (dictionary_of s p) (peer_by s p) ≡ listed_at s p
-unfolding listed_at
-listed_by s p = refl
 
 -- six bytes that are there, or not
 module _ (s : List ℕ) (p : ℕ) where
@@ -79,23 +47,45 @@ module _ (s : List ℕ) (p : ℕ) where
   unfolding packed_at
   packed-cut l h = rw (le-ltb most_text (length s) l, lt-leb (p + 6) (length s) h)
 
+  -- from any place past the end on it is the same
+  pub packed-past : (q : ℕ) → length s < p + 6 → length s < q + 6 → packed_at s p ≡ packed_at s q
+  unfolding packed_at
+  packed-past q h k = rw (lt-leb (p + 6) (length s) h, lt-leb (q + 6) (length s) k)
+
+-- what is left of a text from a place on, where the place may be past its end
+pub drop-whole : (s : List ℕ) (p : ℕ) → take (length s - p) (drop p s) ≡ drop p s
+drop-whole s p = ap (λ (n : ℕ). take n (drop p s)) (sym (length-drop p s)) ∙ take-length (drop p s)
+
+module _ (s : List ℕ) (p m : ℕ) (e : m ≡ min p (length s)) (l : length s ≤ most_text) where
+  abbrev rest : List ℕ
+  rest = take (length s - m) (drop m s)
+
+  rest-long : length rest ≡ length s - m
+  rest-long = ap length (drop-whole s m) ∙ length-drop m s
+
+  pub rest-cut : length rest < 6 → refused 1 (length s) ≡ packed_at s p
+  rest-cut h = packed-cut s p l (omega (arith, rest-long))
+
+  rest-at : (i : ℕ) → 6 ≤ length rest → get_or rest i 0 ≡ get_or s (p + i) 0
+  rest-at i h = let k : m ≡ p = omega (arith, rest-long) in ap (λ (r : List ℕ). get_or r i 0) (drop-whole s m) ∙ get_or-drop m s i 0 ∙ ap (λ (j : ℕ). get_or s (j + i) 0) k
+
+  pub rest-whole : (x : ℕ) → 6 ≤ length rest → x ≡ get_or rest 4 0 * 256 + get_or rest 5 0
+      → taken (record { entry = packed (record { address = record { 0 = get_or rest 0 0; 1 = get_or rest 1 0; 2 = get_or rest 2 0; 3 = get_or rest 3 0 }; port = x }); next = p + 6 }) ≡ packed_at s p
+  rest-whole x h f =
+      let z : p + 0 ≡ p = omega arith in
+      let first : get_or rest 0 0 ≡ get_or s p 0 = rest-at 0 h ∙ ap (λ (j : ℕ). get_or s j 0) z in
+      rw (f, first, rest-at 1 h, rest-at 2 h, rest-at 3 h, rest-at 4 h, rest-at 5 h) (packed-whole s p l (omega (arith, rest-long)))
+
 -- the place past a peer that was read: further on, and within the text
-taken-past : {A : Type 0} (o : Outcome A) (f : A → Outcome PeerStep) (x : PeerStep) → then o f ≡ taken x → (a : A) × (f a ≡ taken x)
-taken-past (taken a) f x e = (a, e)
-taken-past (refused n p) f x e = absurd (let z : ◌≡◌ {A = ℕ} 0 1 = cc in omega arith)
-
-mapped : (o : Outcome ℕ) (y : Listed) (x : PeerStep) → map (λ q. record { entry = listed y; next = q }) o ≡ taken x → o ≡ taken x.next
-mapped (taken q) y x e = let f : ◌≡◌ {A = PeerStep} (record { entry = listed y; next = q }) x = cc in ap (λ (z : PeerStep). taken z.next) f
-mapped (refused n p) y x e = absurd (let z : ◌≡◌ {A = ℕ} 0 1 = cc in omega arith)
-
 pub listed-skips : (s : List ℕ) (p : ℕ) (x : PeerStep) → listed_at s p ≡ taken x → skip_of s p ≡ taken x.next
 unfolding listed_at
 listed-skips s p x e =
-    let a = taken-past (dictionary_of s p) (peer_by s p) x e in
-    let b = taken-past (needed p (sought_after s (sought_from s a.0 ip) peer_id) (id_of s)) (after_id s p (sought_from s a.0 ip) (sought_after s (sought_after s (sought_from s a.0 ip) peer_id) port)) x a.1 in
-    let c = taken-past (needed p (sought_from s a.0 ip) (string_of s)) (after_ip s p (sought_after s (sought_after s (sought_from s a.0 ip) peer_id) port) b.0) x b.1 in
-    let d = taken-past (needed p (sought_after s (sought_after s (sought_from s a.0 ip) peer_id) port) (natural_of 65535 s)) (after_port s p b.0 c.0) x c.1 in
-    mapped (skip_of s p) (record { id = b.0; ip = c.0; port = d.0 }) x d.1
+    let a = then-taken (dictionary_of s p) (peer_by s p) x e in
+    let b = then-taken (needed p (sought_after s (sought_from s a.0 ip) peer_id) (id_of s)) (after_id s p (sought_from s a.0 ip) (sought_after s (sought_after s (sought_from s a.0 ip) peer_id) port)) x a.2 in
+    let c = then-taken (needed p (sought_from s a.0 ip) (string_of s)) (after_ip s p (sought_after s (sought_after s (sought_from s a.0 ip) peer_id) port) b.0) x b.2 in
+    let d = then-taken (needed p (sought_after s (sought_after s (sought_from s a.0 ip) peer_id) port) (natural_of 65535 s)) (after_port s p b.0 c.0) x c.2 in
+    let e = map-taken (λ q. record { entry = listed (record { id = b.0; ip = c.0; port = d.0 }); next = q }) (skip_of s p) x d.2 in
+    e.1 ∙ ap (λ (y : PeerStep). taken y.next) e.2
 
 -- where the text is at its end there is no entry
 nothing-listed : (s : List ℕ) (p : ℕ) → length s ≤ most_text → length s ≤ p → listed_at s p ≡ refused 1 (length s)
@@ -143,7 +133,7 @@ module _ (s : List ℕ) (first at n : ℕ) where
   count-bad zero r e h c l b = absurd (omega arith)
   count-bad (suc f) r e h c l b = rw (c, b) at e
 
-  pub counting-bad : Counting s first at n → (r : Refusal) → at < length s → (get_or s at 0 ≡ 101 → ⊥) → listed_paper (Not r) ≡ listed_at s at → refusal r ≡ count_from (suc (length s)) s first
+  pub counting-bad : Counting s first at n → (r : Refusal) → at < length s → (get_or s at 0 ≡ 101 → ⊥) → listed_paper (Err r) ≡ listed_at s at → refusal r ≡ count_from (suc (length s)) s first
   counting-bad c r l b e = count-bad c.left r c.same c.enough (closes_at s at l ∙ ne_eqb (get_or s at 0) 101 b) l (sym e)
 
   count-out : (f : ℕ) → map (λ k. n + k) (count_from f s at) ≡ count_from (suc (length s)) s first → length s ≤ most_text → length s ≤ at → refused 1 (length s) ≡ count_from (suc (length s)) s first
@@ -161,20 +151,20 @@ module _ (s : List ℕ) (first at n : ℕ) where
       let g = skip-further s at q (listed-skips s at (record { entry = listed x; next = q }) b) in
       record { left = f; enough = omega (arith, g.0); few = omega (arith, g.0); same = map_more n (count_from f s q) ∙ (rw (c, b) at e) }
 
-  pub counting_more : Counting s first at n → (x : Listed) (q : ℕ) → at < length s → (get_or s at 0 ≡ 101 → ⊥) → listed_paper (Is x q) ≡ listed_at s at → Counting s first q (n + 1)
+  pub counting_more : Counting s first at n → (x : Listed) (q : ℕ) → at < length s → (get_or s at 0 ≡ 101 → ⊥) → listed_paper (Ok (x, q)) ≡ listed_at s at → Counting s first q (n + 1)
   counting_more c x q l b e = count-more c.left x q c.same c.enough c.few l (closes_at s at l ∙ ne_eqb (get_or s at 0) 101 b) (sym e)
 
-  pub listed-further : (x : Listed) (q : ℕ) → listed_paper (Is x q) ≡ listed_at s at → (at < q) × (q ≤ length s)
+  pub listed-further : (x : Listed) (q : ℕ) → listed_paper (Ok (x, q)) ≡ listed_at s at → (at < q) × (q ≤ length s)
   listed-further x q e = skip-further s at q (listed-skips s at (record { entry = listed x; next = q }) (sym e))
 
 -- one entry passed over, on the way to number n
 module _ (s : List ℕ) (at : ℕ) where
-  pub nth-more : (left q : ℕ) → 0 < left → past_paper (To q) ≡ skip_of s at → nth_at (left - 1) s q ≡ nth_at left s at
+  pub nth-more : (left q : ℕ) → 0 < left → paper (Ok q) ≡ skip_of s at → nth_at (left - 1) s q ≡ nth_at left s at
   unfolding nth_at
   nth-more zero q h e = absurd (omega arith)
   nth-more (suc left) q h e = let z : suc left - 1 ≡ left = omega arith in rw (z, ← e)
 
-  pub nth-bad : (left : ℕ) (r : Refusal) → 0 < left → past_paper (Bad r) ≡ skip_of s at → refusal r ≡ nth_at left s at
+  pub nth-bad : (left : ℕ) (r : Refusal) → 0 < left → paper (Err r) ≡ skip_of s at → refusal r ≡ nth_at left s at
   unfolding nth_at
   nth-bad zero r h e = absurd (omega arith)
   nth-bad (suc left) r h e = rw (← e)
@@ -184,59 +174,12 @@ module _ (s : List ℕ) (at : ℕ) where
   nth_here zero h = refl
   nth_here (suc left) h = absurd (omega arith)
 
--- a peer's checks in document 01's order, as the code goes through them
-module _ (s : List ℕ) (p first : ℕ) (ips ids ports : Sought) (a : seek_paper ips ≡ sought_from s first ip) (b : seek_paper ids ≡ unless_long s (sought_after s (seek_paper ips) peer_id)) (c : seek_paper ports ≡ unless_long s (sought_after s (seek_paper ids) port))
-    (r₁ : Bytes) (e₁ : string_paper r₁ ≡ needed p (seek_paper ids) (id_of s)) where
-  -- the first search tells of a text that is too long, and so do those after it
-  ips-limited : Limited s (seek_paper ips)
-  ips-limited = sought-limited s (seek_paper ips) first ip a
-
-  ids-is : seek_paper ids ≡ sought_after s (seek_paper ips) peer_id
-  ids-is = b ∙ sym (after-limited s (seek_paper ips) ips-limited peer_id)
-
-  ids-limited : Limited s (seek_paper ids)
-  ids-limited = subst (λ (o : Outcome Hit). Limited s o) (sym ids-is) (after-limited s (seek_paper ips) ips-limited peer_id)
-
-  ports-is : seek_paper ports ≡ sought_after s (seek_paper ids) port
-  ports-is = c ∙ sym (after-limited s (seek_paper ids) ids-limited port)
-
-  ports-limited : Limited s (seek_paper ports)
-  ports-limited = subst (λ (o : Outcome Hit). Limited s o) (sym ports-is) (after-limited s (seek_paper ids) ids-limited port)
-
-  by-id : then (string_paper r₁) (after_id s p (seek_paper ips) (seek_paper ports)) ≡ peer_by s p first
-  by-id = ap (λ (o : Outcome Part). then o (after_id s p (seek_paper ips) (seek_paper ports))) e₁ ∙ hits s p first (seek_paper ips) (seek_paper ids) (seek_paper ports) a ids-is ports-is
-
-  pub no-id : {r : Refusal} → r₁ ≡ Unread r → refusal r ≡ peer_by s p first
-  no-id g = ap (λ (x : Bytes). then (string_paper x) (after_id s p (seek_paper ips) (seek_paper ports))) (sym g) ∙ by-id
-
-  module _ {x : Part} (g₁ : r₁ ≡ Are x) (r₂ : Bytes) (e₂ : string_paper r₂ ≡ unless_long s (needed p (seek_paper ips) (string_of s))) where
-    by-ip : then (string_paper r₂) (after_ip s p (seek_paper ports) x) ≡ peer_by s p first
-    by-ip =
-        ap (λ (o : Outcome Part). then o (after_ip s p (seek_paper ports) x)) (e₂ ∙ sym (needed-limited s (seek_paper ips) ips-limited p (string_of s)))
-        ∙ ap (λ (y : Bytes). then (string_paper y) (after_id s p (seek_paper ips) (seek_paper ports))) (sym g₁) ∙ by-id
-
-    pub no-ip : {r : Refusal} → r₂ ≡ Unread r → refusal r ≡ peer_by s p first
-    no-ip g = ap (λ (y : Bytes). then (string_paper y) (after_ip s p (seek_paper ports) x)) (sym g) ∙ by-ip
-
-    module _ {y : Part} (g₂ : r₂ ≡ Are y) (r₃ : Natural) (e₃ : natural_paper r₃ ≡ unless_long s (needed p (seek_paper ports) (natural_of 65535 s))) where
-      by-port : then (natural_paper r₃) (after_port s p x y) ≡ peer_by s p first
-      by-port =
-          ap (λ (o : Outcome ℕ). then o (after_port s p x y)) (e₃ ∙ sym (needed-limited s (seek_paper ports) ports-limited p (natural_of 65535 s)))
-          ∙ ap (λ (z : Bytes). then (string_paper z) (after_ip s p (seek_paper ports) x)) (sym g₂) ∙ by-ip
-
-      pub no-port : {r : Refusal} → r₃ ≡ NoNumber r → refusal r ≡ peer_by s p first
-      no-port g = ap (λ (z : Natural). then (natural_paper z) (after_port s p x y)) (sym g) ∙ by-port
-
-      pub a-peer : {n : ℕ} → r₃ ≡ Number n → past_peer s p (record { id = x; ip = y; port = n }) ≡ peer_by s p first
-      a-peer g = ap (λ (z : Natural). then (natural_paper z) (after_port s p x y)) (sym g) ∙ by-port
-
--- a string of m bytes at a, of whole entries or not
-module _ (n p a m : ℕ) where
-  pub sixes-whole : m % 6 ≡ 0 → taken (compact n a (m / 6)) ≡ compact_of n p a m
-  sixes-whole h = rw (eq-eqb (m % 6) 0 h)
-
-  pub sixes-cut : 0 < m % 6 → refused 15 p ≡ compact_of n p a m
-  sixes-cut h = rw (ne_eqb (m % 6) 0 (λ e. omega arith))
+-- a peer id that is refused. The test of the text's length in the search for it says nothing more than the search for ip
+pub no-id : (s : List ℕ) (p first : ℕ) (ips ids : Outcome Hit) {r : Refusal} → ips ≡ sought_from s first ip → ids ≡ unless_long s (sought_after s ips peer_id)
+    → refusal r ≡ needed p ids (id_of s) → refusal r ≡ peer_by s p first
+no-id s p first ips ids a b e =
+    let c : ids ≡ sought_after s (sought_from s first ip) peer_id = b ∙ sym (after-limited s ips (sought-limited s ips first ip a) peer_id) ∙ ap (λ (o : Outcome Hit). sought_after s o peer_id) a in
+    ap (λ (o : Outcome Part). then o (after_id s p (sought_from s first ip) (sought_after s (sought_after s (sought_from s first ip) peer_id) port))) (e ∙ ap (λ (o : Outcome Hit). needed p o (id_of s)) c)
 
 -- an entry's number against how many there are
 module _ (x : Outcome PeerEntry) (count n : ℕ) where
@@ -246,21 +189,14 @@ module _ (x : Outcome PeerEntry) (count n : ℕ) where
   pub no-count : count ≤ n → refused 31 0 ≡ cond (ltb n count) x (refused 31 0)
   no-count h = rw (le-ltb n count h)
 
--- interval and peers, as the code goes through them
-module _ (s : List ℕ) (at : ℕ) (i p : Sought) (a : seek_paper i ≡ sought_from s at interval) (b : seek_paper p ≡ unless_long s (sought_after s (seek_paper i) peers)) (r : Natural) (e : natural_paper r ≡ unless_long s (needed 0 (seek_paper i) (natural_of 2147483647 s))) where
-  interval-limited : Limited s (seek_paper i)
-  interval-limited = sought-limited s (seek_paper i) at interval a
+-- a failure reason has no entries
+pub no-entry : (s : List ℕ) (n : ℕ) (x : Reply) → ((p : Peers) → x ≡ Compact p → ⊥) → ((p : Peers) → x ≡ Listing p → ⊥) → refused 31 0 ≡ then (reply_paper (Ok x)) (entry_at s n)
+no-entry s n (Failure p) f g = refl
+no-entry s n (Compact p) f g = absurd (f p refl)
+no-entry s n (Listing p) f g = absurd (g p refl)
 
-  by-interval : then (natural_paper r) (λ n. needed 0 (seek_paper p) (peers_of s n)) ≡ answered_of s at
-  by-interval =
-      ap (λ (o : Outcome ℕ). then o (λ n. needed 0 (seek_paper p) (peers_of s n))) (e ∙ sym (needed-limited s (seek_paper i) interval-limited 0 (natural_of 2147483647 s)))
-      ∙ ap (λ (o : Outcome Hit). then (needed 0 (seek_paper i) (natural_of 2147483647 s)) (λ n. needed 0 o (peers_of s n))) (b ∙ sym (after-limited s (seek_paper i) interval-limited peers))
-      ∙ ap (λ (o : Outcome Hit). then (needed 0 o (natural_of 2147483647 s)) (λ n. needed 0 (sought_after s o peers) (peers_of s n))) a
-
-  pub no-interval : {x : Refusal} → r ≡ NoNumber x → refusal x ≡ answered_of s at
-  no-interval g = ap (λ (z : Natural). then (natural_paper z) (λ n. needed 0 (seek_paper p) (peers_of s n))) (sym g) ∙ by-interval
-
-  pub the-peers : {n : ℕ} → r ≡ Number n → {w : Sought} → p ≡ w → needed 0 (seek_paper w) (peers_of s n) ≡ answered_of s at
-  the-peers {n} g h =
-      ap (λ (z : Sought). needed 0 (seek_paper z) (peers_of s n)) (sym h)
-      ∙ ap (λ (z : Natural). then (natural_paper z) (λ m. needed 0 (seek_paper p) (peers_of s m))) (sym g) ∙ by-interval
+-- an interval that is refused
+pub no-interval : (s : List ℕ) (at : ℕ) (i : Outcome Hit) {r : Refusal} → i ≡ sought_from s at interval → refusal r ≡ unless_long s (needed 0 i (natural_of 2147483647 s)) → refusal r ≡ answered_of s at
+no-interval s at i a e =
+    ap (λ (o : Outcome ℕ). then o (λ n. needed 0 (sought_after s (sought_from s at interval) peers) (peers_of s n)))
+    (e ∙ sym (needed-limited s i (sought-limited s i at interval a) 0 (natural_of 2147483647 s)) ∙ ap (λ (o : Outcome Hit). needed 0 o (natural_of 2147483647 s)) a)

@@ -1,13 +1,7 @@
 -- The entries of a reply can be walked, and asked for by number. Assumes nothing.
-use mathlib.Core.Path.{◌≡◌, refl, sym, ap, ◌∙◌, subst}
-use mathlib.Core.Bool.{Bool, true, false, cond}
-use mathlib.Core.List.{List, [], ◌∷◌, ◌++◌, append_assoc}
-use Prim.Native.Nat.{ℕ, zero, suc, ◌+◌, ◌*◌, ◌%◌, ◌≤◌}
-use native.Mathlib.Omega.{arith}
-use lib.Dec.{ltb, leb, eqb}
-use lib.ListN.{length, get_or, drop, length-append}
-use lib.Seq.{get_or-drop}
-use borrow.Author.Tests.{lt-ltb, le-ltb, ltb-true, ltb-false}
+use Rattle.refusal.proofs.Cases.{no_way}
+use Rattle.std.proofs.Common.{Result, ◌≡◌, refl, sym, ap, ◌∙◌, subst, Bool, true, false, cond, List, [], ◌∷◌, ◌++◌, append_assoc, ℕ, zero, suc, ◌+◌, ◌*◌, ◌%◌, ◌≤◌, arith, ltb, leb, eqb, length, get_or, drop, length-append, get_or-drop, lt-ltb, le-ltb, ltb-true, ltb-false}
+use Rattle.refusal.specs.declared.Refusal.{Refusal}
 use Rattle.refusal.specs.Paper.{Outcome, taken, refused, map, then}
 use Rattle.refusal.specs.Limits.{most_text}
 use Rattle.refusal.specs.declared.Part.{Part}
@@ -24,7 +18,7 @@ use Rattle.tracker.specs.Keys.{failure_reason, interval, peers}
 use Rattle.tracker.specs.Entries.{PeerEntry, packed, listed, PeerStep, packed_of, six_at, packed_at, listed_at, nth_at}
 use Rattle.tracker.specs.Reply.{Answer, failure, compact, listing, sixes, peer_at, peers_from, peers_at, reply_by, reply_in, reply_of, counted, nth_of}
 use Rattle.bencode_fields.specs.Nth.{nth}
-use Rattle.tracker.specs.Reading.{paper, entry_at}
+use Rattle.tracker.specs.Reading.{reply_paper, entry_at}
 use Rattle.tracker.specs.Walks.{Walks, ends, goes, Walked}
 use Rattle.tracker.specs.declared.Reply.{Reply}
 use Rattle.tracker.specs.declared.listed.Listed.{Listed}
@@ -59,8 +53,8 @@ packed-walks s (a ∷ b ∷ c ∷ d ∷ e ∷ f ∷ more) rest l p h t =
 module _ (s : List ℕ) (d : ℕ) (levels : d ≤ 32) where
   walks_more : (p : ℕ) (v : Value) (l : List PeerEntry) (o : Outcome Listed) (m : Outcome (List PeerEntry)) → listed_at s p ≡ map (λ x. record { entry = listed x; next = p + length (encode v) }) o
       → ((k : List PeerEntry) → m ≡ taken k → Walks (listed_at s) (p + length (encode v)) k) → then o (λ x. map (λ k. listed x ∷ k) m) ≡ taken l → Walks (listed_at s) p l
-  walks_more p v l (refused n q) m e more t = absurd (let z : ◌≡◌ {A = ℕ} 0 1 = cc in omega arith)
-  walks_more p v l (taken x) (refused n q) e more t = absurd (let z : ◌≡◌ {A = ℕ} 0 1 = cc in omega arith)
+  walks_more p v l (refused n q) m e more t = no_way (cc)
+  walks_more p v l (taken x) (refused n q) e more t = no_way (cc)
   walks_more p v l (taken x) (taken k) e more t =
       let w = goes p (listed x) (p + length (encode v)) k e (more k refl) in
       let z : listed x ∷ k ≡ l = cc in
@@ -87,10 +81,10 @@ packed-next s p x q e = by (ltb most_text (length s)) e
   where
     go : (b : Bool) → cond {A = Outcome PeerStep} b (taken (record { entry = packed (six_at s p); next = p + 6 })) (refused 1 (length s)) ≡ taken (record { entry = x; next = q }) → q ≡ p + 6
     go true f = let g : ◌≡◌ {A = PeerStep} (record { entry = packed (six_at s p); next = p + 6 }) (record { entry = x; next = q }) = cc in sym (ap (λ (z : PeerStep). z.next) g)
-    go false f = absurd (let z : ◌≡◌ {A = ℕ} 0 1 = cc in omega arith)
+    go false f = no_way (cc)
 
     by : (b : Bool) → cond {A = Outcome PeerStep} b (refused 8 0) (cond (leb (p + 6) (length s)) (taken (record { entry = packed (six_at s p); next = p + 6 })) (refused 1 (length s))) ≡ taken (record { entry = x; next = q }) → q ≡ p + 6
-    by true f = absurd (let z : ◌≡◌ {A = ℕ} 0 1 = cc in omega arith)
+    by true f = no_way (cc)
     by false f = go (leb (p + 6) (length s)) f
 
 pub packed-nth : (s : List ℕ) (p : ℕ) (l : List PeerEntry) → Walks (packed_at s) p l → (n : ℕ) → cond (ltb n (length l)) (map (λ x. x.entry) (packed_at s (p + n * 6))) (refused 31 0) ≡ nth n l
@@ -188,5 +182,5 @@ module _ (s : List ℕ) where
   nth-by n (refused m p) h = refl
 
   -- an entry by its number, as the code goes on from the reply r, known to be w
-  pub peer-by : (n : ℕ) {r w : Reply} → paper r ≡ map counted (reply_of s) → r ≡ w → then (paper w) (entry_at s n) ≡ then (reply_of s) (nth_of n)
-  peer-by n e g = ap (λ (x : Reply). then (paper x) (entry_at s n)) (sym g) ∙ ap (λ (o : Outcome (Answer ℕ)). then o (entry_at s n)) e ∙ nth-by n (reply_of s) fit
+  pub peer-by : (n : ℕ) {r w : Result Reply Refusal} → reply_paper r ≡ map counted (reply_of s) → r ≡ w → then (reply_paper w) (entry_at s n) ≡ then (reply_of s) (nth_of n)
+  peer-by n e g = ap (λ (x : Result Reply Refusal). then (reply_paper x) (entry_at s n)) (sym g) ∙ ap (λ (o : Outcome (Answer ℕ)). then o (entry_at s n)) e ∙ nth-by n (reply_of s) fit

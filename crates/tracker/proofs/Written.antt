@@ -1,17 +1,11 @@
 -- A compact reply, put part by part. Assumes nothing.
-use mathlib.Core.Path.{◌≡◌, sym, ap, ◌∙◌}
-use mathlib.Core.List.{List, [], ◌∷◌, ◌++◌, append_assoc}
-use Prim.Native.Nat.{ℕ, ◌+◌, ◌%◌, ◌<◌, ◌≤◌}
-use native.Mathlib.Omega.{arith}
-use lib.ListN.{length, length-append}
-use lib.Seq.{sets}
-use borrow.Author.Tests.{lt-ltb, le-ltb}
-use Rattle.refusal.specs.Paper.{Outcome, taken}
+use Rattle.std.proofs.Common.{Err, Result, ◌≡◌, sym, ap, ◌∙◌, List, [], ◌∷◌, ◌++◌, append_assoc, ℕ, ◌+◌, ◌%◌, ◌<◌, ◌≤◌, arith, length, length-append, lt-ltb, le-ltb}
+use Rattle.std.proofs.lemmas.List.Edits.{sets}
+use Rattle.refusal.specs.declared.Refusal.{Refusal}
+use Rattle.refusal.specs.Paper.{paper, Outcome, taken}
 use Rattle.bencode_scalar.specs.Written.{decimal, decimal_in, written_string}
 use Rattle.bencode.specs.Value.{encode}
-use Rattle.bencode_writer.specs.Put.{paper, left, put_of, place_past}
-use Rattle.bencode_writer.specs.declared.Put.{Put}
-use Rattle.bencode_writer.specs.declared.Put.TheVariants.{Refused}
+use Rattle.bencode_writer.specs.Put.{left, put_of, place_past}
 use Rattle.bencode_writer.proofs.Laws.{put_whole, put-none}
 use Rattle.bencode_writer.proofs.Runs.{ran-as, ran-put, put-ran}
 use Rattle.tracker.specs.Writing.{text_of, write_of}
@@ -62,17 +56,17 @@ module _ (o : List ℕ) (n : ℕ) (bs : List ℕ) (h : length (text_of n bs) ≤
 
 -- what the code answers, test by test
 module _ (n : ℕ) (bs o : List ℕ) where
-  pub write-range : {r : Put} → 2147483647 < n → r ≡ Refused (record { number = 11; place = 0 }) → left (paper r) o ≡ write_of n bs o
+  pub write-range : {r : Result ℕ Refusal} → 2147483647 < n → r ≡ Err (record { number = 11; place = 0 }) → left (paper r) o ≡ write_of n bs o
   unfolding write_of
   write-range h e = rw (e, lt-ltb 2147483647 n h)
 
   module _ (small : n ≤ 2147483647) where
-    pub write-peer : {r : Put} → 0 < length bs % 6 → r ≡ Refused (record { number = 15; place = 0 }) → left (paper r) o ≡ write_of n bs o
+    pub write-peer : {r : Result ℕ Refusal} → 0 < length bs % 6 → r ≡ Err (record { number = 15; place = 0 }) → left (paper r) o ≡ write_of n bs o
     unfolding write_of
     write-peer h e = rw (e, le-ltb 2147483647 n small, lt-ltb 0 (length bs % 6) h)
 
     module _ (whole : length bs % 6 ≤ 0) where
-      pub write-long : {r : Put} → 1048576 < length (text_of n bs) → r ≡ Refused (record { number = 8; place = 0 }) → left (paper r) o ≡ write_of n bs o
+      pub write-long : {r : Result ℕ Refusal} → 1048576 < length (text_of n bs) → r ≡ Err (record { number = 8; place = 0 }) → left (paper r) o ≡ write_of n bs o
       unfolding write_of
       write-long h e = rw (e, le-ltb 2147483647 n small, le-ltb 0 (length bs % 6) whole, lt-ltb 1048576 (length (text_of n bs)) h)
 
@@ -81,8 +75,8 @@ module _ (n : ℕ) (bs o : List ℕ) where
         unfolding write_of
         write-puts = rw (le-ltb 2147483647 n small, le-ltb 0 (length bs % 6) whole, le-ltb 1048576 (length (text_of n bs)) short)
 
-        pub write-none : {r : Put} → length o < length (text_of n bs) → r ≡ Refused (record { number = 37; place = 0 }) → left (paper r) o ≡ write_of n bs o
-        write-none h e = ap (λ (x : Put). left (paper x) o) e ∙ sym (write-puts ∙ put-none (text_of n bs) 0 o (omega arith))
+        pub write-none : {r : Result ℕ Refusal} → length o < length (text_of n bs) → r ≡ Err (record { number = 37; place = 0 }) → left (paper r) o ≡ write_of n bs o
+        write-none h e = ap (λ (x : Result ℕ Refusal). left (paper x) o) e ∙ sym (write-puts ∙ put-none (text_of n bs) 0 o (omega arith))
 
         pub write-whole : {at : ℕ} {out : List ℕ} → length (text_of n bs) ≤ length o → at ≡ length (text_of n bs) → out ≡ sets o 0 (text_of n bs) → left (taken at) out ≡ write_of n bs o
         write-whole h e f = rw (e, f) (let z : 0 + length (text_of n bs) ≡ length (text_of n bs) = omega arith in ap (λ (i : ℕ). left (taken i) (sets o 0 (text_of n bs))) (sym z) ∙ sym (write-puts ∙ put_whole (text_of n bs) 0 o (omega arith)))

@@ -1,6 +1,7 @@
 -- An entry at a place of any text, and the place past it. Assumes nothing: these are definitions.
 -- From `six_at` on they serve contracts on any text and need not be believed: `peer-is` and `count-is` of tracker/proofs/Agreeing.antt tie them to Reply.antt, and `walked` of Walking.antt to Walks.antt.
-use Rattle.std.specs.Prelude.{cond, List, ℕ, zero, suc, ◌+◌, ◌*◌, eqb, leb, length, get_or, drop}
+use Rattle.refusal.specs.declared.Refusal.{Refusal}
+use Rattle.std.specs.Prelude.{cond, List, ℕ, zero, suc, ◌+◌, ◌*◌, eqb, leb, length, get_or, drop, Err, Ok, Result}
 use Rattle.refusal.specs.Paper.{Outcome, taken, refused, refusal, map, then}
 use Rattle.refusal.specs.Numbers.{cut, peer}
 use Rattle.refusal.specs.Limits.{largest_port}
@@ -10,13 +11,7 @@ use Rattle.bencode_walk.specs.Walk.{Hit, skip_of}
 use Rattle.bencode_fields.specs.Looks.{string_of, natural_of, dictionary_of, needed, sought_from, sought_after}
 use Rattle.tracker.specs.Keys.{ip, peer_id, port}
 use Rattle.tracker.specs.declared.compact.Packed.{Packed}
-use Rattle.tracker.specs.declared.compact.Packing.{Packing}
-use Rattle.tracker.specs.declared.compact.Packing.TheVariants.{Is as PackedIs, Refused as PackedNot}
 use Rattle.tracker.specs.declared.listed.Listed.{Listed}
-use Rattle.tracker.specs.declared.listed.Listing.{Listing}
-use Rattle.tracker.specs.declared.listed.Listing.TheVariants.{Is, Refused as Not}
-use Rattle.tracker.specs.declared.listed.Counted.{Counted}
-use Rattle.tracker.specs.declared.listed.Counted.TheVariants.{Of, Refused as Bad}
 
 -- an entry of six bytes, or a dictionary's peer id, ip and port
 pub data PeerEntry : Type 0 where
@@ -32,9 +27,9 @@ pub record PeerStep : Type 0 where
 abbrev pub packed_of : ℕ → ℕ → ℕ → ℕ → ℕ → ℕ → Packed
 packed_of a b c d e f = record { address = record { 0 = a; 1 = b; 2 = c; 3 = d }; port = e * 256 + f }
 
-abbrev pub packed_paper : Packing → Outcome PeerStep
-packed_paper (PackedIs x q) = taken (record { entry = packed x; next = q })
-packed_paper (PackedNot r) = refusal r
+abbrev pub packed_paper : Result (Packed × ℕ) Refusal → Outcome PeerStep
+packed_paper (Ok (x, q)) = taken (record { entry = packed x; next = q })
+packed_paper (Err r) = refusal r
 
 -- the six bytes at p
 abbrev pub six_at : List ℕ → ℕ → Packed
@@ -43,9 +38,9 @@ six_at s p = packed_of (get_or s p 0) (get_or s (p + 1) 0) (get_or s (p + 2) 0) 
 unfoldable pub packed_at : List ℕ → ℕ → Outcome PeerStep
 packed_at s p = unless_long s (cond (leb (p + 6) (length s)) (taken (record { entry = packed (six_at s p); next = p + 6 })) (refused cut (length s)))
 
-abbrev pub listed_paper : Listing → Outcome PeerStep
-listed_paper (Is x q) = taken (record { entry = listed x; next = q })
-listed_paper (Not r) = refusal r
+abbrev pub listed_paper : Result (Listed × ℕ) Refusal → Outcome PeerStep
+listed_paper (Ok (x, q)) = taken (record { entry = listed x; next = q })
+listed_paper (Err r) = refusal r
 
 -- a peer id at q: a string of 20 bytes; another length is 15
 abbrev pub id_length : ℕ → Part → Outcome Part
@@ -76,11 +71,6 @@ peer_by s p first =
 
 unfoldable pub listed_at : List ℕ → ℕ → Outcome PeerStep
 listed_at s p = then (dictionary_of s p) (peer_by s p)
-
--- how many entries stand from p on, up to the e; f bounds their number
-abbrev pub count_paper : Counted → Outcome ℕ
-count_paper (Of n) = taken n
-count_paper (Bad r) = refusal r
 
 unfoldable pub count_from : ℕ → List ℕ → ℕ → Outcome ℕ
 count_from zero s p = refused cut (length s)

@@ -1,6 +1,7 @@
 -- The code's answers in document 01's words, and what its parts answer on any text. Assumes nothing: these are definitions.
 -- From `compact_of` on they serve inner contracts alone and need not be believed: `read_whole` of tracker/proofs/Agreeing.antt ties them to Reply.antt.
-use Rattle.std.specs.Prelude.{cond, List, ℕ, ◌+◌, ◌*◌, ◌/◌, ◌%◌, eqb, ltb}
+use Rattle.refusal.specs.declared.Refusal.{Refusal}
+use Rattle.std.specs.Prelude.{cond, List, ℕ, ◌+◌, ◌*◌, ◌/◌, ◌%◌, eqb, ltb, Err, Ok, Result}
 use Rattle.refusal.specs.Paper.{Outcome, taken, refused, refusal, map, then}
 use Rattle.refusal.specs.Numbers.{kind, peer, beyond}
 use Rattle.refusal.specs.Limits.{longest_interval}
@@ -10,15 +11,15 @@ use Rattle.tracker.specs.Keys.{failure_reason, interval, peers}
 use Rattle.tracker.specs.Entries.{PeerEntry, packed, listed, packed_at, count_of, nth_at}
 use Rattle.tracker.specs.Reply.{Answer, failure, compact, listing}
 use Rattle.tracker.specs.declared.Reply.{Reply}
-use Rattle.tracker.specs.declared.Reply.TheVariants.{Failure, Compact, List as Listing, Refused}
+use Rattle.tracker.specs.declared.Reply.TheVariants.{Failure, Compact, List as Listing}
 use Rattle.tracker.specs.declared.Found.{Found}
-use Rattle.tracker.specs.declared.Found.TheVariants.{Packed, Listed, Refused as NoPeer}
+use Rattle.tracker.specs.declared.Found.TheVariants.{Packed, Listed}
 
-abbrev pub paper : Reply → Outcome (Answer ℕ)
-paper (Failure p) = taken (failure p)
-paper (Compact p) = taken (compact p.interval p.first p.count)
-paper (Listing p) = taken (listing p.interval p.first p.count)
-paper (Refused r) = refusal r
+abbrev pub reply_paper : Result Reply Refusal → Outcome (Answer ℕ)
+reply_paper (Ok (Failure p)) = taken (failure p)
+reply_paper (Ok (Compact p)) = taken (compact p.interval p.first p.count)
+reply_paper (Ok (Listing p)) = taken (listing p.interval p.first p.count)
+reply_paper (Err r) = refusal r
 
 -- how many entries a reply has: none beside a failure reason or a refusal
 abbrev pub entries_in : Answer ℕ → ℕ
@@ -30,10 +31,10 @@ abbrev pub entry_count : Outcome (Answer ℕ) → ℕ
 entry_count (taken x) = entries_in x
 entry_count (refused n p) = 0
 
-abbrev pub peer_paper : Found → Outcome PeerEntry
-peer_paper (Packed x) = taken (packed x)
-peer_paper (Listed x) = taken (listed x)
-peer_paper (NoPeer r) = refusal r
+abbrev pub peer_paper : Result Found Refusal → Outcome PeerEntry
+peer_paper (Ok (Packed x)) = taken (packed x)
+peer_paper (Ok (Listed x)) = taken (listed x)
+peer_paper (Err r) = refusal r
 
 -- a string of m bytes at a, whose value stands at p
 abbrev pub compact_of : ℕ → ℕ → ℕ → ℕ → Outcome (Answer ℕ)

@@ -2,17 +2,14 @@
 #![tactic(auto)]
 
 ghost use Rattle.std.specs.Prelude.{◌≡◌};
-ghost use Rattle.refusal.specs.Numbers.{beyond};
 ghost use Rattle.refusal.specs.Paper.{then, map};
-ghost use Rattle.tracker.specs.Reply.{counted, reply_of, nth_of, compact, listing};
-ghost use Rattle.tracker.specs.Reading.{paper, entry_count, peer_paper, whole_of, top_of, failure_of, answered_of, peers_of, compact_of, listing_of, entry_at};
+ghost use Rattle.tracker.specs.Reply.{counted, reply_of, nth_of};
+ghost use Rattle.tracker.specs.Reading.{reply_paper, entry_count, peer_paper, whole_of, answered_of, peers_of, compact_of, listing_of};
 
-use bencode::Checked;
-use bencode_fields::{Bytes, Inside, Natural};
 use bencode_walk::{Seen, Sought};
-use compact::{Packed, Packing};
-use listed::{Counted, Listed, Listing};
-use refusal::{Part, Refusal, limit, number};
+use compact::Packed;
+use listed::Listed;
+use refusal::{Part, Refusal, limit, number, refuse};
 
 pub mod compact;
 pub mod listed;
@@ -26,7 +23,7 @@ pub struct Peers {
     pub first: usize,
 }
 
-// What a reply is: why it failed, its entries in one form or the other, or the refusal.
+// What a reply is: why it failed, or its entries in one form or the other.
 #[derive(Clone, Copy)]
 pub enum Reply {
     // The bytes of the failure reason.
@@ -35,165 +32,106 @@ pub enum Reply {
     Compact(Peers),
     // Dictionaries of a list.
     List(Peers),
-    Refused(Refusal),
 }
 
-// One entry of a reply in its form, or the refusal.
+// One entry of a reply in its form.
 #[derive(Clone, Copy)]
 pub enum Found {
     Packed(Packed),
     Listed(Listed),
-    Refused(Refusal),
 }
 
 // The reply that a text is.
-pub fn read(text: &[u8]) -> Reply
-    ensures { paper result ≡ map counted (reply_of text.now) }
+pub fn read(text: &[u8]) -> Result<Reply, Refusal>
+    ensures { reply_paper result ≡ map counted (reply_of text.now) }
 {
-    match bencode::check(text) {
-        Checked::Taken(_) => whole(text),
-        Checked::Refused(r) => Reply::Refused(r),
-    }
+    bencode::check(text)?;
+    whole(text)
 }
 
 // Entry number n of the reply that a text is.
-pub fn peer(text: &[u8], n: usize) -> Found
+pub fn peer(text: &[u8], n: usize) -> Result<Found, Refusal>
     ensures { peer_paper result ≡ then (reply_of text.now) (nth_of n) }
 {
-    match read(text) {
-        Reply::Failure(_) => no_peer(),
-        Reply::Compact(p) => packed_peer(text, p, n),
-        Reply::List(p) => listed_peer(text, p, n),
-        Reply::Refused(r) => Found::Refused(r),
+    match read(text)? {
+        Reply::Compact(p) if n < p.count => {
+            let (entry, _) = compact::nth(text, p.first, n)?;
+            Ok(Found::Packed(entry))
+        }
+        Reply::List(p) if n < p.count => {
+            let (entry, _) = listed::nth(text, p.first, n)?;
+            Ok(Found::Listed(entry))
+        }
+        _ => Err(refuse(number::BEYOND, 0)),
     }
 }
 
 // How many entries a reply has: 0 beside a failure reason.
-pub fn entries(reply: Reply) -> usize
-    ensures { result ≡ entry_count (paper reply) }
+pub fn entries(reply: Result<Reply, Refusal>) -> usize
+    ensures { result ≡ entry_count (reply_paper reply) }
 {
     match reply {
-        Reply::Failure(_) => 0,
-        Reply::Compact(p) => p.count,
-        Reply::List(p) => p.count,
-        Reply::Refused(_) => 0,
+        Ok(Reply::Compact(p) | Reply::List(p)) => p.count,
+        Ok(Reply::Failure(_)) | Err(_) => 0,
     }
 }
 
-fn whole(text: &[u8]) -> Reply
-    ensures { paper result ≡ whole_of text.now }
+// The reply of a text that is bencode. A failure reason is the whole answer.
+fn whole(text: &[u8]) -> Result<Reply, Refusal>
+    ensures { reply_paper result ≡ whole_of text.now }
 {
-    match bencode_fields::dictionary_at(text, 0) {
-        Inside::At(first) => top(text, first),
-        Inside::Refused(r) => Reply::Refused(r),
-    }
-}
-
-// A failure reason is the whole answer.
-fn top(text: &[u8], first: usize) -> Reply
-    ensures { paper result ≡ top_of text.now first }
-{
-    match bencode_walk::seek(text, first, b"failure reason") {
-        Sought::Found(_, value) => failure(text, value),
+    let first = bencode_fields::dictionary_at(text, 0)?;
+    match bencode_walk::seek(text, first, b"failure reason")? {
+        Sought::Found(_, value) => {
+            let reason = bencode_fields::string_at(text, value)?;
+            Ok(Reply::Failure(reason))
+        }
         Sought::Missing(at) => answered(text, at),
-        Sought::Refused(r) => Reply::Refused(r),
     }
 }
 
-fn failure(text: &[u8], at: usize) -> Reply
-    ensures { paper result ≡ failure_of text.now at }
-{
-    match bencode_fields::string_at(text, at) {
-        Bytes::Are(reason) => Reply::Failure(reason),
-        Bytes::Refused(r) => Reply::Refused(r),
-    }
-}
-
-fn answered(text: &[u8], at: usize) -> Reply
-    ensures { paper result ≡ answered_of text.now at }
+fn answered(text: &[u8], at: usize) -> Result<Reply, Refusal>
+    ensures { reply_paper result ≡ answered_of text.now at }
 {
     let intervals = bencode_walk::seek(text, at, b"interval");
     let peers = bencode_fields::seek_after(text, intervals, b"peers");
-    match bencode_fields::natural_under(text, 0, intervals, limit::INTERVAL as u64) {
-        Natural::Is(interval) => match peers {
-            Sought::Found(_, value) => peers_at(text, value, interval),
-            Sought::Missing(_) => refused(number::KIND, 0),
-            Sought::Refused(r) => Reply::Refused(r),
-        },
-        Natural::Refused(r) => Reply::Refused(r),
+    let interval = bencode_fields::natural_under(text, 0, intervals, limit::INTERVAL as u64)?;
+    match peers? {
+        Sought::Found(_, value) => peers_at(text, value, interval),
+        Sought::Missing(_) => Err(refuse(number::KIND, 0)),
     }
 }
 
-fn peers_at(text: &[u8], at: usize, interval: u64) -> Reply
-    ensures { paper result ≡ peers_of text.now interval at }
+fn peers_at(text: &[u8], at: usize, interval: u64) -> Result<Reply, Refusal>
+    ensures { reply_paper result ≡ peers_of text.now interval at }
 {
-    match bencode_walk::look(text, at) {
+    match bencode_walk::look(text, at)? {
         Seen::String(p, _) => packed_peers(p, at, interval),
         Seen::List(first) => listed_peers(text, first, interval),
-        Seen::Refused(r) => Reply::Refused(r),
-        _ => refused(number::KIND, at),
+        _ => Err(refuse(number::KIND, at)),
     }
 }
 
-fn packed_peers(p: Part, at: usize, interval: u64) -> Reply
-    ensures { paper result ≡ compact_of interval at p.from p.len }
+fn packed_peers(p: Part, at: usize, interval: u64) -> Result<Reply, Refusal>
+    ensures { reply_paper result ≡ compact_of interval at p.from p.len }
 {
-    let len = p.len;
-    if len % 6 == 0 {
-        return Reply::Compact(Peers {
-            interval,
-            count: len / 6,
-            first: p.from,
-        });
+    if p.len % 6 != 0 {
+        return Err(refuse(number::PEER, at));
     }
-    refused(number::PEER, at)
+    Ok(Reply::Compact(Peers {
+        interval,
+        count: p.len / 6,
+        first: p.from,
+    }))
 }
 
-fn listed_peers(text: &[u8], first: usize, interval: u64) -> Reply
-    ensures { paper result ≡ listing_of text.now interval first }
+fn listed_peers(text: &[u8], first: usize, interval: u64) -> Result<Reply, Refusal>
+    ensures { reply_paper result ≡ listing_of text.now interval first }
 {
-    match listed::count(text, first) {
-        Counted::Of(count) => Reply::List(Peers {
-            interval,
-            count,
-            first,
-        }),
-        Counted::Refused(r) => Reply::Refused(r),
-    }
-}
-
-fn packed_peer(text: &[u8], p: Peers, n: usize) -> Found
-    ensures { peer_paper result ≡ entry_at text.now n (compact p.interval p.first p.count) }
-{
-    if p.count <= n {
-        return no_peer();
-    }
-    match compact::nth(text, p.first, n) {
-        Packing::Is(x, _) => Found::Packed(x),
-        Packing::Refused(r) => Found::Refused(r),
-    }
-}
-
-fn listed_peer(text: &[u8], p: Peers, n: usize) -> Found
-    ensures { peer_paper result ≡ entry_at text.now n (listing p.interval p.first p.count) }
-{
-    if p.count <= n {
-        return no_peer();
-    }
-    match listed::nth(text, p.first, n) {
-        Listing::Is(x, _) => Found::Listed(x),
-        Listing::Refused(r) => Found::Refused(r),
-    }
-}
-
-fn refused(number: u8, place: usize) -> Reply
-    ensures { result ≡ Reply.Refused (record { number = number; place = place }) }
-{
-    Reply::Refused(refusal::refuse(number, place))
-}
-
-fn no_peer() -> Found
-    ensures { result ≡ Found.Refused (record { number = beyond; place = 0 }) }
-{
-    Found::Refused(refusal::refuse(number::BEYOND, 0))
+    let count = listed::count(text, first)?;
+    Ok(Reply::List(Peers {
+        interval,
+        count,
+        first,
+    }))
 }

@@ -1,37 +1,32 @@
 // Compact replies, written.
+ghost use Rattle.refusal.specs.Paper.{paper};
 ghost use Rattle.std.specs.Prelude.{◌≡◌, ◌+◌, ◌≤◌, length};
 ghost use Rattle.std.proofs.lemmas.List.Edits.{sets};
-ghost use Rattle.bencode_writer.specs.Put.{paper, left};
+ghost use Rattle.bencode_writer.specs.Put.{left};
 ghost use Rattle.tracker.specs.Writing.{text_of, write_of};
 
-use bencode_writer::Put;
-use refusal::{limit, number};
+use refusal::{Refusal, limit, number, refuse};
 
 // The reply with these seconds to wait and these entries, and the place past it.
-pub fn write(out: &mut [u8], interval: u64, peers: &[u8]) -> Put
+pub fn write(out: &mut [u8], interval: u64, peers: &[u8]) -> Result<usize, Refusal>
     ensures { left (paper result) out.new ≡ write_of interval peers.now out.old }
 {
     if (limit::INTERVAL as u64) < interval {
-        return refused(number::RANGE);
+        return Err(refuse(number::RANGE, 0));
     }
     if 0 < peers.len() % 6 {
-        return refused(number::PEER);
+        return Err(refuse(number::PEER, 0));
     }
-    // A test of its own, since the sum of all lengths may not fit.
-    if limit::TEXT < peers.len() {
-        return refused(number::LONG);
-    }
-    let size = bencode_writer::digits(interval)
-        + bencode_writer::digits(peers.len() as u64)
-        + peers.len()
-        + 22;
+    let numbers = bencode_writer::digits(interval) + bencode_writer::digits(peers.len() as u64);
+    // Where the sum does not fit, the text is too long by far.
+    let size = peers.len().saturating_add(numbers + 22);
     if limit::TEXT < size {
-        return refused(number::LONG);
+        return Err(refuse(number::LONG, 0));
     }
     if out.len() < size {
-        return refused(number::ROOM);
+        return Err(refuse(number::ROOM, 0));
     }
-    Put::To(put_all(out, interval, peers))
+    Ok(put_all(out, interval, peers))
 }
 
 fn put_all(out: &mut [u8], interval: u64, peers: &[u8]) -> usize
@@ -43,10 +38,4 @@ fn put_all(out: &mut [u8], interval: u64, peers: &[u8]) -> usize
     let c = bencode_writer::end(bencode_writer::literal(out, b, b"e5:peers"));
     let d = bencode_writer::end(bencode_writer::string(out, c, peers));
     bencode_writer::end(bencode_writer::literal(out, d, b"e"))
-}
-
-fn refused(number: u8) -> Put
-    ensures { result ≡ Put.Refused (record { number = number; place = 0 }) }
-{
-    Put::Refused(refusal::refuse(number, 0))
 }

@@ -13,7 +13,7 @@ use Rattle.bencode_scalar.specs.Written.{decimal}
 use Rattle.bencode_writer.specs.Escaped.{small_hex}
 use Rattle.bencode_writer.specs.Put.{left, put_of, place_past, Ran}
 use Rattle.bencode_writer.proofs.Escapes.{hex-length}
-use Rattle.bencode_writer.proofs.Runs.{ran_then, ran-as, ran-room, put-ran, Going, going_start, going_more, going_end, going-length}
+use Rattle.bencode_writer.proofs.Runs.{ran_then, ran-as, ran-room, put-ran, Going, going_more, going_end}
 use Rattle.torrent_lines.specs.Lines.{refused_line}
 use Rattle.torrent_lines.proofs.Running.{digits-most}
 use Rattle.week.specs.Rules.{package_at, week_of}
@@ -96,15 +96,7 @@ pub record Lined (s : List ℕ) (n : ℕ) (o p : List ℕ) (at i : ℕ) : Type 0
   pub going : Going (lines_from s n 0) 0 o (lines_from s (n - i) i) at p
 
 module _ (s : List ℕ) (n : ℕ) (o : List ℕ) where
-  pub lined-start : Lined s n o o 0 0
-  lined-start =
-      let z : n ≡ n - 0 = omega arith in
-      record { within = omega arith; near = omega arith; going = rw (sym z) (going_start (lines_from s n 0) 0 o) }
-
   module _ {p : List ℕ} {at i : ℕ} (g : Lined s n o p at i) where
-    pub lined-length : length p ≡ length o
-    lined-length = going-length g.going
-
     pub lined-more : (e : Entry) → i < n → package_at s i ≡ taken e → {x : List ℕ} {f t : ℕ} → x ≡ bytes_at s e.hash → f ≡ e.files → t ≡ e.total
         → {r : ℕ} {q : List ℕ} → Ran (package_line x f t) at p r q × (r ≤ at + 83) → Lined s n o q r (i + 1)
     lined-more e h b {x} {f} {t} u v w m = record {

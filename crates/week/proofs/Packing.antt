@@ -1,4 +1,5 @@
 -- What the writer of a week's file has put and hashed so far. Assumes nothing.
+use Rattle.std.specs.Prelude.{Err, Ok, Result}
 use mathlib.Core.Path.{◌≡◌, refl, sym, ap, ◌∙◌, subst}
 use mathlib.Core.Bool.{Bool, true, false}
 use mathlib.Core.List.{List, [], ◌∷◌, ◌++◌, append_assoc, append-nil}
@@ -12,7 +13,7 @@ use lib.Seq.{sets, length-sets, length-take-le, take_all, take-set-le, drop-set-
 use Rattle.refusal.specs.BigEndian.{bytes_of, number_written}
 use Rattle.refusal.specs.Limits.{most_text, most_packages}
 use Rattle.refusal.specs.Numbers.{long, room, week}
-use Rattle.refusal.specs.Paper.{Outcome, taken, refused, refusal, map, then}
+use Rattle.refusal.specs.Paper.{paper, Outcome, taken, refused, refusal, map, then}
 use Rattle.refusal.specs.Parts.{bytes_at}
 use Rattle.refusal.specs.declared.Refusal.{Refusal}
 use Rattle.refusal.proofs.Bytes.{length-bytes_of}
@@ -20,15 +21,10 @@ use Rattle.refusal.proofs.Cases.{same_test}
 use Rattle.refusal.proofs.Outcomes.{not_taken, not-refused, same-refusal}
 use Rattle.refusal.proofs.Places.{stands}
 use Rattle.bencode_writer.specs.Put.{left, puts, put_of, place_past, Ran}
-use Rattle.bencode_writer.specs.Put.{paper as put_paper}
-use Rattle.bencode_writer.specs.declared.Put.{Put}
-use Rattle.bencode_writer.specs.declared.Put.TheVariants.{Refused}
 use Rattle.bencode_writer.proofs.Laws.{put-done, put-nothing}
 use Rattle.bencode_writer.proofs.Runs.{ran_then, ran-as, ran-length, put-ran, Going, going_start, going_more, going_end, going-room}
 use Rattle.hash_sha1.specs.Sha1.{sha1}
-use Rattle.hash_sha1.specs.Digest.{Left as HashLeft, paper as hash_paper}
-use Rattle.hash_sha1.specs.declared.Hashed.{Hashed}
-use Rattle.hash_sha1.specs.declared.Hashed.TheVariants.{Written, Refused as Unhashed}
+use Rattle.hash_sha1.specs.Digest.{Left as HashLeft}
 use Rattle.hash_sha1.proofs.Determined.{digest-length}
 use Rattle.torrent_blocks.specs.Rules.{sum}
 use Rattle.torrent_blocks.proofs.Steps.{sum-parts, before-step}
@@ -185,11 +181,11 @@ module _ (ns bs l : List ℕ) (e : sum ns ≡ length bs) where
         ran-as (ran_then two last) (append_assoc (bytes_of 4 (length ns)) (entries_by_of (table_bytes (length ns)) ns l) bs ∙ sym file-by)
 
 module _ (ps : List Package) {c : ℕ} (e : c ≡ length (file_of ps)) (o : List ℕ) where
-  pub file-long : {b : Put} → most_text < c → b ≡ Refused (record { number = long; place = 0 }) → left (put_paper b) o ≡ puts o (short_file ps)
+  pub file-long : {b : Result ℕ Refusal} → most_text < c → b ≡ Err (record { number = long; place = 0 }) → left (paper b) o ≡ puts o (short_file ps)
   file-long l f = rw (f, lt-ltb most_text (length (file_of ps)) (omega arith))
 
   module _ (l : c ≤ most_text) where
-    pub file-room : {b : Put} → length o < c → b ≡ Refused (record { number = room; place = 0 }) → left (put_paper b) o ≡ puts o (short_file ps)
+    pub file-room : {b : Result ℕ Refusal} → length o < c → b ≡ Err (record { number = room; place = 0 }) → left (paper b) o ≡ puts o (short_file ps)
     file-room h f = rw (le-ltb most_text (length (file_of ps)) (omega arith)) (put-nothing (file_of ps) 0 o (omega arith) f)
 
     pub file-whole : {q : ℕ} {p : List ℕ} → c ≤ length o → Ran (file_of ps) 0 o q p → left (taken q) p ≡ puts o (short_file ps)
@@ -294,16 +290,16 @@ module _ (ns bs k₀ : List ℕ) where
       part : take (at + get_or ns i 0 - at) (drop at bs) ≡ take (get_or ns i 0) (drop at bs)
       part = let e : at + get_or ns i 0 - at ≡ get_or ns i 0 = omega arith in ap (λ (n : ℕ). take n (drop at bs)) e
 
-      module _ (x : Hashed) (l : List ℕ) (o : HashesOne (take (at + get_or ns i 0 - at) (drop at bs)) i k x l) where
-        pub packed-refused : {r : Refusal} → x ≡ Unhashed r → packages_from [] (cut_by ns bs) ≡ refusal r
+      module _ (x : Result (Unit {0}) Refusal) (l : List ℕ) (o : HashesOne (take (at + get_or ns i 0 - at) (drop at bs)) i k x l) where
+        pub packed-refused : {r : Refusal} → x ≡ Err r → packages_from [] (cut_by ns bs) ≡ refusal r
         packed-refused {r} e =
-            let f : package_in (runs_at k 0 20 i) (take (get_or ns i 0) (drop at bs)) ≡ refusal r = rw part at (subst (λ (y : Hashed). HashesOne (take (at + get_or ns i 0 - at) (drop at bs)) i k y l) e o) in
+            let f : package_in (runs_at k 0 20 i) (take (get_or ns i 0) (drop at bs)) ≡ refusal r = rw part at (subst (λ (y : Result (Unit {0}) Refusal). HashesOne (take (at + get_or ns i 0 - at) (drop at bs)) i k y l) e o) in
             packed-by ∙ rw f
 
-        pub packed-next : x ≡ Written → 20 * i + 20 ≤ length k → Packed ns bs k₀ (i + 1) (at + get_or ns i 0) l
-        packed-next e m = go (rw part at (subst (λ (y : Hashed). HashesOne (take (at + get_or ns i 0 - at) (drop at bs)) i k y l) e o))
+        pub packed-next : x ≡ (Ok tt) → 20 * i + 20 ≤ length k → Packed ns bs k₀ (i + 1) (at + get_or ns i 0) l
+        packed-next e m = go (rw part at (subst (λ (y : Result (Unit {0}) Refusal). HashesOne (take (at + get_or ns i 0 - at) (drop at bs)) i k y l) e o))
           where
-            go : HashesOne (take (get_or ns i 0) (drop at bs)) i k Written l → Packed ns bs k₀ (i + 1) (at + get_or ns i 0) l
+            go : HashesOne (take (get_or ns i 0) (drop at bs)) i k (Ok tt) l → Packed ns bs k₀ (i + 1) (at + get_or ns i 0) l
             go (h', f, n, g) =
                 let p : Package = record { body = take (get_or ns i 0) (drop at bs); hash = h' } in
                 let before : List Package = packages_by (take i ns) bs k in
@@ -338,46 +334,46 @@ module _ (b o h : List ℕ) where
       go (taken t) r = not_taken (ap (λ (y : HashLeft). y.answer) (e ∙ info-hash b o t r))
       go (refused m q) r = let f = same-refusal (ap (λ (y : HashLeft). y.answer) (e ∙ ap (hashed_in b o) r)) in r ∙ rw (f.0, f.1)
 
-  module _ (i : ℕ) (k l : List ℕ) (y : Hashed) (e : left (hash_paper y) h ≡ info_hash_of b o) where
-    pub one_kept : (x : Hashed) → y ≡ Written → KeepsOne h i k x l → HashesOne b i k x l
+  module _ (i : ℕ) (k l : List ℕ) (y : Result (Unit {0}) Refusal) (e : left (paper y) h ≡ info_hash_of b o) where
+    pub one_kept : (x : Result (Unit {0}) Refusal) → y ≡ (Ok tt) → KeepsOne h i k x l → HashesOne b i k x l
     unfolding package_in
     one_kept x j = go x
       where
         r : (t : Torrent) × (read_of b ≡ taken t) × (h ≡ sha1 (bytes_at b t.info))
         r = hash-read (rw j at e)
 
-        go : (x : Hashed) → KeepsOne h i k x l → HashesOne b i k x l
-        go Written (f, g) = (h, rw (r.1, sym r.2, f), ap length r.2 ∙ digest-length (bytes_at b r.0.info), g)
-        go (Unhashed z) (f, g) = rw (r.1, sym r.2, f, g)
+        go : (x : Result (Unit {0}) Refusal) → KeepsOne h i k x l → HashesOne b i k x l
+        go (Ok tt) (f, g) = (h, rw (r.1, sym r.2, f), ap length r.2 ∙ digest-length (bytes_at b r.0.info), g)
+        go (Err z) (f, g) = rw (r.1, sym r.2, f, g)
 
-    pub one-refused : {z : Refusal} {x : Hashed} → y ≡ Unhashed z → x ≡ Unhashed (record { number = z.number; place = 0 }) → HashesOne b i k x l
+    pub one-refused : {z : Refusal} {x : Result (Unit {0}) Refusal} → y ≡ Err z → x ≡ Err (record { number = z.number; place = 0 }) → HashesOne b i k x l
     unfolding package_in
-    one-refused j f = subst (λ (v : Hashed). HashesOne b i k v l) (sym f) (rw (hash-unread (rw j at e)))
+    one-refused j f = subst (λ (v : Result (Unit {0}) Refusal). HashesOne b i k v l) (sym f) (rw (hash-unread (rw j at e)))
 
 -- the hash is one of those before
-pub given-before : (h : List ℕ) (i : ℕ) (k : List ℕ) {t : Bool} {x : Hashed} → t ≡ among h (runs_at k 0 20 i) → t ≡ true → x ≡ Unhashed (record { number = week; place = 0 }) → KeepsOne h i k x k
-given-before h i k e f g = subst (λ (y : Hashed). KeepsOne h i k y k) (sym g) (sym e ∙ f, refl)
+pub given-before : (h : List ℕ) (i : ℕ) (k : List ℕ) {t : Bool} {x : Result (Unit {0}) Refusal} → t ≡ among h (runs_at k 0 20 i) → t ≡ true → x ≡ Err (record { number = week; place = 0 }) → KeepsOne h i k x k
+given-before h i k e f g = subst (λ (y : Result (Unit {0}) Refusal). KeepsOne h i k y k) (sym g) (sym e ∙ f, refl)
 
 -- ---- the whole call
 
-module _ (ns bs l o : List ℕ) (x : Hashed) (s : Hashes bs ns x l) where
-  pub all-hashed : x ≡ Written → puts o (short_file (packages_by ns bs l)) ≡ puts o (then (packages_from [] (cut_by ns bs)) short_file)
-  all-hashed e = ap (λ (y : Outcome (List Package)). puts o (then y short_file)) (sym (subst (λ (y : Hashed). Hashes bs ns y l) e s))
+module _ (ns bs l o : List ℕ) (x : Result (Unit {0}) Refusal) (s : Hashes bs ns x l) where
+  pub all-hashed : x ≡ (Ok tt) → puts o (short_file (packages_by ns bs l)) ≡ puts o (then (packages_from [] (cut_by ns bs)) short_file)
+  all-hashed e = ap (λ (y : Outcome (List Package)). puts o (then y short_file)) (sym (subst (λ (y : Result (Unit {0}) Refusal). Hashes bs ns y l) e s))
 
-  pub not-hashed : {r : Refusal} → x ≡ Unhashed r → left (refusal r) o ≡ puts o (then (packages_from [] (cut_by ns bs)) short_file)
-  not-hashed e = ap (λ (y : Outcome (List Package)). puts o (then y short_file)) (sym (subst (λ (y : Hashed). Hashes bs ns y l) e s))
+  pub not-hashed : {r : Refusal} → x ≡ Err r → left (refusal r) o ≡ puts o (then (packages_from [] (cut_by ns bs)) short_file)
+  not-hashed e = ap (λ (y : Outcome (List Package)). puts o (then y short_file)) (sym (subst (λ (y : Result (Unit {0}) Refusal). Hashes bs ns y l) e s))
 
 module _ (bs ns o : List ℕ) where
-  pub count_none : {b : Put} → length ns ≡ 0 → b ≡ Refused (record { number = week; place = 0 }) → left (put_paper b) o ≡ write_of bs ns o
+  pub count_none : {b : Result ℕ Refusal} → length ns ≡ 0 → b ≡ Err (record { number = week; place = 0 }) → left (paper b) o ≡ write_of bs ns o
   unfolding written_of
   count_none e f = rw (f, lt-leb 1 (length ns) (omega arith))
 
-  pub count-over : {b : Put} → most_packages < length ns → b ≡ Refused (record { number = week; place = 0 }) → left (put_paper b) o ≡ write_of bs ns o
+  pub count-over : {b : Result ℕ Refusal} → most_packages < length ns → b ≡ Err (record { number = week; place = 0 }) → left (paper b) o ≡ write_of bs ns o
   unfolding written_of
   count-over e f = rw (f, le-leb 1 (length ns) (omega arith), lt-leb (length ns) most_packages e)
 
   module _ (l : 1 ≤ length ns) (m : length ns ≤ most_packages) where
-    pub sum-wrong : {b : Put} {t : Bool} → t ≡ eqb (sum ns) (length bs) → t ≡ false → b ≡ Refused (record { number = week; place = 0 }) → left (put_paper b) o ≡ write_of bs ns o
+    pub sum-wrong : {b : Result ℕ Refusal} {t : Bool} → t ≡ eqb (sum ns) (length bs) → t ≡ false → b ≡ Err (record { number = week; place = 0 }) → left (paper b) o ≡ write_of bs ns o
     unfolding written_of
     sum-wrong e f g = let s : eqb (sum ns) (length bs) ≡ false = sym e ∙ f in rw (g, le-leb 1 (length ns) l, le-leb (length ns) most_packages m, s)
 

@@ -1,4 +1,6 @@
 -- What the code's tests say of a package, and the sums over all packages. Assumes nothing.
+use Rattle.std.specs.Prelude.{Ok, Result}
+use Rattle.refusal.specs.declared.Refusal.{Refusal}
 use mathlib.Core.Path.{◌≡◌, refl, sym, ap, ◌∙◌}
 use mathlib.Core.Bool.{Bool}
 use mathlib.Core.List.{List}
@@ -12,7 +14,7 @@ use lib.Dec.{ltb, leb}
 use Rattle.refusal.specs.BigEndian.{big_endian_of, fits}
 use Rattle.refusal.specs.Limits.{most_text}
 use Rattle.refusal.specs.Numbers.{long, week, beyond}
-use Rattle.refusal.specs.Paper.{Outcome, taken, refused, map, then}
+use Rattle.refusal.specs.Paper.{paper, Outcome, taken, refused, map, then}
 use Rattle.refusal.specs.Parts.{bytes_at}
 use Rattle.refusal.proofs.Cases.{same_or, less-or, pick_yes, pick_no}
 use Rattle.refusal.proofs.Outcomes.{not_taken, then-taken, map-taken}
@@ -28,12 +30,9 @@ use Rattle.torrent_laws.proofs.Within.{read_small}
 use Rattle.torrent_lines.proofs.Taken.{provided-taken}
 use Rattle.week.specs.File.{table_bytes}
 use Rattle.week.specs.Rules.{offset_place, length_place, hash_place, hash_at, field_at, count_of, moved, entry_for, body_of, placed_of, within_of, package_at, none, plus, sums_from, entries_of, table_of, week_of, package_of}
-use Rattle.week.specs.Reading.{paper}
 use Rattle.week.specs.Noted.{Noted}
 use Rattle.week.specs.declared.Entry.{Entry}
 use Rattle.week.specs.declared.Week.{Week}
-use Rattle.week.specs.declared.Weekly.{Weekly}
-use Rattle.week.specs.declared.Weekly.TheVariants.{Is}
 use Rattle.week.proofs.Tabling.{count_most}
 
 taken-same : {A : Type 0} {x y : A} → taken x ≡ taken y → x ≡ y
@@ -61,9 +60,6 @@ hashed-by s h t i from e b q =
 
 abbrev pub body_in : ℕ → ℕ → List ℕ → List ℕ → Outcome Torrent → Outcome Entry
 body_in i from s h o = then (moved from o) (hashed_in i from (length s) s h)
-
-pub body-by : (s h : List ℕ) (i from : ℕ) {o : Outcome Torrent} → o ≡ read_of s → body_in i from s h o ≡ body_in i from s h (read_of s)
-body-by s h i from e = ap (body_in i from s h) e
 
 -- a body that is in the file
 pub body_at : (s : List ℕ) (i from n : ℕ) → from + n ≤ length s
@@ -177,11 +173,6 @@ pub record Sums (s : List ℕ) (n room : ℕ) (l : List ℕ) (files total i : �
   pub same-room : length l ≡ room
   pub noted : Noted s i l
 
-pub sums-start : (s : List ℕ) (n : ℕ) (l : List ℕ) → Sums s n (length l) l 0 0 0
-sums-start s n l =
-    let z : n - 0 ≡ n = omega arith in
-    record { whole = ap (λ (k : ℕ). sums_from s k 0 (none n)) z; within = omega arith; few = omega arith; small = omega arith; same-room = refl; noted = λ j h. absurd (omega arith) }
-
 sums-step : (s : List ℕ) (k i : ℕ) (w : Week) → sums_from s (suc k) i w ≡ then (package_at s i) (λ e. sums_from s k (i + 1) (plus w e))
 unfolding sums_from
 sums-step s k i w = rw (add-one i)
@@ -199,7 +190,7 @@ module _ (s : List ℕ) (n room : ℕ) (l : List ℕ) (files total i : ℕ) (h :
   unfolding sums_from
   sums-end b = let z : n - i ≡ 0 = omega arith in ap (λ (m : ℕ). sums_from s m i so_far) (sym z) ∙ h.whole
 
-  pub sums_kept : n ≤ i → 512 ≤ room → (r : Weekly) → r ≡ Is so_far → (w : Week) → paper r ≡ taken w → (w.count ≡ n) × (512 ≤ length l) × Noted s n l
+  pub sums_kept : n ≤ i → 512 ≤ room → (r : Result Week Refusal) → r ≡ Ok so_far → (w : Week) → paper r ≡ taken w → (w.count ≡ n) × (512 ≤ length l) × Noted s n l
   sums_kept b c r e w q =
       let m = ap (λ (x : Week). x.count) (taken-same (ap paper (sym e) ∙ q)) in
       (sym m, omega (arith, h.same-room), λ j d. h.noted j (omega arith))

@@ -1,26 +1,26 @@
 -- The table of a week's file as the code goes through it: the hashes given before, and the entries. Assumes nothing.
 use mathlib.Core.Path.{◌≡◌, refl, sym, ap, ◌∙◌}
 use mathlib.Core.Logic.{◌≢◌}
-use mathlib.Core.Bool.{Bool, true, false, not, ◌&&◌, ◌||◌}
+use mathlib.Core.Bool.{Bool, true, false, not, ◌&&◌, ◌||◌, or-true}
 use mathlib.Core.List.{List}
 use Prim.Native.Nat.{ℕ, zero, suc, ◌+◌, ◌*◌, ◌-◌, ◌≤◌, ◌<◌}
-use native.Mathlib.Nat.{mul-suc, mul-le-mul_left, sub-zero}
+use native.Mathlib.Nat.{sub-zero}
 use native.Mathlib.Numerals.{add-one}
 use native.Mathlib.Omega.{arith}
 use borrow.Author.Tests.{leb-true, le-leb, lt-leb, lt-ltb, le-ltb, eq-eqb, ne_eqb}
 use lib.Dec.{leb, eqb}
 use lib.ListN.{length, take, drop}
-use Rattle.refusal.specs.BigEndian.{Bytes, fits, number_at}
+use Rattle.refusal.specs.BigEndian.{fits, number_at}
 use Rattle.refusal.specs.Limits.{most_text}
 use Rattle.refusal.specs.Numbers.{week, long}
 use Rattle.refusal.specs.Paper.{Outcome, taken, refused, refusal, map, then}
 use Rattle.refusal.specs.declared.Refusal.{Refusal}
-use Rattle.refusal.specs.declared.big_endian.Number.TheVariants.{Is, Cut}
-use Rattle.refusal.proofs.Cases.{both, both_true, and-not}
+use Rattle.std.specs.Prelude.{Some, None}
+use Rattle.refusal.proofs.Cases.{less-or, both}
 use Rattle.refusal.proofs.Outcomes.{not_taken, then-taken}
-use Rattle.refusal.proofs.Places.{below, is-there, is_cut}
-use Rattle.hash_sha1.specs.Digest.{same}
-use Rattle.hash_sha1.proofs.Same.{same_test}
+use Rattle.refusal.proofs.Places.{is-there, is_cut}
+use Rattle.hash_sha1.proofs.Same.{same-pointwise}
+use lib.Pointwise.{pointwise}
 use Rattle.torrent_metainfo.specs.Rules.{provided}
 use Rattle.torrent_lines.proofs.Taken.{provided-taken}
 use Rattle.week.specs.File.{table_bytes}
@@ -28,33 +28,21 @@ use Rattle.week.specs.Rules.{offset_place, length_place, hash_place, field_at, c
 
 -- ---- a field
 
-pub field_is : (s : List ℕ) (p : ℕ) {n : ℕ} → number_at 4 s p ≡ Is n → field_at s p ≡ taken n
+pub field_is : (s : List ℕ) (p : ℕ) {n : ℕ} → number_at 4 s p ≡ Some n → field_at s p ≡ taken n
 unfolding field_at
 field_is s p e = let x = is-there 4 p s e in rw (le-leb (p + 4) (length s) x.0, x.1)
 
-pub field_cut : (s : List ℕ) (p : ℕ) → number_at 4 s p ≡ Cut → field_at s p ≡ refused week p
+pub field_cut : (s : List ℕ) (p : ℕ) → number_at 4 s p ≡ None → field_at s p ≡ refused week p
 unfolding field_at
 field_cut s p e = rw (lt-leb (p + 4) (length s) (is_cut 4 p s e))
 
-pub field_below : (s : List ℕ) (p : ℕ) {n : ℕ} → Bytes s → number_at 4 s p ≡ Is n → n < 4294967296
-field_below s p h e = below 4 p s h (is-there 4 p s e).1
-
 -- ---- the number of packages
 
-pub below-range : (n : ℕ) → n < 1 → (leb 1 n && leb n 256) ≡ false
-below-range n h = rw (lt-leb 1 n h)
-
-pub above-range : (n : ℕ) → 256 < n → (leb 1 n && leb n 256) ≡ false
-above-range n h = and-not (leb 1 n) (leb n 256) (λ e. lt-leb n 256 h)
-
-pub within-range : (n : ℕ) → 1 ≤ n → n ≤ 256 → (leb 1 n && leb n 256) ≡ true
-within-range n h l = both_true (leb 1 n) (leb n 256) (le-leb 1 n h) (le-leb n 256 l)
-
-pub count-is : (s : List ℕ) {n : ℕ} → number_at 4 s 0 ≡ Is n → provided (leb 1 n && leb n 256) week 0 (taken n) ≡ count_of s
+pub count-is : (s : List ℕ) {n : ℕ} → number_at 4 s 0 ≡ Some n → provided (leb 1 n && leb n 256) week 0 (taken n) ≡ count_of s
 unfolding count_of
 count-is s e = rw (field_is s 0 e)
 
-pub count_cut : (s : List ℕ) → number_at 4 s 0 ≡ Cut → refused week 0 ≡ count_of s
+pub count_cut : (s : List ℕ) → number_at 4 s 0 ≡ None → refused week 0 ≡ count_of s
 unfolding count_of
 count_cut s e = rw (field_cut s 0 e)
 
@@ -72,38 +60,37 @@ count_most s {n} e = let x = then-taken (field_at s 0) (λ (m : ℕ). provided (
 
 -- ---- the hashes given before
 
--- a run of 20 bytes is within what all of them take
-pub run-there : (from stride left count n : ℕ) → 20 ≤ stride → left < count → from + stride * count ≤ n → from + stride * left + 20 ≤ n
-run-there from stride left count n w l h = omega (arith, mul-le-mul_left {m = suc left} {n = count} stride (omega arith), mul-suc stride left)
+-- whether the 20 bytes of run i are the hash, as the code tests it
+abbrev pub tested : List ℕ → List ℕ → ℕ → ℕ → ℕ → Bool
+tested h s from stride i = pointwise eqb (take (from + stride * i + 20 - (from + stride * i)) (drop (from + stride * i) s)) h
 
--- a test tells whether the 20 bytes from a place on are the hash
-abbrev pub Tests : List ℕ → List ℕ → ℕ → Bool → Type 0
-Tests h s at t = (t ≡ true → take (at + 20 - at) (drop at s) ≡ h) × (take (at + 20 - at) (drop at s) ≡ h → t ≡ true)
+module _ (h s : List ℕ) (from stride : ℕ) where
+  -- one more run: its test comes first
+  pub run_more : (i : ℕ) {t : Bool} → t ≡ tested h s from stride i → among h (runs_at s from stride (i + 1)) ≡ (t || among h (runs_at s from stride i))
+  unfolding among runs_at
+  run_more i e =
+      let at : ℕ = from + stride * i in
+      let w : at + 20 - at ≡ 20 = omega arith in
+      let q = e ∙ same-pointwise (take (at + 20 - at) (drop at s)) h in
+      rw (add-one, q, w)
 
--- one more run: its test comes first
-run_more : (h s : List ℕ) (from stride left : ℕ) {t : Bool} → 0 < left → Tests h s (from + stride * (left - 1)) t
-    → among h (runs_at s from stride left) ≡ (t || among h (runs_at s from stride (left - 1)))
-unfolding among runs_at
-run_more h s from stride zero p f = absurd (omega arith)
-run_more h s from stride (suc k) {t} p f =
-    let at : ℕ = from + stride * (suc k - 1) in
-    let e : suc k - 1 ≡ k = omega arith in
-    let w : at + 20 - at ≡ 20 = omega arith in
-    let q : t ≡ same (take (at + 20 - at) (drop at s)) h = same_test (take (at + 20 - at) (drop at s)) h t f.0 f.1 in
-    rw (q, w, e)
+  -- a hash among the first runs is among all
+  run_among : (i count : ℕ) → i ≤ count → among h (runs_at s from stride i) ≡ true → among h (runs_at s from stride count) ≡ true
+  unfolding among runs_at
+  run_among i zero l e = let z : i ≡ 0 = omega arith in rw z at e
+  run_among i (suc k) l e =
+      less-or k i (λ m. let z : i ≡ suc k = omega arith in rw z at e)
+      (λ m. rw (run_among i k m e) (or-true _))
 
-pub run-hit : (h s : List ℕ) (from stride left : ℕ) {t : Bool} → 0 < left → Tests h s (from + stride * (left - 1)) t → t ≡ true → true ≡ among h (runs_at s from stride left)
-run-hit h s from stride left p f e = rw (run_more h s from stride left p f, e)
+  pub run-hit : (i count : ℕ) {t : Bool} → i < count → t ≡ tested h s from stride i → t ≡ true → true ≡ among h (runs_at s from stride count)
+  run-hit i count l e f = sym (run_among (i + 1) count (omega arith) (rw (run_more i e, f)))
 
-pub run-other : (h s : List ℕ) (from stride left : ℕ) {t : Bool} → 0 < left → Tests h s (from + stride * (left - 1)) t → t ≡ false
-    → among h (runs_at s from stride (left - 1)) ≡ among h (runs_at s from stride left)
-run-other h s from stride left p f e = rw (run_more h s from stride left p f, e)
+  pub run-other : (i : ℕ) {t : Bool} → among h (runs_at s from stride i) ≡ false → t ≡ tested h s from stride i → t ≡ false → among h (runs_at s from stride (i + 1)) ≡ false
+  run-other i l e f = rw (run_more i e, f, l)
 
--- no run at all
-pub no_run : (h s : List ℕ) (from stride left : ℕ) → left ≤ 0 → false ≡ among h (runs_at s from stride left)
-unfolding among runs_at
-no_run h s from stride zero l = refl
-no_run h s from stride (suc k) l = absurd (omega arith)
+  pub no_run : among h (runs_at s from stride 0) ≡ false
+  unfolding among runs_at
+  no_run = refl
 
 -- ---- an entry
 
@@ -115,41 +102,25 @@ fresh_of s i past = provided (fits 20 s (hash_place i)) week (hash_place i) (pro
 abbrev sized_of : List ℕ → ℕ → ℕ → Outcome ℕ
 sized_of s i at = then (field_at s (length_place i)) (λ n. provided (leb (at + n) (length s)) week (length_place i) (fresh_of s i (at + n)))
 
--- whether its hash is given before, as the code lends the hash
-abbrev given_at : List ℕ → ℕ → Bool
-given_at s i = among (take (hash_place i + 20 - hash_place i) (drop (hash_place i) s)) (hashes_before s i)
-
 module _ (s : List ℕ) (i : ℕ) where
-  given-at : given_at s i ≡ among (hash_at s i) (hashes_before s i)
-  given-at = let e : hash_place i + 20 - hash_place i ≡ 20 = omega arith in rw e
-
-  pub hash-cut : (past : ℕ) → length s < hash_place i + 20 → refused week (hash_place i) ≡ fresh_of s i past
-  hash-cut past h = rw (lt-leb (hash_place i + 20) (length s) h)
-
-  pub hash-given : (past : ℕ) {t : Bool} → hash_place i + 20 ≤ length s → t ≡ given_at s i → t ≡ true → refused week (hash_place i) ≡ fresh_of s i past
-  hash-given past h e f = rw (le-leb (hash_place i + 20) (length s) h, sym given-at ∙ sym e ∙ f)
-
-  pub hash-fresh : (past : ℕ) {t : Bool} → hash_place i + 20 ≤ length s → t ≡ given_at s i → t ≡ false → taken past ≡ fresh_of s i past
-  hash-fresh past h e f = rw (le-leb (hash_place i + 20) (length s) h, sym given-at ∙ sym e ∙ f)
-
-  pub length_cut : (at : ℕ) → number_at 4 s (length_place i) ≡ Cut → refused week (length_place i) ≡ sized_of s i at
+  pub length_cut : (at : ℕ) → number_at 4 s (length_place i) ≡ None → refused week (length_place i) ≡ sized_of s i at
   length_cut at e = rw (field_cut s (length_place i) e)
 
-  pub length_over : (at : ℕ) {n : ℕ} → number_at 4 s (length_place i) ≡ Is n → length s < at + n → refused week (length_place i) ≡ sized_of s i at
+  pub length_over : (at : ℕ) {n : ℕ} → number_at 4 s (length_place i) ≡ Some n → length s < at + n → refused week (length_place i) ≡ sized_of s i at
   length_over at {n} e h = rw (field_is s (length_place i) e, lt-leb (at + n) (length s) h)
 
-  pub length-right : (at : ℕ) {n : ℕ} → number_at 4 s (length_place i) ≡ Is n → at + n ≤ length s → fresh_of s i (at + n) ≡ sized_of s i at
+  pub length-right : (at : ℕ) {n : ℕ} → number_at 4 s (length_place i) ≡ Some n → at + n ≤ length s → fresh_of s i (at + n) ≡ sized_of s i at
   length-right at {n} e h = rw (field_is s (length_place i) e, le-leb (at + n) (length s) h)
 
-  pub offset-cut : (at : ℕ) → number_at 4 s (offset_place i) ≡ Cut → refused week (offset_place i) ≡ entry_of s i at
+  pub offset-cut : (at : ℕ) → number_at 4 s (offset_place i) ≡ None → refused week (offset_place i) ≡ entry_of s i at
   unfolding entry_of
   offset-cut at e = rw (field_cut s (offset_place i) e)
 
-  pub offset-other : (at : ℕ) {n : ℕ} → number_at 4 s (offset_place i) ≡ Is n → n ≢ at → refused week (offset_place i) ≡ entry_of s i at
+  pub offset-other : (at : ℕ) {n : ℕ} → number_at 4 s (offset_place i) ≡ Some n → n ≢ at → refused week (offset_place i) ≡ entry_of s i at
   unfolding entry_of
   offset-other at {n} e h = rw (field_is s (offset_place i) e, ne_eqb n at h)
 
-  pub offset-right : (at : ℕ) {n : ℕ} → number_at 4 s (offset_place i) ≡ Is n → n ≡ at → sized_of s i at ≡ entry_of s i at
+  pub offset-right : (at : ℕ) {n : ℕ} → number_at 4 s (offset_place i) ≡ Some n → n ≡ at → sized_of s i at ≡ entry_of s i at
   unfolding entry_of
   offset-right at {n} e h = rw (field_is s (offset_place i) e, eq-eqb n at h)
 

@@ -1,7 +1,6 @@
 -- The definitions, a file for each subject.
 pub mod File
 pub mod Rules
-pub mod Reading
 pub mod Writing
 pub mod Lines
 pub mod Noted

@@ -1,24 +1,16 @@
 -- What inner functions of the reader and of the writer keep and answer. Assumes nothing: these are definitions.
 -- They serve inner contracts alone and need not be believed: the public contracts speak of Rules.antt and Writing.antt.
-use Rattle.std.specs.Prelude.{◌≡◌, true, false, List, [], ◌∷◌, ◌++◌, ℕ, ◌+◌, ◌*◌, ◌<◌, length, get_or, take, drop}
+use Rattle.refusal.specs.declared.Refusal.{Refusal}
+use Rattle.std.specs.Prelude.{◌≡◌, true, false, List, [], ◌∷◌, ◌++◌, ℕ, ◌+◌, ◌*◌, ◌<◌, length, get_or, take, drop, Err, Ok, Result}
 use Rattle.std.proofs.lemmas.List.Edits.{sets}
 use Rattle.refusal.specs.BigEndian.{bytes_of}
 use Rattle.refusal.specs.Numbers.{week}
 use Rattle.refusal.specs.Paper.{Outcome, taken, refusal}
 use Rattle.bencode.specs.Decode.{unless_long}
-use Rattle.hash_sha1.specs.declared.Hashed.{Hashed}
-use Rattle.hash_sha1.specs.declared.Hashed.TheVariants.{Written, Refused as Unhashed}
 use Rattle.week.specs.File.{Package, file_of}
 use Rattle.week.specs.Rules.{runs_at, among, package_at}
 use Rattle.week.specs.Writing.{cut_by, package_in, packages_from}
 use Rattle.week.specs.declared.Entry.{Entry}
-use Rattle.week.specs.declared.entries.Ended.{Ended}
-use Rattle.week.specs.declared.entries.Ended.TheVariants.{At, Refused}
-
--- the place past an entry's body, or why the entry is wrong
-abbrev pub ended_paper : Ended → Outcome ℕ
-ended_paper (At p) = taken p
-ended_paper (Refused r) = refusal r
 
 -- files and bytes of each of the first n packages stand in the list two by two
 abbrev pub Noted : List ℕ → ℕ → List ℕ → Type 0
@@ -39,16 +31,16 @@ entries_by_of at [] l = []
 entries_by_of at (n ∷ ns) l = bytes_of 4 at ++ (bytes_of 4 n ++ (take 20 l ++ entries_by_of (at + n) ns (drop 20 l)))
 
 -- all bodies are hashed and their hashes kept; or the refusal
-abbrev pub Hashes : List ℕ → List ℕ → Hashed → List ℕ → Type 0
-Hashes bs ns Written l = packages_from [] (cut_by ns bs) ≡ taken (packages_by ns bs l)
-Hashes bs ns (Unhashed r) l = packages_from [] (cut_by ns bs) ≡ refusal r
+abbrev pub Hashes : List ℕ → List ℕ → Result (Unit {0}) Refusal → List ℕ → Type 0
+Hashes bs ns (Ok tt) l = packages_from [] (cut_by ns bs) ≡ taken (packages_by ns bs l)
+Hashes bs ns (Err r) l = packages_from [] (cut_by ns bs) ≡ refusal r
 
 -- the same of one body, after i others whose hashes stand in the list k, which leaves l
-abbrev pub HashesOne : List ℕ → ℕ → List ℕ → Hashed → List ℕ → Type 0
-HashesOne b i k Written l = (h : List ℕ) × (package_in (runs_at k 0 20 i) b ≡ taken (record { body = b; hash = h })) × (length h ≡ 20) × (l ≡ sets k (20 * i) h)
-HashesOne b i k (Unhashed r) l = package_in (runs_at k 0 20 i) b ≡ refusal r
+abbrev pub HashesOne : List ℕ → ℕ → List ℕ → Result (Unit {0}) Refusal → List ℕ → Type 0
+HashesOne b i k (Ok tt) l = (h : List ℕ) × (package_in (runs_at k 0 20 i) b ≡ taken (record { body = b; hash = h })) × (length h ≡ 20) × (l ≡ sets k (20 * i) h)
+HashesOne b i k (Err r) l = package_in (runs_at k 0 20 i) b ≡ refusal r
 
 -- and of one hash
-abbrev pub KeepsOne : List ℕ → ℕ → List ℕ → Hashed → List ℕ → Type 0
-KeepsOne h i k Written l = (among h (runs_at k 0 20 i) ≡ false) × (l ≡ sets k (20 * i) h)
-KeepsOne h i k (Unhashed r) l = (among h (runs_at k 0 20 i) ≡ true) × (r ≡ record { number = week; place = 0 })
+abbrev pub KeepsOne : List ℕ → ℕ → List ℕ → Result (Unit {0}) Refusal → List ℕ → Type 0
+KeepsOne h i k (Ok tt) l = (among h (runs_at k 0 20 i) ≡ false) × (l ≡ sets k (20 * i) h)
+KeepsOne h i k (Err r) l = (among h (runs_at k 0 20 i) ≡ true) × (r ≡ record { number = week; place = 0 })

@@ -7,16 +7,14 @@ mod entries;
 mod lines;
 mod writing;
 
+ghost use Rattle.refusal.specs.Paper.{paper};
 ghost use Rattle.std.specs.Prelude.{◌≡◌, ◌≤◌};
 ghost use Rattle.bencode_writer.specs.Put.{left, Ran};
-ghost use Rattle.bencode_writer.specs.Put.{paper as put_paper};
 ghost use Rattle.week.specs.Rules.{table_of, package_at, week_of, package_of};
-ghost use Rattle.week.specs.Reading.{paper, count_paper, told_paper};
 ghost use Rattle.week.specs.Writing.{write_of};
 ghost use Rattle.week.specs.Lines.{listing_of, most_listing};
 
-use bencode_writer::Put;
-use refusal::{Part, Refusal, limit, number};
+use refusal::{Part, Refusal, limit, number, refuse};
 
 // What is told of a package: where in the file its hash and its body stand, how many files the body is of, and their bytes.
 #[derive(Clone, Copy)]
@@ -35,29 +33,8 @@ pub struct Week {
     pub total: u64,
 }
 
-// How many packages a table has.
-#[derive(Clone, Copy)]
-pub enum Counted {
-    Are(usize),
-    Refused(Refusal),
-}
-
-// A package, or the refusal.
-#[derive(Clone, Copy)]
-pub enum Told {
-    Is(Entry),
-    Refused(Refusal),
-}
-
-// What a week's file comes to, or the refusal.
-#[derive(Clone, Copy)]
-pub enum Weekly {
-    Is(Week),
-    Refused(Refusal),
-}
-
 // What a week's file comes to: its table is checked, then body by body.
-pub fn read(file: &[u8]) -> Weekly
+pub fn read(file: &[u8]) -> Result<Week, Refusal>
     ensures { paper result ≡ week_of file.now }
 {
     let mut counts = [0u64; 512];
@@ -65,59 +42,53 @@ pub fn read(file: &[u8]) -> Weekly
 }
 
 // Package `index` of a week's file, from 0: all of the file is checked.
-pub fn package(file: &[u8], index: usize) -> Told
-    ensures { told_paper result ≡ package_of file.now index }
+pub fn package(file: &[u8], index: usize) -> Result<Entry, Refusal>
+    ensures { paper result ≡ package_of file.now index }
 {
     let mut counts = [0u64; 512];
-    match bodies::summed(file, &mut counts) {
-        Weekly::Is(w) => bodies::chosen(file, w.count, index, &counts),
-        Weekly::Refused(r) => Told::Refused(r),
-    }
+    let w = bodies::summed(file, &mut counts)?;
+    bodies::chosen(file, w.count, index, &counts)
 }
 
 // Checks the table alone, and that the last body ends the file. With `package_at` for each package it reads a file as
 // `read` does, each body once.
-pub fn table(file: &[u8]) -> Counted
-    ensures { count_paper result ≡ table_of file.now }
+pub fn table(file: &[u8]) -> Result<usize, Refusal>
+    ensures { paper result ≡ table_of file.now }
 {
     if limit::TEXT < file.len() {
-        return entries::uncounted(number::LONG, 0);
+        return Err(refuse(number::LONG, 0));
     }
-    match entries::count(file) {
-        Counted::Are(n) => entries::all(file, n),
-        Counted::Refused(r) => Counted::Refused(r),
-    }
+    let n = entries::count(file)?;
+    entries::all(file, n)
 }
 
 // Package `index` of any file by its own entry: that is in the table, its body is in the file and a torrent, and its hash
 // is that torrent's. No other entry is looked at.
-pub fn package_at(file: &[u8], index: usize) -> Told
-    ensures { told_paper result ≡ package_at file.now index }
+pub fn package_at(file: &[u8], index: usize) -> Result<Entry, Refusal>
+    ensures { paper result ≡ package_at file.now index }
 {
     if limit::TEXT < file.len() {
-        return bodies::untold(number::LONG, 0);
+        return Err(refuse(number::LONG, 0));
     }
-    match entries::count(file) {
-        Counted::Are(n) => bodies::within(file, n, index),
-        Counted::Refused(r) => Told::Refused(r),
-    }
+    let n = entries::count(file)?;
+    bodies::within(file, n, index)
 }
 
 // Writes the file of bodies that stand one after the other in `bodies` and have these lengths to the front of `out`, and
 // tells how many bytes it has. A refusal leaves `out` as it was.
-pub fn write(bodies: &[u8], lengths: &[u64], out: &mut [u8]) -> Put
-    ensures { left (put_paper result) out.new ≡ write_of bodies.now lengths.now out.old }
+pub fn write(bodies: &[u8], lengths: &[u64], out: &mut [u8]) -> Result<usize, Refusal>
+    ensures { left (paper result) out.new ≡ write_of bodies.now lengths.now out.old }
 {
     if lengths.len() == 0 {
-        return writing::refused(number::WEEK);
+        return Err(refuse(number::WEEK, 0));
     }
     if limit::PACKAGES < lengths.len() {
-        return writing::refused(number::WEEK);
+        return Err(refuse(number::WEEK, 0));
     }
     if writing::add_up(lengths, bodies.len()) {
         return writing::written(bodies, lengths, out);
     }
-    writing::refused(number::WEEK)
+    Err(refuse(number::WEEK, 0))
 }
 
 // Writes the lines that are printed for a file to the front of `out`, which has room for all: one for each package and one

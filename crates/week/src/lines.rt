@@ -6,7 +6,7 @@ ghost use Rattle.week.specs.Rules.{week_of};
 ghost use Rattle.week.specs.Lines.{most_listing, package_line, last_line, listing_of};
 ghost use Rattle.week.specs.Noted.{Noted};
 
-use crate::{Week, Weekly, bodies};
+use crate::{Week, bodies};
 use bencode_writer::{decimal, end, literal, small_hex};
 
 // Puts all lines to the front of `out`, and tells how many bytes they have.
@@ -17,8 +17,8 @@ pub fn put(file: &[u8], out: &mut [u8]) -> usize
 {
     let mut counts = [0u64; 512];
     match bodies::summed(file, &mut counts) {
-        Weekly::Is(w) => all(file, w, &counts, out),
-        Weekly::Refused(r) => torrent_lines::refused(r.number, r.place, out),
+        Ok(w) => all(file, w, &counts, out),
+        Err(r) => torrent_lines::refused(r.number, r.place, out),
     }
 }
 
@@ -29,8 +29,7 @@ fn all(file: &[u8], w: Week, counts: &[u64], out: &mut [u8]) -> usize
     ensures most { result ≤ most_listing }
 {
     let mut at = 0;
-    let mut i = 0;
-    while i < w.count {
+    for i in 0..w.count {
         let place = 12 + 28 * i;
         at = line(
             &file[place..place + 20],
@@ -39,7 +38,6 @@ fn all(file: &[u8], w: Week, counts: &[u64], out: &mut [u8]) -> usize
             out,
             at,
         );
-        i += 1;
     }
     last(w, out, at)
 }

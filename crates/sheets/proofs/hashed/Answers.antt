@@ -11,8 +11,8 @@ use Rattle.sheets.specs.Rules.{sheet_of}
 use Rattle.sheets.specs.Reading.{address_in}
 use Rattle.sheets.proofs.hashed.Goals as goal
 
-pub returns-in-Written : goal.returns-in-Written
-returns-in-Written c = λ h. c.listed.ensures ∙ ap (λ (b : List ℕ). address_in c.args.announce (sheet_of b c.args.sheet.now)) ((digest-written _ _ c.digest.result c.digest.ensures (subst (λ (m : List ℕ). length m ≤ longest_piece) (sym c.bytes.ensures.same) h)).1 ∙ ap sha1 c.bytes.ensures.same)
+pub returns-in-Ok : goal.returns-in-Ok
+returns-in-Ok c = λ h. c.listed.ensures ∙ ap (λ (b : List ℕ). address_in c.args.announce (sheet_of b c.args.sheet.now)) ((digest-written _ _ c.digest.result c.digest.ensures (subst (λ (m : List ℕ). length m ≤ longest_piece) (sym c.bytes.ensures.same) h)).1 ∙ ap sha1 c.bytes.ensures.same)
 
-pub returns-in-Refused : goal.returns-in-Refused
-returns-in-Refused c = λ h. let w = (digest-written _ _ c.digest.result c.digest.ensures (subst (λ (m : List ℕ). length m ≤ longest_piece) (sym c.bytes.ensures.same) h)).0 in let r = c.in-Refused.is in no_way (cc)
+pub returns-in-Err : goal.returns-in-Err
+returns-in-Err c = λ h. let w = (digest-written _ _ c.digest.result c.digest.ensures (subst (λ (m : List ℕ). length m ≤ longest_piece) (sym c.bytes.ensures.same) h)).0 in let r = c.in-Err.is in no_way (cc)

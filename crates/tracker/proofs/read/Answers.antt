@@ -1,11 +1,13 @@
 -- `tracker::read` meets its contract. Assumes nothing.
-use Rattle.bencode.specs.Answers.{paper}
+use Rattle.std.proofs.Common.{◌≡◌, Err, ap, ◌∙◌, rules}
+use Rattle.tracker.specs.Reading.{reply_paper}
 use Rattle.tracker.proofs.Agreeing.{read_whole, read-refused}
-use mathlib.Core.Path.{sym, ap, ◌∙◌}
 use Rattle.tracker.proofs.read.Goals as goal
 
-pub returns-in-Taken : goal.returns-in-Taken
-returns-in-Taken c = c.whole.ensures ∙ read_whole c.args.text.now _ (ap paper (sym c.in-Taken.is) ∙ c.check.ensures.meets)
+pub returns-in_err-check : goal.returns-in_err-check
+returns-in_err-check c =
+    let e : c.from_residual.result ≡ Err c.in_err-check.field-0.0 = search rules in
+    ap reply_paper e ∙ read-refused c.args.text.now _ c.in_err-check.ensures.meets
 
-pub returns-in-Refused : goal.returns-in-Refused
-returns-in-Refused c = read-refused c.args.text.now _ (ap paper (sym c.in-Refused.is) ∙ c.check.ensures.meets)
+pub returns : goal.returns
+returns c = c.whole.ensures ∙ read_whole c.args.text.now _ c.in_ok-check.ensures.meets

@@ -1,10 +1,6 @@
 -- `links::values::decode` meets its contract. Assumes nothing.
-use Prim.Native.Nat.{◌-◌}
 use Rattle.links.proofs.Decoding.{Decoding}
 use Rattle.links.proofs.values.decode.Given as goal
 
 abbrev pub invariant-loop-i : goal.invariant-loop-i
 invariant-loop-i l = Decoding l.text l.from l.size l.initial.out l.at l.i l.out
-
-abbrev pub decreases-loop-i : goal.decreases-loop-i
-decreases-loop-i l = l.size - l.i

@@ -1,10 +1,6 @@
 -- `links::values::hash` meets its contract. Assumes nothing.
-use Prim.Native.Nat.{◌-◌}
 use Rattle.links.proofs.Decoding.{Hashing}
 use Rattle.links.proofs.values.hash.Given as goal
 
 abbrev pub invariant-loop-i : goal.invariant-loop-i
 invariant-loop-i l = Hashing l.text l.from l.initial.hash l.i l.hash
-
-abbrev pub decreases-loop-i : goal.decreases-loop-i
-decreases-loop-i l = 20 - l.i

@@ -8,11 +8,11 @@ use Rattle.links.proofs.Putting.{escaped-length}
 use native.Mathlib.Omega.{arith}
 use Rattle.links.proofs.writing.escaped_size.Goals as goal
 
-pub loop-i-init : goal.loop-i-init
-loop-i-init c = (omega arith, omega arith, omega arith)
+pub loop-b-init : goal.loop-b-init
+loop-b-init c = (omega arith, omega arith)
 
-pub loop-i-preserved : goal.loop-i-preserved
-loop-i-preserved c = (omega arith, omega (arith, escaped-length c.args.bytes.now c.loop-i.i (omega arith), c.loop-i.invariant.1, c.byte_size-count.ensures.0), omega (arith, c.loop-i.invariant.2, c.byte_size-count.ensures.1))
+pub loop-b-preserved : goal.loop-b-preserved
+loop-b-preserved c = (omega (arith, escaped-length c.args.bytes.now c.loop-b.b-index (omega arith), c.loop-b.invariant.0, c.byte_size-count.ensures.0), omega (arith, c.loop-b.invariant.1, c.byte_size-count.ensures.1))
 
 pub returns : goal.returns
-returns c = (omega (arith, c.loop-i.invariant.1, ap (length {A = ℕ}) (escaped-none unreserved c.args.bytes.now c.loop-i.i (omega arith))), omega (arith, c.loop-i.invariant.2))
+returns c = (omega (arith, c.loop-b.invariant.0, ap (length {A = ℕ}) (escaped-none unreserved c.args.bytes.now c.loop-b.b-index (omega arith))), omega (arith, c.loop-b.invariant.1))

@@ -8,17 +8,17 @@ use Rattle.links.proofs.Putting.{escaped-length}
 use native.Mathlib.Omega.{arith}
 use Rattle.links.proofs.writing.value.Goals as goal
 
-pub loop-i-init : goal.loop-i-init
-loop-i-init c = (omega arith, going_start _ _ _)
+pub loop-b-init : goal.loop-b-init
+loop-b-init c = going_start _ _ _
 
 pub byte-to-requires : goal.byte-to-requires
-byte-to-requires c = omega (arith, going-room c.loop-i.invariant.1 (ran-room (put-ran c.args.lead.now c.args.at c.args.out.now (omega (arith, c.requires, length-append c.args.lead.now (escaped c.args.bytes.now))) c.literal.ensures c.end-to.ensures) (escaped c.args.bytes.now) c.requires), escaped-length c.args.bytes.now c.loop-i.i (omega arith))
+byte-to-requires c = omega (arith, going-room c.loop-b.invariant (ran-room (put-ran c.args.lead.now c.args.at c.args.out.now (omega (arith, c.requires, length-append c.args.lead.now (escaped c.args.bytes.now))) c.literal.ensures c.end-to.ensures) (escaped c.args.bytes.now) c.requires), escaped-length c.args.bytes.now c.loop-b.b-index (omega arith))
 
-pub loop-i-preserved : goal.loop-i-preserved
-loop-i-preserved c = (omega arith, going_more _ _ _ c.loop-i.invariant.1 _ _ (escaped-more unreserved c.args.bytes.now c.loop-i.i (omega arith)) c.byte-to.ensures)
+pub loop-b-preserved : goal.loop-b-preserved
+loop-b-preserved c = going_more _ _ _ c.loop-b.invariant _ _ (escaped-more unreserved c.args.bytes.now c.loop-b.b-index (omega arith)) c.byte-to.ensures
 
 pub shape_of-out : goal.shape_of-out
-shape_of-out c = going-length c.loop-i.invariant.1 ∙ ran-length (put-ran c.args.lead.now c.args.at c.args.out.now (omega (arith, c.requires, length-append c.args.lead.now (escaped c.args.bytes.now))) c.literal.ensures c.end-to.ensures)
+shape_of-out c = going-length c.loop-b.invariant ∙ ran-length (put-ran c.args.lead.now c.args.at c.args.out.now (omega (arith, c.requires, length-append c.args.lead.now (escaped c.args.bytes.now))) c.literal.ensures c.end-to.ensures)
 
 pub returns : goal.returns
-returns c = ran_then (put-ran c.args.lead.now c.args.at c.args.out.now (omega (arith, c.requires, length-append c.args.lead.now (escaped c.args.bytes.now))) c.literal.ensures c.end-to.ensures) (going_end _ _ _ c.loop-i.invariant.1 (escaped-none unreserved c.args.bytes.now c.loop-i.i (omega arith)))
+returns c = ran_then (put-ran c.args.lead.now c.args.at c.args.out.now (omega (arith, c.requires, length-append c.args.lead.now (escaped c.args.bytes.now))) c.literal.ensures c.end-to.ensures) (going_end _ _ _ c.loop-b.invariant (escaped-none unreserved c.args.bytes.now c.loop-b.b-index (omega arith)))

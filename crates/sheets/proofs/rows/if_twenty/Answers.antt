@@ -1,4 +1,5 @@
 -- `sheets::rows::if_twenty` meets its contract. Assumes nothing.
+use Rattle.std.specs.Prelude.{Err}
 use mathlib.Core.Path.{refl, ap}
 use native.Mathlib.Omega.{arith}
 use lib.Dec.{eqb}
@@ -11,4 +12,4 @@ pub returns-then-len-eq20 : goal.returns-then-len-eq20
 returns-then-len-eq20 c = pick_yes _ (eqb c.args.len 20) (eq-eqb c.args.len 20 (omega arith)) refl
 
 pub returns : goal.returns
-returns c = pick_no _ (eqb c.args.len 20) (ne_eqb _ _ c.if-len-eq20.false) (ap listed_as c.refused.ensures)
+returns c = pick_no _ (eqb c.args.len 20) (ne_eqb _ _ c.if-len-eq20.false) (ap listed_as (ap Err c.refuse.ensures))

@@ -1,19 +1,21 @@
 -- `sheets::rows::read` meets its contract. Assumes nothing.
-use mathlib.Core.Path.{sym, ap, ◌∙◌}
-use native.Mathlib.Omega.{arith}
-use Rattle.bencode.specs.Answers.{paper}
+use Rattle.std.specs.Prelude.{◌≡◌, Err}
+use Rattle.std.proofs.Common.{ap, ◌∙◌, arith, rules}
+use Rattle.refusal.specs.Paper.{refusal}
 use Rattle.sheets.specs.Reading.{listed_as}
 use Rattle.sheets.proofs.Passing.{read-long, read-unread, read-other}
 use Rattle.sheets.proofs.rows.read.Goals as goal
 
 pub returns-then-sheet-gt-TEXT : goal.returns-then-sheet-gt-TEXT
-returns-then-sheet-gt-TEXT c = ap listed_as c.refused.ensures ∙ read-long c.args.sheet.now c.args.hash.now c.if-sheet-gt-TEXT.true
+returns-then-sheet-gt-TEXT c = ap refusal c.refuse.ensures ∙ read-long c.args.sheet.now c.args.hash.now c.if-sheet-gt-TEXT.true
 
 pub returns-then-opens : goal.returns-then-opens
 returns-then-opens c = c.pass.ensures (omega arith) (c.opens.ensures.0 c.if-opens.true).0 (c.opens.ensures.0 c.if-opens.true).1
 
-pub returns-in-Taken : goal.returns-in-Taken
-returns-in-Taken c = ap listed_as c.refused-in-Taken.ensures ∙ read-other c.args.sheet.now c.args.hash.now _ (ap paper (sym c.in-Taken.is) ∙ c.check.ensures.meets) (c.opens.ensures.1 c.if-opens.false)
+pub returns : goal.returns
+returns c = ap refusal c.refuse-2.ensures ∙ read-other c.args.sheet.now c.args.hash.now _ c.in_ok-check.ensures.meets (c.opens.ensures.1 c.if-opens.false)
 
-pub returns-in-Refused : goal.returns-in-Refused
-returns-in-Refused c = read-unread c.args.sheet.now c.args.hash.now c.in-Refused.r (ap paper (sym c.in-Refused.is) ∙ c.check.ensures.meets)
+pub returns-in_err-check : goal.returns-in_err-check
+returns-in_err-check c =
+    let e : c.from_residual.result ≡ Err c.in_err-check.field-0.0 = search rules in
+    ap listed_as e ∙ read-unread c.args.sheet.now c.args.hash.now _ c.in_err-check.ensures.meets

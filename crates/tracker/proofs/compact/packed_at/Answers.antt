@@ -1,20 +1,14 @@
 -- `tracker::compact::packed_at` meets its contract. Assumes nothing.
-use Prim.Native.Nat.{◌+◌}
-use Rattle.tracker.specs.Entries.{packed, packed_paper}
-use Rattle.tracker.proofs.Steps.{packed-long, packed-whole, packed-cut}
-use Rattle.refusal.specs.Paper.{taken}
-use native.Mathlib.Omega.{arith}
-use mathlib.Core.Path.{ap, ◌∙◌}
+use Rattle.std.proofs.Common.{ap, ◌∙◌, arith}
+use Rattle.refusal.specs.Paper.{refusal}
+use Rattle.tracker.proofs.Steps.{packed-long, rest-cut, rest-whole}
 use Rattle.tracker.proofs.compact.packed_at.Goals as goal
 
 pub returns-then-text-gt-TEXT : goal.returns-then-text-gt-TEXT
-returns-then-text-gt-TEXT c = ap packed_paper c.no_entry.ensures ∙ packed-long c.args.text.now c.args.at c.if-text-gt-TEXT.true
+returns-then-text-gt-TEXT c = ap refusal c.refuse.ensures ∙ packed-long c.args.text.now c.args.at c.if-text-gt-TEXT.true
 
-pub returns-then-text-lt6 : goal.returns-then-text-lt6
-returns-then-text-lt6 c = ap packed_paper c.no_entry-then-text-lt6.ensures ∙ packed-cut c.args.text.now c.args.at (omega arith) (omega arith)
-
-pub returns-then-text-at : goal.returns-then-text-at
-returns-then-text-at c = ap packed_paper c.no_entry-then-text-at.ensures ∙ packed-cut c.args.text.now c.args.at (omega arith) (omega arith)
+pub returns-in_default : goal.returns-in_default
+returns-in_default c = ap refusal c.refuse-in_default.ensures ∙ rest-cut c.args.text.now c.args.at c.min.result c.min.ensures c.if-text-gt-TEXT.false c.in_default.len_below
 
 pub returns : goal.returns
-returns c = ap (λ x. taken (record { entry = packed x; next = c.args.at + 6 })) c.six.ensures ∙ packed-whole c.args.text.now c.args.at (omega arith) (omega arith)
+returns c = rest-whole c.args.text.now c.args.at c.min.result c.min.ensures c.if-text-gt-TEXT.false c.from.result (omega arith) (c.from.ensures ∙ c.from_be_bytes.ensures)

@@ -1,13 +1,32 @@
 -- `tracker::listed::any_form` meets its contract. Assumes nothing.
-use Rattle.tracker.specs.Entries.{peer_by}
-use Rattle.bencode_fields.specs.Looks.{inside_paper}
-use Rattle.tracker.proofs.Steps.{via, listed_by}
+use Rattle.std.proofs.Common.{◌≡◌, Err, ap, ◌∙◌, rules}
 use Rattle.refusal.specs.Paper.{then}
-use mathlib.Core.Path.{◌∙◌}
+use Rattle.tracker.specs.Entries.{listed_paper, listed_at, peer_by}
+use Rattle.tracker.proofs.Steps.{no-id}
 use Rattle.tracker.proofs.listed.any_form.Goals as goal
 
-pub returns-in-At : goal.returns-in-At
-returns-in-At c = c.peer_in.ensures ∙ via inside_paper (λ o. then o (peer_by c.args.text.now c.args.at)) c.dictionary_at.ensures c.in-At.is ∙ listed_by c.args.text.now c.args.at
+pub returns-in_err-first : goal.returns-in_err-first
+unfolding listed_at
+returns-in_err-first c = search rules
 
-pub returns-in-Refused : goal.returns-in-Refused
-returns-in-Refused c = via inside_paper (λ o. then o (peer_by c.args.text.now c.args.at)) c.dictionary_at.ensures c.in-Refused.is ∙ listed_by c.args.text.now c.args.at
+pub returns-in_err-id : goal.returns-in_err-id
+unfolding listed_at
+returns-in_err-id c =
+    let e : c.from_residual-in_err-id.result ≡ Err c.in_err-id.field-0.0 = search rules in
+    ap listed_paper e ∙ no-id c.args.text.now c.args.at c.in_ok-first.first _ _ c.seek-ips.ensures c.seek_after-ids.ensures c.in_err-id.ensures ∙ ap (λ o. then o (peer_by c.args.text.now c.args.at)) c.in_ok-first.ensures
+
+pub returns-in_err-ip : goal.returns-in_err-ip
+unfolding listed_at
+returns-in_err-ip c = search rules
+
+pub returns-in_err-port : goal.returns-in_err-port
+unfolding listed_at
+returns-in_err-port c = search rules
+
+pub returns-in_err-next : goal.returns-in_err-next
+unfolding listed_at
+returns-in_err-next c = search rules
+
+pub returns : goal.returns
+unfolding listed_at
+returns c = search rules

@@ -1,7 +1,6 @@
 -- `tracker::listed::count` meets its contract. Assumes nothing.
 use Rattle.tracker.proofs.Steps.{Counting}
-use lib.ListN.{length}
-use Prim.Native.Nat.{◌-◌}
+use Rattle.std.proofs.Common.{length, ◌-◌}
 use Rattle.tracker.proofs.listed.count.Given as goal
 
 abbrev pub invariant-loop-at : goal.invariant-loop-at

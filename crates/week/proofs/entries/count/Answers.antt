@@ -1,11 +1,11 @@
 -- `week::entries::count` meets its contract. Assumes nothing.
+use Rattle.refusal.specs.Paper.{refusal}
 use mathlib.Core.Path.{sym, ap, ◌∙◌}
-use Rattle.week.specs.Reading.{count_paper}
 use Rattle.week.proofs.Tabling.{count-is, count_cut}
 use Rattle.week.proofs.entries.count.Goals as goal
 
-pub returns-in-Is : goal.returns-in-Is
-returns-in-Is c = c.in_range.ensures ∙ count-is c.args.file.now (sym c.read4.ensures ∙ c.in-Is.is)
+pub returns-in-Some : goal.returns-in-Some
+returns-in-Some c = c.in_range.ensures ∙ count-is c.args.file.now (sym c.read.ensures ∙ c.in-Some.is)
 
-pub returns-in-Cut : goal.returns-in-Cut
-returns-in-Cut c = ap count_paper c.uncounted.ensures ∙ count_cut c.args.file.now (sym c.read4.ensures ∙ c.in-Cut.is)
+pub returns-in-None : goal.returns-in-None
+returns-in-None c = ap refusal c.refuse.ensures ∙ count_cut c.args.file.now (sym c.read.ensures ∙ c.in-None.is)

@@ -1,11 +1,7 @@
--- `week::entries::given` meets its contract. Assumes nothing.
-use mathlib.Core.Path.{◌≡◌}
-use Prim.Native.Nat.{◌≤◌}
+-- `week::entries::given` meets its contract: none of the runs passed is the hash. Assumes nothing.
+use Rattle.std.proofs.Common.{◌≡◌, false}
 use Rattle.week.specs.Rules.{runs_at, among}
 use Rattle.week.proofs.entries.given.Given as goal
 
-abbrev pub invariant-loop-left : goal.invariant-loop-left
-invariant-loop-left l = (l.left ≤ l.count) × (among l.hash (runs_at l.bytes l.from l.stride l.left) ≡ among l.hash (runs_at l.bytes l.from l.stride l.count))
-
-abbrev pub decreases-loop-left : goal.decreases-loop-left
-decreases-loop-left l = l.left
+abbrev pub invariant-loop-i : goal.invariant-loop-i
+invariant-loop-i l = among l.hash (runs_at l.bytes l.from l.stride l.i) ≡ false

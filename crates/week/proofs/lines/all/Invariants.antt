@@ -1,10 +1,6 @@
 -- `week::lines::all` meets its contract. Assumes nothing.
-use Prim.Native.Nat.{◌-◌}
 use Rattle.week.proofs.Lining.{Lined}
 use Rattle.week.proofs.lines.all.Given as goal
 
 abbrev pub invariant-loop-i : goal.invariant-loop-i
 invariant-loop-i l = Lined l.file l.w.count l.initial.out l.out l.at l.i
-
-abbrev pub decreases-loop-i : goal.decreases-loop-i
-decreases-loop-i l = l.w.count - l.i

@@ -4,15 +4,15 @@ use Rattle.torrent_blocks.specs.Rules.{sum}
 use Rattle.week.proofs.Packing.{adds-over, adds-next, adds-end}
 use Rattle.week.proofs.writing.add_up.Goals as goal
 
-pub loop-i-init : goal.loop-i-init
+pub loop-len-init : goal.loop-len-init
 unfolding sum
-loop-i-init c = (omega arith, omega arith)
+loop-len-init c = omega arith
 
 pub returns-then-left-len : goal.returns-then-left-len
-returns-then-left-len c = adds-over c.args.lengths.now c.loop-i.i c.args.count c.loop-i.left c.loop-i.invariant.1 (omega arith) (omega arith)
+returns-then-left-len c = adds-over c.args.lengths.now c.loop-len.len-index c.args.count c.loop-len.left c.loop-len.invariant (omega arith) (omega arith)
 
-pub loop-i-preserved : goal.loop-i-preserved
-loop-i-preserved c = (omega arith, adds-next c.args.lengths.now c.loop-i.i c.args.count c.loop-i.left c.loop-i.invariant.1 (omega arith) (omega arith))
+pub loop-len-preserved : goal.loop-len-preserved
+loop-len-preserved c = adds-next c.args.lengths.now c.loop-len.len-index c.args.count c.loop-len.left c.loop-len.invariant (omega arith) (omega arith)
 
 pub returns : goal.returns
-returns c = adds-end c.args.lengths.now c.loop-i.i c.args.count c.loop-i.left c.loop-i.invariant.1 (omega arith)
+returns c = adds-end c.args.lengths.now c.loop-len.len-index c.args.count c.loop-len.left c.loop-len.invariant (omega arith)
