@@ -1,41 +1,14 @@
 -- Two runs of bytes that agree as far as both go. Assumes nothing.
-use mathlib.Core.Path.{◌≡◌, refl, sym, ◌∙◌}
+use mathlib.Core.Path.{◌≡◌, refl}
 use mathlib.Core.Bool.{Bool, true, false, ◌&&◌}
 use mathlib.Core.List.{List, [], ◌∷◌}
-use Prim.Native.Nat.{ℕ, zero, suc, ◌+◌, ◌≤◌, ◌<◌}
-use native.Mathlib.Numerals.{add-one}
+use Prim.Native.Nat.{ℕ, zero, suc, ◌<◌}
 use native.Mathlib.Omega.{arith}
-use borrow.Author.Tests.{eqb-true, eqb-false, eq-eqb, ne_eqb}
+use borrow.Author.Tests.{eqb-true, eqb-false}
 use lib.Dec.{eqb}
-use lib.ListN.{length, get_or, drop, drop_of_length-le}
-use lib.Seq.{drop-cons, ext_get_or}
+use lib.ListN.{length, get_or}
+use lib.Seq.{ext_get_or}
 use Rattle.peer_wire.specs.Handshake.{agree}
-
--- ---- the loop's turns: from i on they agree as from the start
-
-pub agree-none : (a : List ℕ) → agree a [] ≡ true
-unfolding agree
-agree-none [] = refl
-agree-none (x ∷ a) = refl
-
-module _ (a b : List ℕ) (i : ℕ) (so : agree (drop i a) (drop i b) ≡ agree a b) where
-  pub agree-end : length a ≤ i → true ≡ agree a b
-  unfolding agree
-  agree-end h = rw (drop_of_length-le a h) at so
-
-  pub agree-cut : length b ≤ i → true ≡ agree a b
-  agree-cut h = sym (agree-none (drop i a)) ∙ (rw (drop_of_length-le b h) at so)
-
-  module _ (h : i < length a) (g : i < length b) where
-    agree-step : (eqb (get_or a i 0) (get_or b i 0) && agree (drop (suc i) a) (drop (suc i) b)) ≡ agree a b
-    unfolding agree
-    agree-step = rw (drop-cons a i 0 h, drop-cons b i 0 g) at so
-
-    pub agree-more : get_or a i 0 ≡ get_or b i 0 → agree (drop (i + 1) a) (drop (i + 1) b) ≡ agree a b
-    agree-more e = rw add-one (rw (eq-eqb (get_or a i 0) (get_or b i 0) e) at agree-step)
-
-    pub agree_differ : (get_or a i 0 ≡ get_or b i 0 → ⊥) → false ≡ agree a b
-    agree_differ e = rw (ne_eqb (get_or a i 0) (get_or b i 0) e) at agree-step
 
 -- ---- what the answer says
 
@@ -51,7 +24,6 @@ later : (x y : ℕ) (a b : List ℕ) → Differ a b → Differ (x ∷ a) (y ∷ 
 later x y a b (i, h, g, d) = (suc i, omega arith, omega arith, d)
 
 pub agree-false : (a b : List ℕ) → agree a b ≡ false → Differ a b
-unfolding agree
 agree-false [] b e = let z : ◌≡◌ {A = ℕ} 0 1 = cc in absurd (omega arith)
 agree-false (x ∷ a) [] e = let z : ◌≡◌ {A = ℕ} 0 1 = cc in absurd (omega arith)
 agree-false (x ∷ a) (y ∷ b) e = go (eqb x y) refl e (agree-false a b)
@@ -61,7 +33,6 @@ agree-false (x ∷ a) (y ∷ b) e = go (eqb x y) refl e (agree-false a b)
     go false f g r = (0, omega arith, omega arith, eqb-false x y f)
 
 pub agree-true : (a b : List ℕ) → agree a b ≡ true → Alike a b
-unfolding agree
 agree-true [] b e i h g = absurd (omega arith)
 agree-true (x ∷ a) [] e i h g = absurd (omega arith)
 agree-true (x ∷ a) (y ∷ b) e i h g = go (eqb x y) refl e i h g (agree-true a b)

@@ -9,7 +9,7 @@ use Rattle.refusal.specs.BigEndian.{Bytes, bytes_of}
 use Rattle.refusal.proofs.Bytes.{big_endian-bytes_of, bytes_of-big_endian}
 use Rattle.refusal.proofs.Places.{below, bytes_drop, bytes_take}
 use Rattle.peer_wire.specs.Message.{Message, keepalive, choke, unchoke, interested, not_interested, have, bitfield, request, piece, cancel, other, word, Word, body, FieldsFit}
-use Rattle.peer_wire.specs.Frames.{least, most, Allowed, message_of, number_in}
+use Rattle.peer_wire.specs.Frames.{Allowed, message_of, number_in}
 use Rattle.peer_wire.proofs.Steps.{by-id, message-other}
 
 -- the message of an id and a payload
@@ -80,7 +80,7 @@ module _ (p : List ℕ) (bytes : Bytes p) where
       rw e (two-words (omega arith))
 
   pub written : (id : ℕ) → id < 256 → Allowed id (suc (length p)) → (body (parse p id) ≡ id ∷ p) × FieldsFit (parse p id)
-  unfolding message_of least most
+  unfolding message_of
   written =
       by-id (λ (id : ℕ). id < 256 → Allowed id (suc (length p)) → (body (parse p id) ≡ id ∷ p) × FieldsFit (parse p id))
       (λ b a. (ap (λ (q : List ℕ). 0 ∷ q) (no_words (omega arith)), tt))

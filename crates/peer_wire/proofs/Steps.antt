@@ -1,15 +1,12 @@
 -- The ways out of the readers, each by the tests that lead there. Assumes nothing.
-use mathlib.Core.Path.{◌≡◌, refl, sym, ap, ap₂, ◌∙◌}
+use mathlib.Core.Path.{◌≡◌, refl, sym, ap, ◌∙◌}
 use mathlib.Core.Bool.{Bool, true, false, ◌&&◌}
 use mathlib.Core.List.{List}
-use Prim.Native.Nat.{ℕ, zero, suc, ◌+◌, ◌-◌, ◌≤◌, ◌<◌, ◌^◌}
+use Prim.Native.Nat.{ℕ, zero, suc, ◌+◌, ◌-◌, ◌≤◌, ◌<◌}
 use native.Mathlib.Omega.{arith}
-use borrow.Author.Tests.{lt-ltb, le-ltb, le-leb, lt-leb, leb-true, ne_eqb}
+use borrow.Author.Tests.{lt-ltb, le-ltb, le-leb, leb-true, ne_eqb}
 use lib.Dec.{leb}
 use lib.ListN.{length, get_or, get_or-eq_default}
-use Rattle.refusal.specs.BigEndian.{Bytes, number_at}
-use Rattle.refusal.specs.declared.big_endian.Number.TheVariants.{Is, Cut}
-use Rattle.refusal.proofs.Places.{is-there, is_cut, below}
 use Rattle.refusal.specs.Limits.{longest_frame}
 use Rattle.refusal.specs.Numbers.{frame, payload}
 use Rattle.refusal.specs.Paper.{taken, refused}
@@ -32,21 +29,17 @@ by-id P a b c d e f g h i o (suc (suc (suc (suc (suc (suc (suc (suc (suc k))))))
 -- ---- lengths
 
 pub least_other : (id : ℕ) → 8 < id → least id ≡ 1
-unfolding least
 least_other id h = get_or-eq_default leasts 1 h
 
 pub most_other : (id : ℕ) → 8 < id → most id ≡ longest_frame
-unfolding most
 most_other id h = get_or-eq_default mosts longest_frame h
 
 pub most-most : (id : ℕ) → most id ≤ longest_frame
-unfolding most
 most-most =
     by-id (λ (id : ℕ). most id ≤ longest_frame) (omega arith) (omega arith) (omega arith) (omega arith) (omega arith) (omega arith) (omega arith) (omega arith) (omega arith)
     (λ k h. omega (arith, most_other k h))
 
 pub least-least : (id : ℕ) → 1 ≤ least id
-unfolding least
 least-least =
     by-id (λ (id : ℕ). 1 ≤ least id) (omega arith) (omega arith) (omega arith) (omega arith) (omega arith) (omega arith) (omega arith) (omega arith) (omega arith)
     (λ k h. omega (arith, least_other k h))
@@ -127,7 +120,7 @@ message-map f number from =
 -- numbers and bytes that are the same as far as the frame goes give the same message
 module _ {B : Type 0} {number number' : ℕ → ℕ} {from from' : ℕ → B} (n : ℕ) (same : (k : ℕ) → 5 + k ≤ n → number k ≡ number' k) (alike : (k : ℕ) → from k ≡ from' k) where
   pub message-same : (id : ℕ) → least id ≤ n → message_of number from id ≡ message_of number' from' id
-  unfolding message_of least
+  unfolding message_of
   message-same =
       by-id (λ (id : ℕ). least id ≤ n → message_of number from id ≡ message_of number' from' id)
       (λ h. refl)
@@ -140,34 +133,6 @@ module _ {B : Type 0} {number number' : ℕ → ℕ} {from from' : ℕ → B} (n
       (λ h. let x = same 0 (omega arith) in let y = same 4 (omega arith) in let z = alike 8 in cc)
       (λ h. let x = same 0 (omega arith) in let y = same 4 (omega arith) in let z = same 8 (omega arith) in cc)
       (λ k g h. message-other number from k g ∙ ap (other k) (alike 0) ∙ sym (message-other number' from' k g))
-
--- ---- the tests as the code makes them
-
-module _ (n low high : ℕ) where
-  pub between-low : n < low → leb low n ≡ (leb low n && leb n high)
-  between-low h = rw (lt-leb low n h)
-
-  pub between-high : low ≤ n → leb n high ≡ (leb low n && leb n high)
-  between-high h = rw (le-leb low n h)
-
--- the lengths that the code names for an id are the tables'
-module _ (id n : ℕ) where
-  pub allowed-by : (k : ℕ) → id ≡ k → (leb (get_or leasts k 1) n && leb n (get_or mosts k longest_frame)) ≡ allowed id n
-  unfolding least most
-  allowed-by k e = ap (λ (x : ℕ). allowed x n) (sym e)
-
-  pub allowed-other : 8 < id → (leb 1 n && leb n longest_frame) ≡ allowed id n
-  allowed-other h = ap₂ (λ (a b : ℕ). leb a n && leb n b) (sym (least_other id h)) (sym (most_other id h))
-
-module _ (at : ℕ) (s : List ℕ) where
-  pub word-is : {n : ℕ} → number_at 4 s at ≡ Is n → n ≡ number_in s at
-  word-is e = (is-there 4 at s e).1
-
-  pub word_fits : {n : ℕ} → Bytes s → number_at 4 s at ≡ Is n → n < 256 ^ 4
-  word_fits b e = below 4 at s b (word-is e)
-
-  pub word-there : at + 4 ≤ length s → number_at 4 s at ≡ Cut → ⊥
-  word-there h e = omega (arith, is_cut 4 at s e)
 
 -- ---- the arms of the code's match on the id
 
@@ -190,7 +155,6 @@ other-id =
 module _ (s : List ℕ) (n : ℕ) {id : ℕ} (i : id ≡ get_or s 4 0) where
   -- the length of one of the ids 0 to 8
   pub reaches : (k : ℕ) → id ≡ k → allowed id n ≡ true → get_or leasts k 1 ≤ n
-  unfolding least
   reaches k e a = rw e at (allowed-true id n a).0
 
   pub says : (k : ℕ) → id ≡ k → get_or (messages (λ j. number_in s (5 + j)) (λ j. record { from = 5 + j; len = n - (1 + j) })) k (other k (record { from = 5; len = n - 1 })) ≡ message_in s n

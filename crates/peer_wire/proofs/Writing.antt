@@ -1,4 +1,6 @@
 -- Runs of puts joined, and the ways out of the frame writer. Assumes nothing.
+use Rattle.std.specs.Prelude.{Err, Result}
+use Rattle.refusal.specs.declared.Refusal.{Refusal}
 use mathlib.Core.Path.{◌≡◌, refl, sym, ap, ◌∙◌}
 use mathlib.Core.Bool.{true, false}
 use mathlib.Core.List.{List, [], ◌∷◌, ◌++◌, append_assoc}
@@ -10,12 +12,10 @@ use lib.Seq.{sets, length-sets}
 use Rattle.refusal.specs.BigEndian.{bytes_of, number_written}
 use Rattle.refusal.specs.Limits.{longest_frame}
 use Rattle.refusal.specs.Numbers.{frame, payload, room}
-use Rattle.refusal.specs.Paper.{Outcome, refused}
+use Rattle.refusal.specs.Paper.{paper, Outcome, refused}
 use Rattle.refusal.proofs.Bytes.{length-bytes_of}
 use Rattle.refusal.proofs.Places.{sets-append}
-use Rattle.bencode_writer.specs.Put.{Left, left, paper, put_of}
-use Rattle.bencode_writer.specs.declared.Put.{Put}
-use Rattle.bencode_writer.specs.declared.Put.TheVariants.{Refused}
+use Rattle.bencode_writer.specs.Put.{Left, left, put_of}
 use Rattle.bencode_writer.proofs.Laws.{put_whole, put-nothing}
 use Rattle.peer_wire.specs.Message.{word, framed}
 use Rattle.peer_wire.specs.Frames.{allowed, write_of}
@@ -39,7 +39,7 @@ put-after v w at q o {mid = mid} h p m e =
 
 -- ---- the frame writer
 
-refusing : {r : Put} {n : ℕ} {o : List ℕ} {l : Left} → r ≡ Refused (record { number = n; place = 0 }) → l ≡ left (refused n 0) o → left (paper r) o ≡ l
+refusing : {r : Result ℕ Refusal} {n : ℕ} {o : List ℕ} {l : Left} → r ≡ Err (record { number = n; place = 0 }) → l ≡ left (refused n 0) o → left (paper r) o ≡ l
 refusing e f = rw e (sym f)
 
 module _ (id : ℕ) (numbers rest o : List ℕ) where
@@ -49,7 +49,7 @@ module _ (id : ℕ) (numbers rest o : List ℕ) where
   length_whole : length whole ≡ 1 + length numbers + length rest
   length_whole = omega (arith, length-append numbers rest)
 
-  pub write-long : {r : Put} → longest_frame < 1 + length numbers + length rest → r ≡ Refused (record { number = frame; place = 0 }) → left (paper r) o ≡ write_of whole o
+  pub write-long : {r : Result ℕ Refusal} → longest_frame < 1 + length numbers + length rest → r ≡ Err (record { number = frame; place = 0 }) → left (paper r) o ≡ write_of whole o
   unfolding write_of
   write-long h e = refusing e (rw (lt-ltb longest_frame (length whole) (rw length_whole h)))
 
@@ -63,7 +63,7 @@ module _ (id : ℕ) (numbers rest o : List ℕ) where
     length-is : length whole ≡ n
     length-is = length_whole ∙ sym l
 
-    pub write-wrong : {r : Put} → allowed id n ≡ false → r ≡ Refused (record { number = payload; place = 0 }) → left (paper r) o ≡ write_of whole o
+    pub write-wrong : {r : Result ℕ Refusal} → allowed id n ≡ false → r ≡ Err (record { number = payload; place = 0 }) → left (paper r) o ≡ write_of whole o
     unfolding write_of
     write-wrong a e = refusing e (rw (length-is, le-ltb longest_frame n few, a))
 
@@ -75,7 +75,7 @@ module _ (id : ℕ) (numbers rest o : List ℕ) where
       length-framed : length (framed whole) ≡ 4 + n
       length-framed = omega (arith, length-append (word (length whole)) whole, length-bytes_of 4 (length whole), length-is)
 
-      pub write-short : {r : Put} → length o < 4 + n → r ≡ Refused (record { number = room; place = 0 }) → left (paper r) o ≡ write_of whole o
+      pub write-short : {r : Result ℕ Refusal} → length o < 4 + n → r ≡ Err (record { number = room; place = 0 }) → left (paper r) o ≡ write_of whole o
       write-short h e = put-nothing (framed whole) 0 o (omega (arith, length-framed)) e ∙ sym write-right
 
       -- the length, the id, the numbers, the rest
@@ -139,7 +139,7 @@ module _ (info peer o : List ℕ) (i : length info ≡ 20) (p : length peer ≡ 
   shake-length : length (handshake zeros info peer) ≡ 68
   shake-length = omega (arith, length-append info peer)
 
-  pub shake-short : {r : Put} → length o < 68 → r ≡ Refused (record { number = room; place = 0 }) → left (paper r) o ≡ put_of (handshake zeros info peer) 0 o
+  pub shake-short : {r : Result ℕ Refusal} → length o < 68 → r ≡ Err (record { number = room; place = 0 }) → left (paper r) o ≡ put_of (handshake zeros info peer) 0 o
   shake-short h e = put-nothing (handshake zeros info peer) 0 o (omega (arith, shake-length)) e
 
   module _ (there : 68 ≤ length o) {a b d : Outcome ℕ} {first mid out : List ℕ} (w : left a first ≡ put_of (name ++ zeros) 0 o)

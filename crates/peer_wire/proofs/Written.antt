@@ -1,4 +1,6 @@
 -- What the writers' contracts say: what decides a refusal, that it keeps everything, and that what was written reads back. Assumes nothing.
+use Rattle.std.specs.Prelude.{Result}
+use Rattle.refusal.specs.declared.Refusal.{Refusal}
 use mathlib.Core.Path.{◌≡◌, refl, sym, ap, ◌∙◌}
 use mathlib.Core.Logic.{inl, inr}
 use mathlib.Core.Bool.{true}
@@ -10,13 +12,12 @@ use lib.Dec.{leb, ltb}
 use lib.ListN.{length, get_or, drop, length-append, take-append-drop}
 use lib.Seq.{drop-append_seam}
 use Rattle.refusal.specs.Limits.{longest_frame}
-use Rattle.refusal.specs.Paper.{Outcome, taken, refused}
+use Rattle.refusal.specs.Paper.{paper, Outcome, taken, refused}
 use Rattle.refusal.specs.Parts.{bytes_at}
 use Rattle.refusal.specs.declared.Part.{Part}
 use Rattle.refusal.proofs.Bytes.{length-bytes_of}
 use Rattle.refusal.proofs.Cases.{by-test}
-use Rattle.bencode_writer.specs.Put.{Left, left, paper, put_of}
-use Rattle.bencode_writer.specs.declared.Put.{Put}
+use Rattle.bencode_writer.specs.Put.{Left, left, put_of}
 use Rattle.bencode_writer.proofs.Laws.{paper-apart, reads-back}
 use Rattle.peer_wire.specs.Message.{Message, keepalive, word, body, framed, encode, FieldsFit}
 use Rattle.peer_wire.specs.Frames.{allowed, Lengths, found, read_of, meant, write_of}
@@ -30,11 +31,11 @@ use Rattle.peer_wire.proofs.Shaking.{free_part, peer_part, handshake-reads-back}
 -- ---- every writer
 
 -- two outcomes that a writer's contract permits for one entry are the same, answer and output
-pub put-determined : (l : Left) (r s : Put) {out out' : List ℕ} → left (paper r) out ≡ l → left (paper s) out' ≡ l → (r ≡ s) × (out ≡ out')
+pub put-determined : (l : Left) (r s : Result ℕ Refusal) {out out' : List ℕ} → left (paper r) out ≡ l → left (paper s) out' ≡ l → (r ≡ s) × (out ≡ out')
 put-determined l r s e f = (paper-apart r s (ap (λ (x : Left). x.answer) (e ∙ sym f)), ap (λ (x : Left). x.out) (e ∙ sym f))
 
 -- what was put at the start stands there, before the rest of the output as it was
-pub put-at-start : (w o : List ℕ) (r : Put) {out : List ℕ} {q : ℕ} → left (paper r) out ≡ put_of w 0 o → paper r ≡ taken q → (q ≡ length w) × (out ≡ w ++ drop q o)
+pub put-at-start : (w o : List ℕ) (r : Result ℕ Refusal) {out : List ℕ} {q : ℕ} → left (paper r) out ≡ put_of w 0 o → paper r ≡ taken q → (q ≡ length w) × (out ≡ w ++ drop q o)
 put-at-start w o r {out} {q} e t =
     let b = reads-back w 0 o r e t in
     let z : 0 + length w ≡ length w = omega arith in
@@ -89,7 +90,7 @@ module _ (rest o : List ℕ) where
       (λ f k. refl))
 
   -- for any outcome that the contract permits
-  module _ (r : Put) {out : List ℕ} (e : left (paper r) out ≡ write_of rest o) where
+  module _ (r : Result ℕ Refusal) {out : List ℕ} (e : left (paper r) out ≡ write_of rest o) where
     pub refusal-keeps : {n p : ℕ} → paper r ≡ refused n p → WriteCause rest o (refused n p) × (out ≡ o)
     refusal-keeps {n} {p} k =
         let a : (write_of rest o).answer ≡ refused n p = ap (λ (l : Left). l.answer) (sym e) ∙ k in
@@ -118,14 +119,14 @@ read_back : (m : Message (List ℕ)) (rest out : List ℕ) (q : ℕ) → q ≡ l
 read_back m rest out q l e b = rw (e, l) (record { at = b.at; answer = b.answer; means = b.means })
 
 -- a message that was written reads back, and the output past it is as it was
-pub frame-reads-back : (m : Message (List ℕ)) → FieldsFit m → (o : List ℕ) (r : Put) {out : List ℕ} {q : ℕ} → left (paper r) out ≡ write_of (body m) o → paper r ≡ taken q
+pub frame-reads-back : (m : Message (List ℕ)) → FieldsFit m → (o : List ℕ) (r : Result ℕ Refusal) {out : List ℕ} {q : ℕ} → left (paper r) out ≡ write_of (body m) o → paper r ≡ taken q
     → (out ≡ encode m ++ drop q o) × ReadBack m out q
 frame-reads-back m f o r {out} {q} e t =
     let w = write-taken (body m) o r e t in
     let s = put-at-start (encode m) o r w.1 t in
     (s.1, read_back m (drop q o) out q s.0 s.1 (message-reads-back m (f, w.0) (drop q o)))
 
-pub keepalive-reads-back : (o : List ℕ) (r : Put) {out : List ℕ} {q : ℕ} → left (paper r) out ≡ put_of (encode keepalive) 0 o → paper r ≡ taken q
+pub keepalive-reads-back : (o : List ℕ) (r : Result ℕ Refusal) {out : List ℕ} {q : ℕ} → left (paper r) out ≡ put_of (encode keepalive) 0 o → paper r ≡ taken q
     → (out ≡ encode keepalive ++ drop q o) × ReadBack keepalive out q
 keepalive-reads-back o r {out} {q} e t =
     let s = put-at-start (encode keepalive) o r e t in
@@ -134,7 +135,7 @@ keepalive-reads-back o r {out} {q} e t =
 -- ---- the handshake
 
 -- a handshake that was written reads back: its free bytes are 0, and the peer id is the one that was given
-pub written-handshake-reads-back : (info peer : List ℕ) → length info ≡ 20 → length peer ≡ 20 → (o : List ℕ) (r : Put) {out : List ℕ} {q : ℕ}
+pub written-handshake-reads-back : (info peer : List ℕ) → length info ≡ 20 → length peer ≡ 20 → (o : List ℕ) (r : Result ℕ Refusal) {out : List ℕ} {q : ℕ}
     → left (paper r) out ≡ put_of (handshake zeros info peer) 0 o → paper r ≡ taken q
     → (shake_of info out ≡ taken (hello free_part peer_part q)) × (bytes_at out free_part ≡ zeros) × (bytes_at out peer_part ≡ peer) × (drop q out ≡ drop q o)
 written-handshake-reads-back info peer i p o r {out} {q} e t =

@@ -1,5 +1,6 @@
 -- What reading and writing a frame come to, in document 01's order. Assumes nothing: these are definitions.
-use Rattle.std.specs.Prelude.{Bool, cond, ◌&&◌, List, [], ◌∷◌, ◌++◌, ℕ, zero, suc, ◌+◌, ◌-◌, ◌≤◌, leb, ltb, eqb, length, get_or, take, drop}
+use Rattle.refusal.specs.declared.Refusal.{Refusal}
+use Rattle.std.specs.Prelude.{Bool, cond, ◌&&◌, List, [], ◌∷◌, ◌++◌, ℕ, zero, suc, ◌+◌, ◌-◌, ◌≤◌, leb, ltb, eqb, length, get_or, take, drop, Err, Ok, Result}
 use Rattle.refusal.specs.BigEndian.{big_endian_of}
 use Rattle.refusal.specs.Limits.{longest_frame}
 use Rattle.refusal.specs.Numbers.{frame, payload}
@@ -11,7 +12,7 @@ use Rattle.peer_wire.specs.Message.{Message, keepalive, choke, unchoke, interest
 use Rattle.peer_wire.specs.declared.Frame.{Frame}
 use Rattle.peer_wire.specs.declared.Frame.TheVariants.{Choke, Unchoke, Interested, NotInterested, Have, Bitfield, Request, Piece, Cancel, Other}
 use Rattle.peer_wire.specs.declared.Read.{Read}
-use Rattle.peer_wire.specs.declared.Read.TheVariants.{Wait, Keepalive, Whole, Refused}
+use Rattle.peer_wire.specs.declared.Read.TheVariants.{Wait, Keepalive, Whole}
 
 -- ---- lengths
 
@@ -23,10 +24,10 @@ abbrev pub mosts : List ℕ
 mosts = 1 ∷ 1 ∷ 1 ∷ 1 ∷ 5 ∷ 2049 ∷ 13 ∷ 16393 ∷ 13 ∷ []
 
 -- and for every id
-unfoldable pub least : ℕ → ℕ
+abbrev pub least : ℕ → ℕ
 least id = get_or leasts id 1
 
-unfoldable pub most : ℕ → ℕ
+abbrev pub most : ℕ → ℕ
 most id = get_or mosts id longest_frame
 
 -- whether a frame of this id may have this length
@@ -104,11 +105,11 @@ message (Cancel p b l) = cancel p.0 b.0 l
 message (Other id rest) = other id rest
 
 -- and its answer
-abbrev pub paper : Read → Outcome Found
-paper Wait = taken wait
-paper (Keepalive used) = taken (found keepalive used)
-paper (Whole f used) = taken (found (message f) used)
-paper (Refused r) = refusal r
+abbrev pub read_paper : Result Read Refusal → Outcome Found
+read_paper (Ok Wait) = taken wait
+read_paper (Ok (Keepalive used)) = taken (found keepalive used)
+read_paper (Ok (Whole f used)) = taken (found (message f) used)
+read_paper (Err r) = refusal r
 
 -- ---- what a message that was found means
 

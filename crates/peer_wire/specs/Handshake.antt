@@ -1,11 +1,13 @@
 -- What a handshake is, and what reading one comes to. Assumes nothing: these are definitions.
-use Rattle.std.specs.Prelude.{Bool, true, cond, ◌&&◌, List, [], ◌∷◌, ◌++◌, ℕ, ltb, eqb, length, take, drop, replicate}
+use Rattle.refusal.specs.declared.Refusal.{Refusal}
+use Rattle.std.specs.Prelude.{Bool, cond, List, ◌∷◌, ◌++◌, ℕ, ltb, eqb, length, take, drop, replicate, Err, Ok, Result}
+use Rattle.std.specs.List.{list_all, zip}
 use Rattle.refusal.specs.Numbers.{protocol, hash}
 use Rattle.refusal.specs.Texts.{bytes}
 use Rattle.refusal.specs.Paper.{Outcome, taken, refused, refusal}
 use Rattle.refusal.specs.declared.Part.{Part}
 use Rattle.peer_wire.specs.declared.Greeting.{Greeting}
-use Rattle.peer_wire.specs.declared.Greeting.TheVariants.{Await, Hello, Refused}
+use Rattle.peer_wire.specs.declared.Greeting.TheVariants.{Await, Hello}
 
 -- 19 and the words that it counts
 abbrev pub name : List ℕ
@@ -20,10 +22,8 @@ abbrev pub zeros : List ℕ
 zeros = replicate 8 0
 
 -- whether two runs of bytes are the same, as far as both go
-unfoldable pub agree : List ℕ → List ℕ → Bool
-agree [] t = true
-agree (a ∷ s) [] = true
-agree (a ∷ s) (b ∷ t) = eqb a b && agree s t
+abbrev pub agree : List ℕ → List ℕ → Bool
+agree s t = list_all (λ p. eqb p.0 p.1) (zip s t)
 
 -- more bytes are needed; or where the free bytes and the peer id lie, and how many bytes were used
 pub data Shaken : Type 0 where
@@ -40,7 +40,7 @@ shake_of info s =
     (refused protocol 0)
 
 -- the code's answer in these words
-abbrev pub paper : Greeting → Outcome Shaken
-paper Await = taken wait
-paper (Hello free peer used) = taken (hello free peer used)
-paper (Refused r) = refusal r
+abbrev pub greeting_paper : Result Greeting Refusal → Outcome Shaken
+greeting_paper (Ok Await) = taken wait
+greeting_paper (Ok (Hello free peer used)) = taken (hello free peer used)
+greeting_paper (Err r) = refusal r

@@ -2,13 +2,11 @@
 // Each reader uses only the first frame or handshake that the bytes hold; a wait uses nothing.
 #![tactic(auto)]
 
-ghost use Rattle.std.specs.Prelude.{◌≡◌, true, ◌&&◌, ◌+◌, ◌-◌, ◌≤◌, ◌<◌, leb, length, get_or};
-ghost use Rattle.peer_wire.specs.Frames.{allowed, number_in, message_in, sized_of, read_of, message, paper};
-ghost use Rattle.peer_wire.specs.Handshake.{agree, shake_of};
-ghost use Rattle.peer_wire.specs.Handshake.{paper as shaken};
+ghost use Rattle.std.specs.Prelude.{◌≡◌, true, ◌&&◌, ◌+◌, ◌-◌, ◌≤◌, ◌<◌, length, get_or};
+ghost use Rattle.peer_wire.specs.Frames.{allowed, number_in, message_in, sized_of, read_of, message, read_paper};
+ghost use Rattle.peer_wire.specs.Handshake.{agree, greeting_paper, shake_of};
 
-use refusal::big_endian::Number;
-use refusal::{Part, Refusal, big_endian, limit, number};
+use refusal::{Part, Refusal, big_endian, limit, number, refuse};
 use torrent_blocks::{PieceNumber, PieceOffset};
 
 pub mod write;
@@ -37,7 +35,6 @@ pub enum Read {
     Wait,
     Keepalive(usize),
     Whole(Frame, usize),
-    Refused(Refusal),
 }
 
 // What a handshake comes to: where the free bytes and the peer id lie, and how many bytes it used.
@@ -45,55 +42,54 @@ pub enum Read {
 pub enum Greeting {
     Await,
     Hello(Part, Part, usize),
-    Refused(Refusal),
 }
 
 // The frame at the start of the bytes.
-pub fn read_frame(bytes: &[u8]) -> Read
-    ensures { paper result ≡ read_of bytes.now }
+pub fn read_frame(bytes: &[u8]) -> Result<Read, Refusal>
+    ensures { read_paper result ≡ read_of bytes.now }
 {
     if bytes.len() < 4 {
-        return Read::Wait;
+        return Ok(Read::Wait);
     }
     sized(bytes, word(bytes, 0))
 }
 
 // The handshake at the start of the bytes, for an info hash.
-pub fn read_handshake(bytes: &[u8], info: &[u8; 20]) -> Greeting
-    ensures { shaken result ≡ shake_of info.now bytes.now }
+pub fn read_handshake(bytes: &[u8], info: &[u8; 20]) -> Result<Greeting, Refusal>
+    ensures { greeting_paper result ≡ shake_of info.now bytes.now }
 {
     if !agrees(b"\x13BitTorrent protocol", bytes) {
-        return unwelcome(number::PROTOCOL);
+        return Err(refuse(number::PROTOCOL, 0));
     }
     if bytes.len() < 68 {
-        return Greeting::Await;
+        return Ok(Greeting::Await);
     }
     if !agrees(&bytes[28..48], info) {
-        return unwelcome(number::HASH);
+        return Err(refuse(number::HASH, 0));
     }
-    hello()
+    Ok(Greeting::Hello(Part { from: 20, len: 8 }, Part { from: 48, len: 20 }, 68))
 }
 
 // A frame whose length is read.
-fn sized(bytes: &[u8], n: u32) -> Read
+fn sized(bytes: &[u8], n: u32) -> Result<Read, Refusal>
     requires { 4 ≤ length bytes.now }
-    ensures { paper result ≡ sized_of bytes.now n }
+    ensures { read_paper result ≡ sized_of bytes.now n }
 {
     if limit::FRAME < n as usize {
-        return refused(number::FRAME);
+        return Err(refuse(number::FRAME, 0));
     }
     if n == 0 {
-        return Read::Keepalive(4);
+        return Ok(Read::Keepalive(4));
     }
     let end = 4 + n as usize;
     if bytes.len() < end {
-        return Read::Wait;
+        return Ok(Read::Wait);
     }
     let id = bytes[4];
     if !is_allowed(id, n as usize) {
-        return refused(number::PAYLOAD);
+        return Err(refuse(number::PAYLOAD, 0));
     }
-    Read::Whole(whole(bytes, id, n as usize), end)
+    Ok(Read::Whole(whole(bytes, id, n as usize), end))
 }
 
 // What a whole frame says: its length is n, and one that its id may have.
@@ -139,28 +135,19 @@ fn whole(bytes: &[u8], id: u8, n: usize) -> Frame
     }
 }
 
+// The least and the most length of a frame, for the ids 0 to 8.
+const LEASTS: [usize; 9] = [1, 1, 1, 1, 5, 2, 13, 10, 13];
+
+const MOSTS: [usize; 9] = [1, 1, 1, 1, 5, 2049, 13, 16393, 13];
+
 // Whether a frame of this id may have this length.
 fn is_allowed(id: u8, n: usize) -> bool
     ensures { result ≡ allowed id n }
 {
-    match id {
-        0 => between(n, 1, 1),
-        1 => between(n, 1, 1),
-        2 => between(n, 1, 1),
-        3 => between(n, 1, 1),
-        4 => between(n, 5, 5),
-        5 => between(n, 2, 2049),
-        6 => between(n, 13, 13),
-        7 => between(n, 10, 16393),
-        8 => between(n, 13, 13),
-        _ => between(n, 1, limit::FRAME),
-    }
-}
-
-fn between(n: usize, low: usize, high: usize) -> bool
-    ensures { result ≡ (leb low n && leb n high) }
-{
-    low <= n && n <= high
+    let at = usize::from(id);
+    let least = LEASTS.get(at).copied().unwrap_or(1);
+    let most = MOSTS.get(at).copied().unwrap_or(limit::FRAME);
+    least <= n && n <= most
 }
 
 // The number in four bytes that are there.
@@ -168,43 +155,12 @@ fn word(bytes: &[u8], at: usize) -> u32
     requires { at + 4 ≤ length bytes.now }
     ensures { result ≡ number_in bytes.now at }
 {
-    match big_endian::read4(bytes, at) {
-        Number::Is(n) => n as u32,
-        Number::Cut => 0,
-    }
+    big_endian::read::<u32>(bytes, at).unwrap_or(0)
 }
 
 // Whether two runs of bytes are the same, as far as both go.
 fn agrees(a: &[u8], b: &[u8]) -> bool
     ensures { result ≡ agree a.now b.now }
 {
-    let mut i = 0;
-    while i < a.len() {
-        if b.len() <= i {
-            return true;
-        }
-        if a[i] != b[i] {
-            return false;
-        }
-        i += 1;
-    }
-    true
-}
-
-fn hello() -> Greeting
-    ensures { result ≡ Greeting.Hello (record { from = 20; len = 8 }) (record { from = 48; len = 20 }) 68 }
-{
-    Greeting::Hello(Part { from: 20, len: 8 }, Part { from: 48, len: 20 }, 68)
-}
-
-fn refused(number: u8) -> Read
-    ensures { result ≡ Read.Refused (record { number = number; place = 0 }) }
-{
-    Read::Refused(refusal::refuse(number, 0))
-}
-
-fn unwelcome(number: u8) -> Greeting
-    ensures { result ≡ Greeting.Refused (record { number = number; place = 0 }) }
-{
-    Greeting::Refused(refusal::refuse(number, 0))
+    a.iter().zip(b.iter()).all(|(x, y)| x == y)
 }

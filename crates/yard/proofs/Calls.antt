@@ -1,23 +1,27 @@
 -- From a step at one seat to a call on the whole yard, and to what C is told of it. Assumes nothing.
+use Rattle.std.specs.Prelude.{Option, Some, None, Result, Ok, Err}
+use Rattle.refusal.specs.declared.Refusal.{Refusal}
 use mathlib.Core.Path.{◌≡◌, refl, sym, ap, ◌∙◌}
 use mathlib.Core.Bool.{Bool, true, false, cond}
-use mathlib.Core.List.{List, []}
+use mathlib.Core.List.{List}
 use Prim.Native.Nat.{ℕ, ◌≤◌, min}
 use native.Mathlib.Omega.{arith}
 use borrow.Author.Tests.{leb-true}
-use lib.Dec.{eqb, leb}
+use lib.Dec.{leb}
 use lib.ListN.{length, get_or, set, replicate}
 use lib.Seq.{sets}
 use Rattle.yard_tables.specs.Seats.{cleared, we_choke, we_want, counted}
-use Rattle.refusal.specs.Paper.{Outcome}
-use Rattle.yard_tables.specs.Tables.{Yard, Said, listed, Around, Turn, Out, paper, around, turn, refuse, says, sizes_fit, yard_of, out, at_seat}
+use Rattle.refusal.specs.Paper.{Outcome, taken, refused}
+use Rattle.yard_tables.specs.Tables.{Yard, Said, listed, unchoked, Around, Turn, Out, paper, around, turn, refuse, says, sizes_fit, yard_of, out, at_seat}
 use Rattle.yard_tables.specs.Counting.{each}
 use Rattle.yard_tables.specs.Frames.{feed_of}
 use Rattle.yard_tables.specs.Ranks.{ranked, free_of, turned, mark_step}
+use Rattle.yard_tables.specs.Rounds.{misplaced, round_of}
 use Rattle.yard_tables.specs.Seating.{start_of, lowest_free, sit_of, leave_of, mark_of}
 use Rattle.yard_tables.specs.Looks.{page_of, lines_of, scarcest_of, seat_of, has_of, count_of}
 use Rattle.yard_tables.specs.Step.{Call, start, sit, leave, feed, choke, interest, missing, scarcest, look, has, count, round, step, choke_frame, interest_frame, if_taken, writes, written}
-use Rattle.refusal.specs.Numbers.{seat, sizes}
+use Rattle.refusal.specs.Numbers.{seat, sizes, damaged}
+use Rattle.refusal.proofs.Cases.{no_way}
 use Rattle.refusal.specs.Limits.{most_seats}
 use Rattle.yard_tables.proofs.Sizing.{fitting}
 use Rattle.yard_tables.proofs.Turning.{round-turns}
@@ -26,32 +30,31 @@ use Rattle.yard.proofs.Numbered.{has-numbered, count-numbered}
 use Rattle.torrent_blocks.specs.declared.PieceNumber.{PieceNumber}
 use Rattle.torrent_blocks.specs.Numberings.{widest}
 use Rattle.yard_tables.specs.declared.Page.{Page}
-use Rattle.yard_scans.specs.declared.Asked.{Asked}
 use Rattle.yard_scans.specs.Pages.{as_lines}
 use Rattle.yard_scans.proofs.Passes.{lines_are}
-use Rattle.yard.specs.Pages.{page_fault, answer_of}
+use Rattle.yard.specs.Pages.{page_fault}
 use Rattle.yard.specs.Rounds.{round_fault}
 use Rattle.yard_tables.specs.declared.Head.{Head}
 use Rattle.yard_tables.specs.declared.Seat.{Seat}
 use Rattle.yard_tables.specs.declared.Stepped.{Stepped}
 use Rattle.yard_tables.specs.declared.Answer.{Answer}
+use Rattle.yard_tables.specs.declared.Answer.TheVariants.{Done, Listed, Unchoked}
 use Rattle.yard_tables.specs.declared.rank.Ranking.{Ranking}
 use Rattle.yard_tables.specs.declared.round.Turned.{Turned}
-use Rattle.yard_seating.specs.declared.Begun.{Begun}
-use Rattle.yard_seating.specs.Steps.{begun, empty_head}
+use Rattle.yard_seating.specs.Steps.{begun}
 use Rattle.yard_telling.specs.Telling.{code_of, told_of, shown_of, Steps, Tells, Looks, Shows}
 use Rattle.yard_telling.specs.declared.Told.{Told}
 
 -- ---- from what a step answers to what C is told
 
-module _ (o : Out) (a : Answer) (z : Yard) (e : record { answer = paper a; yard = z } ≡ o) where
+module _ (o : Out) (a : Result Answer Refusal) (z : Yard) (e : record { answer = paper a; yard = z } ≡ o) where
   stepped : (n : ℕ) → n ≡ code_of (paper a) → Steps o n z
   stepped n k = (k ∙ ap (λ (x : Out). code_of x.answer) e, ap (λ (x : Out). x.yard) e)
 
   told : (was t : Told) (n : ℕ) → t ≡ told_of (paper a) was → n ≡ code_of (paper a) → Tells o was n t z
   told was t n l k = (k ∙ ap (λ (x : Out). code_of x.answer) e, l ∙ ap (λ (x : Out). told_of x.answer was) e, ap (λ (x : Out). x.yard) e)
 
-module _ (o : Outcome Said) (a : Answer) (e : paper a ≡ o) where
+module _ (o : Outcome Said) (a : Result Answer Refusal) (e : paper a ≡ o) where
   looked : (was t : Told) (n : ℕ) → t ≡ told_of (paper a) was → n ≡ code_of (paper a) → Looks o was n t
   looked was t n l k = (k ∙ ap code_of e, l ∙ ap (λ (x : Outcome Said). told_of x was) e)
 
@@ -72,14 +75,26 @@ module _ (h : Head) (seats : List Seat) (rows holders : List ℕ) where
       ∙ ap {B = Out} (λ (x : Turn). record { answer = x.answer; yard = yard_of x.after.head (set seats i x.after.seat) x.after.rows x.after.holders })
       (t ∙ ap (λ (x : Seat). f (length seats) (around h x rows holders)) e)
 
-  pub start_is : (p l m : ℕ) (seats' : List Seat) (rows' holders' : List ℕ) (r : Begun) (n : ℕ)
-      → ((ss : List Seat) → length ss ≡ length seats → begun r ss rows' holders' ≡ start_of p l m (yard_of h ss rows holders))
-      → r.clear ≡ sizes_fit (empty_head p l m) (length seats) (length rows) (length holders)
-      → seats' ≡ cond r.clear (replicate (length seats) cleared) seats → n ≡ code_of (paper r.answer)
-      → Steps (step (start p l m) Y) n (yard_of r.head seats' rows' holders')
+  pub start_is : (p l m : ℕ) (rows' holders' : List ℕ) (r : Result Head Refusal) (n : ℕ)
+      → ((ss : List Seat) → length ss ≡ length seats → begun r h ss rows' holders' ≡ start_of p l m (yard_of h ss rows holders))
+      → n ≡ code_of (begun r h seats rows' holders').answer
+      → Steps (step (start p l m) Y) n (begun r h seats rows' holders').yard
   unfolding step
-  start_is p l m seats' rows' holders' r n e c b k =
-      stepped (start_of p l m Y) r.answer (yard_of r.head seats' rows' holders') (ap (λ (x : List Seat). out r.answer r.head x rows' holders') b ∙ e seats refl) n k
+  start_is p l m rows' holders' r n e k = (k ∙ ap (λ (x : Out). code_of x.answer) (e seats refl), ap (λ (x : Out). x.yard) (e seats refl))
+
+  -- a start that is not refused clears the seats
+  pub start-done : (p l m : ℕ) (seats' : List Seat) (rows' holders' : List ℕ) (g : Head)
+      → ((h : Head) (ss : List Seat) → length ss ≡ length seats → begun (Ok g) h ss rows' holders' ≡ start_of p l m (yard_of h ss rows holders))
+      → seats' ≡ replicate (length seats) cleared → Steps (step (start p l m) Y) 0 (yard_of g seats' rows' holders')
+  unfolding step
+  start-done p l m seats' rows' holders' g e b =
+      stepped (start_of p l m Y) (Ok Done) (yard_of g seats' rows' holders') (ap (λ (x : List Seat). out (Ok Done) g x rows' holders') b ∙ e h seats refl) 0 refl
+
+  pub start-refused : (p l m : ℕ) (rows' holders' : List ℕ) (r : Refusal)
+      → ((h : Head) (ss : List Seat) → length ss ≡ length seats → begun (Err r) h ss rows' holders' ≡ start_of p l m (yard_of h ss rows holders))
+      → Steps (step (start p l m) Y) r.number (yard_of h seats rows' holders')
+  unfolding step
+  start-refused p l m rows' holders' r e = stepped (start_of p l m Y) (Err r) (yard_of h seats rows' holders') (e h seats refl) r.number refl
 
   pub sit-is : (was : Told) (seats' : List Seat) (rows' : List ℕ) (i : ℕ) (s : Seat) (r : Stepped) (t : Told) (n : ℕ)
       → i ≡ lowest_free seats → s ≡ get_or seats i cleared → turn r rows' holders ≡ sit_of i (length seats) (around h s rows holders)
@@ -138,73 +153,84 @@ module _ (h : Head) (seats : List Seat) (rows holders : List ℕ) where
   unfolding step
   interest-is i on frame seats' frame' s r n = marked (interest i on (length frame)) (we_want on) i (length frame) (interest_frame on) frame frame' s r seats' n refl refl
 
-  pub round_is : (was : Told) (seats' : List Seat) (fault : ℕ) (ranking : Ranking) (free : ℕ) (holder : Seat) (r : Turned) (t : Told) (n : ℕ)
-      → fault ≡ round_fault h (length seats) (length rows) (length holders) → ranking ≡ ranked h.last seats → free ≡ free_of h ranking → holder ≡ get_or seats free cleared
-      → r ≡ turned h fault ranking free holder → seats' ≡ each (λ i s. mark_step r.marks s i) seats
-      → t ≡ told_of (paper r.answer) was → n ≡ code_of (paper r.answer)
+  -- a round that is refused, by whether the sizes fit and whether the free place is misplaced
+  abbrev no : ℕ → Out
+  no k = record { answer = refused k 0; yard = Y }
+
+  refused-by : (f m : Bool) (k : ℕ) (z : Out) → Some k ≡ cond f (cond m (Some damaged) None) (Some sizes) → no k ≡ cond f (cond m (no damaged) z) (no sizes)
+  refused-by true true k z e = let q : k ≡ damaged = cc in ap no q
+  refused-by true false k z e = no_way (cc)
+  refused-by false m k z e = let q : k ≡ sizes = cc in ap no q
+
+  sound-by : (f m : Bool) → None ≡ cond f (cond m (Some damaged) None) (Some sizes) → (f ≡ true) × (m ≡ false)
+  sound-by true true e = no_way (cc)
+  sound-by true false e = (refl, refl)
+  sound-by false m e = no_way (cc)
+
+  pub round-refused : (was : Told) (k : ℕ) → Some k ≡ round_fault h (length seats) (length rows) (length holders) → Tells (step round Y) was k was Y
+  unfolding step round_of
+  round-refused was k e =
+      told (step round Y) (Err (record { place = 0; number = k })) Y (refused-by (sizes_fit h (length seats) (length rows) (length holders)) (misplaced h (length seats)) k _ e) was was k refl refl
+
+  pub round-done : (was : Told) (seats' : List Seat) (ranking : Ranking) (free : ℕ) (holder : Seat) (r : Turned) (t : Told) (n : ℕ)
+      → None ≡ round_fault h (length seats) (length rows) (length holders) → ranking ≡ ranked h.last seats → free ≡ free_of h ranking → holder ≡ get_or seats free cleared
+      → r ≡ turned h ranking free holder → seats' ≡ each (λ i s. mark_step r.marks s i) seats
+      → t ≡ told_of (taken (unchoked r.unchoked)) was → n ≡ code_of (taken (unchoked r.unchoked))
       → Tells (step round Y) was n t (yard_of r.head seats' rows holders)
   unfolding step
-  round_is was seats' fault ranking free holder r t n e k f s m b g c =
-      told (step round Y) r.answer (yard_of r.head seats' rows holders)
-      (ap (λ (l : List Seat). out r.answer r.head l rows holders) b
-      ∙ ap (λ (x : Turned). out x.answer x.head (each (λ i s. mark_step x.marks s i) seats) rows holders)
+  round-done was seats' ranking free holder r t n e k f s m b g c =
+      let (q, p) = sound-by (sizes_fit h (length seats) (length rows) (length holders)) (misplaced h (length seats)) e in
+      let left : Turned → Out = λ (x : Turned). out (Ok (Unchoked x.unchoked)) x.head (each (λ i s. mark_step x.marks s i) seats) rows holders in
+      told (step round Y) (Ok (Unchoked r.unchoked)) (yard_of r.head seats' rows holders)
+      (ap (λ (l : List Seat). out (Ok (Unchoked r.unchoked)) r.head l rows holders) b
+      ∙ ap left
       (m
-      ∙ ap (λ (x : Seat). turned h fault ranking free x) s
-      ∙ ap (λ (j : ℕ). turned h fault ranking j (get_or seats j cleared)) f
-      ∙ ap (λ (x : Ranking). turned h fault x (free_of h x) (get_or seats (free_of h x) cleared)) k)
-      ∙ round-turns h seats rows holders fault e)
+      ∙ ap (λ (x : Seat). turned h ranking free x) s
+      ∙ ap (λ (j : ℕ). turned h ranking j (get_or seats j cleared)) f
+      ∙ ap (λ (x : Ranking). turned h x (free_of h x) (get_or seats (free_of h x) cleared)) k)
+      ∙ round-turns h seats rows holders q p)
       was t n g c
 
   -- ---- looks
-  pub scarcest-is : (was : Told) (a : Answer) (t : Told) (n : ℕ) → ((s : Seat) → paper a ≡ (scarcest_of (length seats) (around h s rows holders)).answer)
+  pub scarcest-is : (was : Told) (a : Result Answer Refusal) (t : Told) (n : ℕ) → ((s : Seat) → paper a ≡ (scarcest_of (length seats) (around h s rows holders)).answer)
       → t ≡ told_of (paper a) was → n ≡ code_of (paper a) → Looks (step scarcest Y).answer was n t × (h ≡ h)
   unfolding step
   scarcest-is was a t n e g k = (looked (step scarcest Y).answer a (e (get_or seats 0 cleared)) was t n g k, refl)
 
-  pub look_is : (i : ℕ) (was : Seat) (s : Seat) (a : Answer) (t : Seat) (n : ℕ) → s ≡ get_or seats i cleared → paper a ≡ (seat_of i (length seats) (around h s rows holders)).answer
+  pub look_is : (i : ℕ) (was : Seat) (s : Seat) (a : Result Answer Refusal) (t : Seat) (n : ℕ) → s ≡ get_or seats i cleared → paper a ≡ (seat_of i (length seats) (around h s rows holders)).answer
       → t ≡ shown_of (paper a) was → n ≡ code_of (paper a) → Shows (step (look i) Y).answer was n t × (h ≡ h)
   unfolding step
   look_is i was s a t n e f g k = (showed (step (look i) Y).answer a (f ∙ ap (λ (x : Seat). (seat_of i (length seats) (around h x rows holders)).answer) e) was t n g k, refl)
 
-  pub has-is : (i p : ℕ) (was : Told) (q : PieceNumber) (a : Answer) (t : Told) (n : ℕ)
+  pub has-is : (i p : ℕ) (was : Told) (q : PieceNumber) (a : Result Answer Refusal) (t : Told) (n : ℕ)
       → q.0 ≡ min p widest → ((s : Seat) → paper a ≡ (has_of i q.0 (length seats) (around h s rows holders)).answer)
       → t ≡ told_of (paper a) was → n ≡ code_of (paper a) → Looks (step (has i p) Y).answer was n t × (h ≡ h)
   unfolding step
   has-is i p was q a t n c e g k = (looked (step (has i p) Y).answer a (e (get_or seats i cleared) ∙ has-numbered (length seats) (around h (get_or seats i cleared) rows holders) i p c) was t n g k, refl)
 
-  pub count-is : (p : ℕ) (was : Told) (q : PieceNumber) (a : Answer) (t : Told) (n : ℕ)
+  pub count-is : (p : ℕ) (was : Told) (q : PieceNumber) (a : Result Answer Refusal) (t : Told) (n : ℕ)
       → q.0 ≡ min p widest → ((s : Seat) → paper a ≡ (count_of q.0 (length seats) (around h s rows holders)).answer)
       → t ≡ told_of (paper a) was → n ≡ code_of (paper a) → Looks (step (count p) Y).answer was n t × (h ≡ h)
   unfolding step
   count-is p was q a t n c e g k = (looked (step (count p) Y).answer a (e (get_or seats 0 cleared) ∙ count-numbered (length seats) (around h (get_or seats 0 cleared) rows holders) p c) was t n g k, refl)
 
 -- ---- the missing list: t where the sizes fit, u where the first seat is one of them or just past them
-module _ (x : Around) (space : ℕ) where
-  abbrev fault_by : Bool → Bool → ℕ
-  fault_by t u = cond t (cond u 0 seat) sizes
+module _ (x : Around) where
+  abbrev said_by : Bool → Bool → Turn → Turn
+  said_by t u y = cond t (cond u y (refuse seat x)) (refuse sizes x)
 
-  abbrev said_by : Bool → Bool → Page → Turn
-  said_by t u p = cond t (cond u (says (listed p) x) (refuse seat x)) (refuse sizes x)
+  abbrev fault_by : Bool → Bool → Option ℕ
+  fault_by t u = cond t (cond u None (Some seat)) (Some sizes)
 
-  abbrev room_by : Bool → Bool → ℕ
-  room_by t u = cond (eqb (fault_by t u) 0) space 0
+  faulty : (t u : Bool) (y : Turn) (k : ℕ) → Some k ≡ fault_by t u → (said_by t u y).answer ≡ refused k 0
+  faulty true true y k e = no_way (cc)
+  faulty true false y k e = let q : k ≡ seat = cc in ap {B = Outcome Said} (λ (m : ℕ). refused m 0) (sym q)
+  faulty false u y k e = let q : k ≡ sizes = cc in ap {B = Outcome Said} (λ (m : ℕ). refused m 0) (sym q)
 
-  answer-by : (t u : Bool) (page : ℕ → Page) → paper (answer_of (fault_by t u) (page (room_by t u))) ≡ (said_by t u (page space)).answer
-  answer-by true true page = refl
-  answer-by true false page = refl
-  answer-by false true page = refl
-  answer-by false false page = refl
-
-  lines-by : (t u : Bool) (p : Page) (lines : ℕ → List ℕ) → (t ≡ true → u ≡ true → as_lines (lines space) ≡ lines space) → as_lines (lines 0) ≡ []
-      → as_lines (lines (room_by t u)) ≡ if_taken (said_by t u p).answer (lines space)
-  lines-by true true p lines f e = f refl refl
-  lines-by true false p lines f e = e
-  lines-by false true p lines f e = e
-  lines-by false false p lines f e = e
-
-no_lines : (p first : ℕ) (seats : List Seat) → as_lines (lines_of p first 0 seats) ≡ []
-unfolding as_lines
-no_lines p first seats = refl
+  faultless : (t u : Bool) (y : Turn) → None ≡ fault_by t u → (t ≡ true) × (u ≡ true) × (said_by t u y ≡ y)
+  faultless true true y e = (refl, refl, refl)
+  faultless true false y e = no_way (cc)
+  faultless false u y e = no_way (cc)
 
 module _ (h : Head) (seats : List Seat) (rows holders : List ℕ) (first : ℕ) (page : List ℕ) where
   abbrev T : Bool
@@ -219,29 +245,34 @@ module _ (h : Head) (seats : List Seat) (rows holders : List ℕ) (first : ℕ) 
   abbrev S : ℕ
   S = length page
 
+  abbrev M : Out
+  M = step (missing first S) (yard_of h seats rows holders)
+
+  abbrev Listed_of : Turn
+  Listed_of = says (listed (page_of h.pieces first S seats)) X
+
   fits : T ≡ true → U ≡ true → as_lines (lines_of h.pieces first S seats) ≡ lines_of h.pieces first S seats
   fits t u = lines_are h.pieces first S seats (leb-true first (length seats) u) (few (fitting h (length seats) (length rows) (length holders) t).seats)
     where
       few : length seats ≤ most_seats → length seats ≤ 4294967296
       few l = omega arith
 
-  pub missing-is : (was : Told) (page' : List ℕ) (fault : ℕ) (a : Asked) (p : Page) (r : Answer) (t : Told) (n : ℕ)
-      → fault ≡ page_fault h (length seats) (length rows) (length holders) first
-      → a ≡ record { pieces = h.pieces; first = first; lines = cond (eqb fault 0) S 0 }
-      → (p ≡ page_of a.pieces a.first a.lines seats) × (page' ≡ sets page 0 (as_lines (lines_of a.pieces a.first a.lines seats)))
-      → r ≡ answer_of fault p → t ≡ told_of (paper r) was → n ≡ code_of (paper r)
-      → Looks (step (missing first S) (yard_of h seats rows holders)).answer was n t × (page' ≡ sets page 0 (written (missing first S) (yard_of h seats rows holders))) × (h ≡ h)
+  pub missing-refused : (was : Told) (k : ℕ) → Some k ≡ page_fault h (length seats) (length rows) (length holders) first
+      → Looks M.answer was k was × (page ≡ sets page 0 (written (missing first S) (yard_of h seats rows holders))) × (h ≡ h)
   unfolding step
-  missing-is was page' fault a p r t n ef ea (ep, el) er g k = (
-    looked (step (missing first S) (yard_of h seats rows holders)).answer r
-        (ap paper er
-        ∙ ap (λ (q : Page). paper (answer_of fault q)) (ep ∙ ap (λ (b : Asked). page_of b.pieces b.first b.lines seats) ea)
-        ∙ ap (λ (f : ℕ). paper (answer_of f (page_of h.pieces first (cond (eqb f 0) S 0) seats))) ef
-        ∙ answer-by X S T U (λ m. page_of h.pieces first m seats))
-        was t n g k,
-    el
-        ∙ ap (λ (b : Asked). sets page 0 (as_lines (lines_of b.pieces b.first b.lines seats))) ea
-        ∙ ap (λ (f : ℕ). sets page 0 (as_lines (lines_of h.pieces first (cond (eqb f 0) S 0) seats))) ef
-        ∙ ap (λ (l : List ℕ). sets page 0 l) (lines-by X S T U (page_of h.pieces first S seats) (λ m. lines_of h.pieces first m seats) fits (no_lines h.pieces first seats)),
-    refl,
-  )
+  missing-refused was k e =
+      let q : refused k 0 ≡ M.answer = sym (faulty X T U Listed_of k e) in
+      (looked M.answer (Err (record { place = 0; number = k })) q was was k refl refl, ap (λ (o : Outcome Said). sets page 0 (if_taken o (lines_of h.pieces first S seats))) q, refl)
+
+  pub missing-done : (was : Told) (page' : List ℕ) (p : Page) (t : Told) (n : ℕ) → None ≡ page_fault h (length seats) (length rows) (length holders) first
+      → (p ≡ page_of h.pieces first S seats) × (page' ≡ sets page 0 (as_lines (lines_of h.pieces first S seats)))
+      → t ≡ told_of (taken (listed p)) was → n ≡ code_of (taken (listed p))
+      → Looks M.answer was n t × (page' ≡ sets page 0 (written (missing first S) (yard_of h seats rows holders))) × (h ≡ h)
+  unfolding step
+  missing-done was page' p t n e (ep, el) g k =
+      let (f, u, y) = faultless X T U Listed_of e in
+      let q : M.answer ≡ taken (listed (page_of h.pieces first S seats)) = ap (λ (z : Turn). z.answer) y in (
+        looked M.answer (Ok (Listed p)) (ap {B = Outcome Said} (λ (z : Page). taken (listed z)) ep ∙ sym q) was t n g k,
+        el ∙ ap (λ (l : List ℕ). sets page 0 l) (fits f u) ∙ ap (λ (o : Outcome Said). sets page 0 (if_taken o (lines_of h.pieces first S seats))) (sym q),
+        refl,
+      )

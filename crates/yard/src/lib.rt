@@ -5,18 +5,19 @@
 
 ghost use Rattle.std.specs.Prelude.{◌≡◌, length};
 ghost use Rattle.std.proofs.lemmas.List.Edits.{sets};
-ghost use Rattle.yard_tables.specs.Tables.{yard_of};
+ghost use Rattle.yard_tables.specs.Tables.{paper, yard_of};
 ghost use Rattle.yard_tables.specs.Step.{Call, step, written};
-ghost use Rattle.yard_telling.specs.Telling.{Steps, Tells, Looks, Shows};
+ghost use Rattle.yard_telling.specs.Telling.{Steps, Tells, Looks, Shows, code_of, told_of};
 
+use refusal::Refusal;
 use torrent_blocks::piece_numbered;
 use yard_hearing::{feed_step, heard_head};
 use yard_scans::{
-    clear_seats, list_missing, lowest_free, mark_seats, rank_seats, seat_get, seat_set,
+    Asked, clear_seats, list_missing, lowest_free, mark_seats, rank_seats, seat_get, seat_set,
 };
 use yard_seating::{choke_step, interest_step, leave_step, looks, sit_step, start_step};
 use yard_tables::round::{free_place, turn};
-use yard_tables::{Head, Seat};
+use yard_tables::{Answer, Head, Seat};
 use yard_telling::{Told, code, shown, tell};
 
 mod pages;
@@ -36,10 +37,14 @@ pub fn wardrail_yard_start(
         result (yard_of head.new seats.new rows.new holders.new) }
 {
     let n = seats.len();
-    let r = start_step(*head, pieces, piece_length, last_length, n, rows, holders);
-    clear_seats(seats, r.clear);
-    *head = r.head;
-    code(r.answer)
+    match start_step(pieces, piece_length, last_length, n, rows, holders) {
+        Ok(begun) => {
+            clear_seats(seats);
+            *head = begun;
+            0
+        }
+        Err(r) => r.number as u64,
+    }
 }
 
 // A truck sits down: `value` becomes its seat.
@@ -59,9 +64,7 @@ pub fn wardrail_yard_sit(
     let r = sit_step(*head, s, rows, holders, i, n);
     seat_set(seats, i, r.seat);
     *head = r.head;
-    let t = tell(r.answer, *told);
-    *told = t;
-    code(r.answer)
+    say(r.answer, told)
 }
 
 // The truck of a seat leaves.
@@ -100,11 +103,8 @@ pub fn wardrail_yard_feed(
     let s = seat_get(seats, seat);
     let r = feed_step(*head, s, rows, holders, seat, n, bytes);
     seat_set(seats, seat, r.seat);
-    let heard = heard_head(*head, r.head);
-    *head = heard;
-    let t = tell(r.answer, *told);
-    *told = t;
-    code(r.answer)
+    *head = heard_head(*head, r.head);
+    say(r.answer, told)
 }
 
 // We choke the truck of a seat, or no longer: the frame's 5 bytes are written.
@@ -170,14 +170,16 @@ pub fn wardrail_yard_missing(
         × (head.new ≡ head.old) }
 {
     let n = seats.len();
-    let fault = pages::fault(*head, n, rows, holders, first);
-    let lines = page.len();
-    let asked = pages::asked(*head, first, lines, fault);
+    if let Some(number) = pages::fault(*head, n, rows, holders, first) {
+        return number as u64;
+    }
+    let asked = Asked {
+        pieces: head.pieces,
+        first,
+        lines: page.len(),
+    };
     let listed = list_missing(seats, page, asked);
-    let a = pages::answer(fault, listed);
-    let t = tell(a, *told);
-    *told = t;
-    code(a)
+    say(Ok(Answer::Listed(listed)), told)
 }
 
 // The scarcest piece becomes `value`.
@@ -194,9 +196,7 @@ pub fn wardrail_yard_scarcest(
 {
     let n = seats.len();
     let a = looks::scarcest(*head, n, rows, holders);
-    let t = tell(a, *told);
-    *told = t;
-    code(a)
+    say(a, told)
 }
 
 // The record of a seat becomes `seen`.
@@ -215,8 +215,7 @@ pub fn wardrail_yard_look(
     let n = seats.len();
     let s = seat_get(seats, seat);
     let a = looks::seat(*head, s, seat, n, rows, holders);
-    let t = shown(a, *seen);
-    *seen = t;
+    *seen = shown(a, *seen);
     code(a)
 }
 
@@ -237,9 +236,7 @@ pub fn wardrail_yard_has(
     let n = seats.len();
     let p = piece_numbered(piece);
     let a = looks::has(*head, seat, p, n, rows, holders);
-    let t = tell(a, *told);
-    *told = t;
-    code(a)
+    say(a, told)
 }
 
 // How many trucks hold a piece becomes `value`.
@@ -258,9 +255,7 @@ pub fn wardrail_yard_count(
     let n = seats.len();
     let p = piece_numbered(piece);
     let a = looks::count(*head, p, n, rows, holders);
-    let t = tell(a, *told);
-    *told = t;
-    code(a)
+    say(a, told)
 }
 
 // A round: who is unchoked until the next one. `value` becomes how many trucks are.
@@ -275,14 +270,23 @@ pub fn wardrail_yard_round(
         told.old result told.new (yard_of head.new seats.new rows.now holders.now) }
 {
     let n = seats.len();
-    let fault = rounds::fault(*head, n, rows, holders);
+    if let Some(number) = rounds::fault(*head, n, rows, holders) {
+        return number as u64;
+    }
     let ranking = rank_seats(seats, *head);
     let free = free_place(*head, ranking);
     let holder = seat_get(seats, free);
-    let r = turn(*head, fault, ranking, free, holder);
+    let r = turn(*head, ranking, free, holder);
     mark_seats(seats, r.marks);
     *head = r.head;
-    let t = tell(r.answer, *told);
-    *told = t;
-    code(r.answer)
+    say(Ok(Answer::Unchoked(r.unchoked)), told)
+}
+
+// Tells an answer: what it says beside its number goes into the record that is lent.
+fn say(a: Result<Answer, Refusal>, told: &mut Told) -> u64
+    ensures number { result ≡ code_of (paper a) }
+    ensures beside { told.new ≡ told_of (paper a) told.old }
+{
+    *told = tell(a, *told);
+    code(a)
 }

@@ -1,4 +1,5 @@
 -- Frames that announce pieces, by the tests that the code makes. Assumes nothing.
+use Rattle.std.specs.Prelude.{Ok}
 use mathlib.Core.Path.{◌≡◌, refl, sym, ap, ap₂, ◌∙◌}
 use mathlib.Core.Logic.{◌≢◌}
 use mathlib.Core.Bool.{Bool, true, false, not, ◌&&◌}
@@ -167,13 +168,13 @@ module _ (h : Head) (s : Seat) (rows holders : List ℕ) (n i used p : ℕ) wher
           sym (set-get_or rows (i * width h.pieces + p / 8) 0)
           ∙ ap (set rows (i * width h.pieces + p / 8)) (sym (or-had (7 - p % 8) (get_or rows (i * width h.pieces + p / 8) 0) (had-is ∙ t)))
 
-      nothing-gained : stepped h (spoken s) (Taken used) ≡ gained h s (record { added = 0; over = false }) used
+      nothing-gained : stepped h (spoken s) (Ok (Taken used)) ≡ gained h s (record { added = 0; over = false }) used
       nothing-gained =
           let a : h.complete ≡ h.complete + 0 = omega arith in
           let b : s.held ≡ s.held + 0 = omega arith in
-          ap₂ (λ (x y : ℕ). stepped (counted h.taken x h) (holding y (spoken s)) (Taken used)) a b
+          ap₂ (λ (x y : ℕ). stepped (counted h.taken x h) (holding y (spoken s)) (Ok (Taken used))) a b
 
-      pub have-had : (r : Stepped) → r ≡ stepped h (spoken s) (Taken used) → turn r rows holders ≡ have_of n i used p (around h s rows holders)
+      pub have-had : (r : Stepped) → r ≡ stepped h (spoken s) (Ok (Taken used)) → turn r rows holders ≡ have_of n i used p (around h s rows holders)
       have-had r er = have-within (turn r rows holders) P ep l
           (announce-good h s rows holders n i used (λ q. eqb q p) (with_bit (width h.pieces) i p rows) (record { added = 0; over = false })
           (sym (count_none only h.pieces (λ q m. none q)))

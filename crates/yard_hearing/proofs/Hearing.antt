@@ -1,4 +1,5 @@
 -- A frame for a seat, by what it says and by the checks before it. Assumes nothing.
+use Rattle.std.specs.Prelude.{Err, Ok, Result}
 use mathlib.Core.Path.{◌≡◌, refl, sym, ap, ◌∙◌, subst}
 use mathlib.Core.Logic.{inl, inr}
 use mathlib.Core.Bool.{Bool, true, false, ◌&&◌}
@@ -16,14 +17,14 @@ use Rattle.refusal.specs.Parts.{bytes_at}
 use Rattle.refusal.specs.declared.Part.{Part}
 use Rattle.refusal.proofs.Cases.{pick_yes, pick_no}
 use Rattle.peer_wire.specs.Message.{Message, have}
-use Rattle.peer_wire.specs.Frames.{least, most, allowed, sized_of, Found, found, message_of as message_by, number_in, read_of, message, meant, paper as read}
+use Rattle.peer_wire.specs.Frames.{least, allowed, sized_of, Found, found, message_of as message_by, number_in, read_of, message, meant, read_paper as read}
 use Rattle.peer_wire.specs.Causes.{named, Cause}
 use Rattle.torrent_blocks.specs.declared.PieceNumber.{PieceNumber}
 use Rattle.torrent_blocks.specs.declared.PieceOffset.{PieceOffset}
 use Rattle.peer_wire.specs.declared.Frame.{Frame}
 use Rattle.peer_wire.specs.declared.Frame.TheVariants.{Choke, Unchoke, Interested, NotInterested, Have, Bitfield, Request, Piece, Cancel, Other}
 use Rattle.peer_wire.specs.declared.Read.{Read}
-use Rattle.peer_wire.specs.declared.Read.TheVariants.{Wait, Keepalive, Whole, Refused}
+use Rattle.peer_wire.specs.declared.Read.TheVariants.{Wait, Keepalive, Whole}
 use Rattle.peer_wire.proofs.Decided.{exactly}
 use Rattle.peer_wire.proofs.Steps.{by-id, message-other, read-sized, sized-whole}
 use Rattle.yard_tables.specs.Replies.{stepped, refusing}
@@ -44,7 +45,7 @@ module _ (s : List ℕ) (n : ℕ) (all : 4 + n ≤ length s) where
   says id = message_by (λ k. number_in s (5 + k)) (λ k. record { from = 5 + k; len = n - (1 + k) }) id
 
   lies : (id : ℕ) → least id ≤ n → Inside s (says id)
-  unfolding message_by least
+  unfolding message_by
   lies = by-id (λ id. least id ≤ n → Inside s (says id))
       (λ l. tt) (λ l. tt) (λ l. tt) (λ l. tt) (λ l. tt) (λ l. omega arith) (λ l. tt) (λ l. omega arith) (λ l. tt)
       (λ k h l. subst (Inside s) (sym (message-other (λ j. number_in s (5 + j)) (λ j. record { from = 5 + j; len = n - (1 + j) }) k h)) tt)
@@ -58,7 +59,7 @@ inside s m u e = go ((exactly s (taken (found m u))).0 e)
 
 -- a whole have, by its length and its id
 pub whole-have : (s : List ℕ) (k b : ℕ) → k ≡ number_in s 0 → 9 ≤ length s → k ≡ 5 → b ≡ get_or s 4 0 → b ≡ 4 → read_of s ≡ taken (found (have (number_in s 5)) 9)
-unfolding message_by least most
+unfolding message_by
 whole-have s k b ek l e eb f =
     let id : get_or s 4 0 ≡ 4 = sym eb ∙ f in
     read-sized s (omega arith) ∙ ap (sized_of s) (sym ek ∙ e) ∙ sized-whole s 5 (omega arith) (omega arith) (omega arith) (ap (λ (x : ℕ). allowed x 5) id)
@@ -68,11 +69,11 @@ whole-have s k b ek l e eb f =
 
 module _ (h : Head) (s : Seat) (rows holders : List ℕ) (n i u : ℕ) (text : List ℕ) (f : Frame) where
   -- a frame that changes the seat t alone
-  module _ (t : Seat) (r : Stepped) (er : r ≡ stepped h (spoken t) (A.Taken u)) where
-    heard : (g : Frame) (t' : Seat) → f ≡ g → t ≡ t' → turn (stepped h (spoken t') (A.Taken u)) rows holders ≡ message_of n i u (meant text (message g)) (around h s rows holders)
+  module _ (t : Seat) (r : Stepped) (er : r ≡ stepped h (spoken t) (Ok (A.Taken u))) where
+    heard : (g : Frame) (t' : Seat) → f ≡ g → t ≡ t' → turn (stepped h (spoken t') (Ok (A.Taken u))) rows holders ≡ message_of n i u (meant text (message g)) (around h s rows holders)
         → turn r rows holders ≡ message_of n i u (meant text (message f)) (around h s rows holders)
     heard g t' ef et e =
-        ap (λ (a : Stepped). turn a rows holders) (er ∙ ap (λ (x : Seat). stepped h (spoken x) (A.Taken u)) et) ∙ e
+        ap (λ (a : Stepped). turn a rows holders) (er ∙ ap (λ (x : Seat). stepped h (spoken x) (Ok (A.Taken u))) et) ∙ e
         ∙ ap (λ (x : Frame). message_of n i u (meant text (message x)) (around h s rows holders)) (sym ef)
 
     pub heard-choke : f ≡ Choke → t ≡ they_choke true s → turn r rows holders ≡ message_of n i u (meant text (message f)) (around h s rows holders)
@@ -163,30 +164,30 @@ module _ (h : Head) (s : Seat) (rows holders : List ℕ) (n i : ℕ) (text : Lis
         let z = fitting h n (length rows) (length holders) (sym et ∙ f) in
         record { few = z.few; seats = z.seats; seat = l; row = z.row; counts = z.counts }
 
-    module _ (l : i < n) (g : on s.taken ≡ true) (q : Read) (eq : read q ≡ read_of text) where
+    module _ (l : i < n) (g : on s.taken ≡ true) (q : Result Read Refusal) (eq : read q ≡ read_of text) where
       both : (a b : Bool) → a ≡ true → b ≡ true → (a && b) ≡ true
       both a b e k = rw (e, k)
 
-      fed : (o : Turn) (p : Read) → q ≡ p → o ≡ frame_of n i text (read p) (around h s rows holders) → o ≡ feed_of i text n (around h s rows holders)
+      fed : (o : Turn) (p : Result Read Refusal) → q ≡ p → o ≡ frame_of n i text (read p) (around h s rows holders) → o ≡ feed_of i text n (around h s rows holders)
       unfolding feed_of
       fed o p ep eo = pick_yes _ (sizes_fit h n (length rows) (length holders)) (sym et ∙ f)
           (pick_yes _ (ltb i n && on s.taken) (both (ltb i n) (on s.taken) (lt-ltb i n l) g)
           (eo ∙ ap (λ (x : Outcome Found). frame_of n i text x (around h s rows holders)) (ap read (sym ep) ∙ eq)))
 
-      pub feed-wait : (r : Stepped) → q ≡ Wait → r ≡ stepped h s A.Wait → turn r rows holders ≡ feed_of i text n (around h s rows holders)
-      feed-wait r e er = fed (turn r rows holders) Wait e (as-turn er)
+      pub feed-wait : (r : Stepped) → q ≡ Ok Wait → r ≡ stepped h s (Ok A.Wait) → turn r rows holders ≡ feed_of i text n (around h s rows holders)
+      feed-wait r e er = fed (turn r rows holders) (Ok Wait) e (as-turn er)
 
-      pub feed-refused : (r : Stepped) (why : Refusal) → q ≡ Refused why → r ≡ refusing h s why.number → turn r rows holders ≡ feed_of i text n (around h s rows holders)
-      feed-refused r why e er = fed (turn r rows holders) (Refused why) e (as-turn er)
+      pub feed-refused : (r : Stepped) (why : Refusal) → q ≡ Err why → r ≡ refusing h s why.number → turn r rows holders ≡ feed_of i text n (around h s rows holders)
+      feed-refused r why e er = fed (turn r rows holders) (Err why) e (as-turn er)
 
-      pub feed-keepalive : (r : Stepped) (u : ℕ) → q ≡ Keepalive u → r ≡ stepped h s (A.Taken u) → turn r rows holders ≡ feed_of i text n (around h s rows holders)
+      pub feed-keepalive : (r : Stepped) (u : ℕ) → q ≡ Ok (Keepalive u) → r ≡ stepped h s (Ok (A.Taken u)) → turn r rows holders ≡ feed_of i text n (around h s rows holders)
       unfolding message_of
-      feed-keepalive r u e er = fed (turn r rows holders) (Keepalive u) e (as-turn er)
+      feed-keepalive r u e er = fed (turn r rows holders) (Ok (Keepalive u)) e (as-turn er)
 
-      pub feed-whole : (o : Turn) (x : Frame) (u : ℕ) → q ≡ Whole x u → o ≡ message_of n i u (meant text (message x)) (around h s rows holders) → o ≡ feed_of i text n (around h s rows holders)
-      feed-whole o x u e eo = fed o (Whole x u) e eo
+      pub feed-whole : (o : Turn) (x : Frame) (u : ℕ) → q ≡ Ok (Whole x u) → o ≡ message_of n i u (meant text (message x)) (around h s rows holders) → o ≡ feed_of i text n (around h s rows holders)
+      feed-whole o x u e eo = fed o (Ok (Whole x u)) e eo
 
-      pub whole-inside : (x : Frame) (u : ℕ) → q ≡ Whole x u → Inside text (message x)
+      pub whole-inside : (x : Frame) (u : ℕ) → q ≡ Ok (Whole x u) → Inside text (message x)
       whole-inside x u e = inside text (message x) u (sym eq ∙ ap read e)
 
       pub whole-sized : InTables h n i rows holders
@@ -196,4 +197,4 @@ module _ (h : Head) (s : Seat) (rows holders : List ℕ) (n i : ℕ) (text : Lis
     pub feed-have : (o : Turn) (p : PieceNumber) → i < n → on s.taken ≡ true → p.0 ≡ number_in text 5 → read_of text ≡ taken (found (have (number_in text 5)) 9)
         → o ≡ have_of n i 9 p.0 (around h s rows holders) → o ≡ feed_of i text n (around h s rows holders)
     feed-have o p l g ep er eo =
-        feed-whole l g (Whole (Have p) 9) (ap {B = Outcome Found} (λ (x : ℕ). taken (found (have x) 9)) ep ∙ sym er) o (Have p) 9 refl (said-have h s rows holders n i 9 text (Have p) o p refl eo)
+        feed-whole l g (Ok (Whole (Have p) 9)) (ap {B = Outcome Found} (λ (x : ℕ). taken (found (have x) 9)) ep ∙ sym er) o (Have p) 9 refl (said-have h s rows holders n i 9 text (Have p) o p refl eo)

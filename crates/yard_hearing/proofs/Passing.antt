@@ -2,22 +2,55 @@
 use mathlib.Core.Path.{◌≡◌, refl, sym, ap, ◌∙◌}
 use mathlib.Core.Bool.{Bool, true, false, not, ◌&&◌, ◌||◌}
 use mathlib.Core.List.{List}
-use Prim.Native.Nat.{ℕ, zero, suc, ◌+◌, ◌*◌, ◌/◌, ◌%◌, ◌-◌, ◌≤◌, ◌<◌}
+use Prim.Native.Nat.{ℕ, zero, suc, ◌+◌, ◌*◌, ◌/◌, ◌%◌, ◌-◌, ◌^◌, min, ◌≤◌, ◌<◌}
 use native.Mathlib.Omega.{arith}
 use native.Mathlib.Numerals.{add-one}
-use lib.Dec.{leb}
-use lib.Bits.{bit_or}
+use lib.Dec.{leb, eqb}
+use native.Mathlib.Nat.{pow-suc}
+use lib.Bits.{bit_or, bit_and, and_step}
 use lib.ListN.{length, get_or, set}
 use borrow.Author.Tests.{leb-false, lt-leb, le-leb}
-use Rattle.refusal.proofs.Cases.{same_or}
+use Rattle.refusal.proofs.Cases.{same_or, by_bool, cannot, both_true}
 use Rattle.yard_tables.specs.Counting.{bit, count, some, each}
 use Rattle.yard_tables.specs.Rows.{digit, bit_at, with_bits}
 use Rattle.yard_tables.specs.Frames.{spare_set}
 use Rattle.yard_tables.proofs.Counts.{bit_le, some-every}
-use Rattle.yard_tables.proofs.Digits.{none-new}
+use Rattle.yard_tables.proofs.Digits.{digit-zero}
 use Rattle.yard_tables.proofs.Sweeps.{sweep, sweep-start, sweep-next, sweep-turn, sweep-skip, sweep-out, sweep-ext, length-sweep, sweep-each, sweep-or}
 use Rattle.yard_hearing.specs.Passes.{new_at, noted, nothing, checked, up, raised, merged, spare_below}
 use Rattle.yard_hearing.specs.declared.row.News.{News}
+
+-- ---- the new bits of a byte
+
+min-bit : (x y : ℕ) → x < 2 → y < 2 → eqb (min x (1 - y)) 1 ≡ (eqb x 1 && not (eqb y 1))
+min-bit zero zero h l = refl
+min-bit zero (suc zero) h l = refl
+min-bit (suc zero) zero h l = refl
+min-bit (suc zero) (suc zero) h l = refl
+min-bit zero (suc (suc y)) h l = absurd (omega arith)
+min-bit (suc zero) (suc (suc y)) h l = absurd (omega arith)
+min-bit (suc (suc x)) y h l = absurd (omega arith)
+
+and-low : (a b : ℕ) → bit_and a b % 2 ≡ min (a % 2) (b % 2)
+and-low a b = omega (arith, and_step a b)
+
+and-half : (a b : ℕ) → bit_and a b / 2 ≡ bit_and (a / 2) (b / 2)
+and-half a b = omega (arith, and_step a b)
+
+-- the digits of a that b lacks, where b has w of them
+digit-less : (k w a b : ℕ) → k < w → b < 2 ^ w → digit k (bit_and a (2 ^ w - 1 - b)) ≡ (digit k a && not (digit k b))
+digit-less k zero a b l h = absurd (omega arith)
+digit-less zero (suc w) a b l h =
+    let t : 2 ^ suc w ≡ 2 ^ w * 2 = pow-suc 2 w in
+    let e : (2 ^ suc w - 1 - b) % 2 ≡ 1 - b % 2 = omega arith in
+    rw (and-low a (2 ^ suc w - 1 - b), e) (min-bit (a % 2) (b % 2) (omega arith) (omega arith))
+digit-less (suc k) (suc w) a b l h =
+    let t : 2 ^ suc w ≡ 2 ^ w * 2 = pow-suc 2 w in
+    let e : (2 ^ suc w - 1 - b) / 2 ≡ 2 ^ w - 1 - b / 2 = omega arith in
+    rw (and-half a (2 ^ suc w - 1 - b), e) (digit-less k w (a / 2) (b / 2) (omega arith) (omega arith))
+
+pub new-digit : (had says k : ℕ) → had < 256 → k < 8 → digit k (bit_and says (255 - had)) ≡ (digit k says && not (digit k had))
+new-digit had says k h l = digit-less k 8 says had l h
 
 -- ---- one piece
 
@@ -28,51 +61,23 @@ none-noted top a b k e = rw e (go a.added a.over)
     go n true = let r : n + 0 ≡ n = omega arith in ap (λ (m : ℕ). record { added = m; over = true }) r
     go n false = let r : n + 0 ≡ n = omega arith in ap (λ (m : ℕ). record { added = m; over = false }) r
 
--- a piece that was there, or is not said, changes nothing; of a new one it is told whether it has as many holders as it may
-module _ (a : News) (had says : Bool) (k top : ℕ) where
-  pub noted-had : had ≡ true → a ≡ noted a (says && not had) k top
-  noted-had h = sym (none-noted top a (says && not had) k (rw h (go says)))
-    where
-      go : (b : Bool) → (b && false) ≡ false
-      go true = refl
-      go false = refl
-
-  pub noted-silent : says ≡ false → a ≡ noted a (says && not had) k top
-  noted-silent s = sym (none-noted top a (says && not had) k (rw s))
-
-  pub noted-over : had ≡ false → says ≡ true → a.over ≡ true → ◌≡◌ {A = News} (record { added = a.added + 1; over = a.over }) (noted a (says && not had) k top)
-  noted-over h s o = rw (h, s, o)
-
-  pub noted_more : had ≡ false → says ≡ true → a.over ≡ false → ◌≡◌ {A = News} (record { added = a.added + 1; over = leb top k }) (noted a (says && not had) k top)
-  noted_more h s o = rw (h, s, o)
-
--- its count
-module _ (k : ℕ) (had says : Bool) where
-  pub up-had : had ≡ true → k ≡ up (says && not had) k
-  up-had h = rw h (go says)
-    where
-      go : (b : Bool) → k ≡ up (b && false) k
-      go true = refl
-      go false = refl
-
-  pub up-silent : says ≡ false → k ≡ up (says && not had) k
-  up-silent s = rw s
-
-  pub up_top : had ≡ false → says ≡ true → 65535 ≤ k → 65535 ≡ up (says && not had) k
-  up_top h s l = rw (h, s) (omega arith)
-
-  pub up_more : had ≡ false → says ≡ true → k < 65535 → k + 1 ≡ up (says && not had) k
-  up_more h s l = rw (h, s) (omega arith)
-
+-- a count of a piece that is not new
 up_none : (b : Bool) (x : ℕ) → b ≡ false → up b x ≡ x
 up_none b x e = rw e
 
 -- ---- the passes
 
 module _ (rows : List ℕ) (at : ℕ) (said : List ℕ) where
-  -- a byte that brings nothing
-  pub nothing-new : (p k : ℕ) → p / 8 ≡ k → bit_or (get_or rows (at + k) 0) (get_or said k 0) ≡ get_or rows (at + k) 0 → new_at rows at said p ≡ false
-  nothing-new p k h e = rw h (none-new (7 - p % 8) (get_or rows (at + k) 0) (get_or said k 0) e)
+  -- v is the new bits of byte k
+  abbrev pub New : ℕ → ℕ → Type 0
+  New k v = (j : ℕ) → j < 8 → digit j v ≡ (digit j (get_or said k 0) && not (digit j (get_or rows (at + k) 0)))
+
+  -- one of its pieces, and where there is none
+  pub new-is : (p k v : ℕ) (b : Bool) → p / 8 ≡ k → New k v → b ≡ digit (7 - p % 8) v → b ≡ new_at rows at said p
+  new-is p k v b h n e = e ∙ n (7 - p % 8) (omega arith) ∙ rw h
+
+  pub nothing-new : (p k v : ℕ) → p / 8 ≡ k → New k v → v ≡ 0 → new_at rows at said p ≡ false
+  nothing-new p k v h n z = sym (new-is p k v false h n (sym (digit-zero (7 - p % 8)) ∙ ap (digit (7 - p % 8)) (sym z)))
 
   module _ (holders : List ℕ) (top : ℕ) where
     pub checked-start : nothing ≡ checked rows at said holders top 0
@@ -83,9 +88,9 @@ module _ (rows : List ℕ) (at : ℕ) (said : List ℕ) where
     unfolding checked
     checked-next n = rw add-one
 
-    pub checked-turn : (k q : ℕ) (acc r : News) (hb sb : Bool) → q / 8 ≡ k → acc ≡ checked rows at said holders top q → hb ≡ digit (7 - q % 8) (get_or rows (at + k) 0)
-        → sb ≡ digit (7 - q % 8) (get_or said k 0) → r ≡ noted acc (sb && not hb) (get_or holders q 0) top → r ≡ checked rows at said holders top (q + 1)
-    checked-turn k q acc r hb sb e ea eh es er = rw (er, ea, eh, es, checked-next q, e)
+    pub checked-turn : (k q v : ℕ) (acc r : News) (b : Bool) → q / 8 ≡ k → New k v → acc ≡ checked rows at said holders top q → b ≡ digit (7 - q % 8) v
+        → r ≡ noted acc b (get_or holders q 0) top → r ≡ checked rows at said holders top (q + 1)
+    checked-turn k q v acc r b e n ea eb er = let x : b ≡ new_at rows at said q = new-is q k v b e n eb in rw (er, ea, x, checked-next q)
 
     pub checked-le : (n : ℕ) → (checked rows at said holders top n).added ≤ n
     unfolding checked
@@ -118,10 +123,10 @@ module _ (rows : List ℕ) (at : ℕ) (said : List ℕ) where
   unfolding raised
   raised-start l = sweep-start 0 (λ p. p) raise l
 
-  pub raised-turn : (k q : ℕ) (t l : List ℕ) (v : ℕ) (hb sb : Bool) → q / 8 ≡ k → t ≡ raised rows at said q l → hb ≡ digit (7 - q % 8) (get_or rows (at + k) 0)
-      → sb ≡ digit (7 - q % 8) (get_or said k 0) → v ≡ up (sb && not hb) (get_or t q 0) → set t q v ≡ raised rows at said (q + 1) l
+  pub raised-turn : (k q w : ℕ) (t l : List ℕ) (v : ℕ) (b : Bool) → q / 8 ≡ k → New k w → t ≡ raised rows at said q l → b ≡ digit (7 - q % 8) w
+      → v ≡ up b (get_or t q 0) → set t q v ≡ raised rows at said (q + 1) l
   unfolding raised
-  raised-turn k q t l v hb sb e et eh es ev = sweep-turn 0 (λ p. p) raise q l t v et (ev ∙ rw (eh, es, e))
+  raised-turn k q w t l v b e n et eb ev = sweep-turn 0 (λ p. p) raise q l t v et (ev ∙ ap (λ (x : Bool). up x (get_or t q 0)) (new-is q k w b e n eb))
 
   pub raised-len : (n : ℕ) (l : List ℕ) → length (raised rows at said n l) ≡ length l
   unfolding raised
@@ -175,9 +180,14 @@ module _ (pieces : ℕ) (said : List ℕ) where
   spare-start (suc n) h =
       let e : leb pieces n ≡ false = lt-leb pieces n (omega arith) in rw (← spare-start n (omega arith), e)
 
-  pub spare-turn : (n : ℕ) (f g r : Bool) → pieces ≤ n → f ≡ spare_below pieces said n → g ≡ bit_at said n → r ≡ (f || g) → r ≡ spare_below pieces said (n + 1)
+  pub spare-turn : (n : ℕ) → pieces ≤ n → spare_below pieces said n ≡ false → bit_at said n ≡ false → spare_below pieces said (n + 1) ≡ false
   unfolding spare_below
-  spare-turn n f g r l ef eg er = let e : leb pieces n ≡ true = le-leb pieces n l in rw (add-one, e, er, ef, eg)
+  spare-turn n l f e = let t : leb pieces n ≡ true = le-leb pieces n l in rw (add-one, f, t, e)
+
+  pub spare-found : (n : ℕ) → pieces ≤ n → n < 8 * length said → bit_at said n ≡ true → true ≡ spare_set pieces said
+  spare-found n l h e =
+      let b : Bool = spare_set pieces said in
+      by_bool b (λ y. sym y) (λ y. cannot (leb pieces n && bit_at said n) (some-every (λ p. leb pieces p && bit_at said p) (8 * length said) y n h) (both_true (leb pieces n) (bit_at said n) (le-leb pieces n l) e))
 
   pub spare-is : spare_below pieces said (8 * length said) ≡ spare_set pieces said
   unfolding spare_below

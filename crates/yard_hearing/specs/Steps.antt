@@ -1,6 +1,6 @@
 -- The steps by value, from which a frame's answer is put together: contracts of inner functions cite these. Assumes nothing: these are definitions.
 -- They need not be believed: yard_hearing/proofs/Announcing.antt ties them to yard_tables/specs/Frames.antt.
-use Rattle.std.specs.Prelude.{◌≡◌, Bool, ◌&&◌, ◌||◌, List, ℕ, ◌+◌, ◌*◌, ◌≤◌, ◌<◌, eqb, ltb, leb, length}
+use Rattle.std.specs.Prelude.{◌≡◌, Bool, ◌&&◌, ◌||◌, List, ℕ, ◌+◌, ◌*◌, ◌≤◌, ◌<◌, eqb, ltb, leb, length, Ok}
 use Rattle.refusal.specs.Limits.{most_pieces, most_seats}
 use Rattle.refusal.specs.declared.Part.{Part}
 use Rattle.peer_wire.specs.Message.{Message, keepalive, choke, unchoke, interested, not_interested, have, bitfield, request, piece, cancel, other}
@@ -46,4 +46,4 @@ too_many n h s c = (ltb 0 c.added && ltb h.pieces (s.held + c.added)) || ((full 
 
 -- the head and the seat with the new pieces
 abbrev pub gained : Head → Seat → News → ℕ → Stepped
-gained h s c used = stepped (counted h.taken (h.complete + bit (full h s c)) h) (holding (s.held + c.added) (spoken s)) (Taken used)
+gained h s c used = stepped (counted h.taken (h.complete + bit (full h s c)) h) (holding (s.held + c.added) (spoken s)) (Ok (Taken used))

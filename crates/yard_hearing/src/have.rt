@@ -5,7 +5,6 @@ ghost use Rattle.peer_wire.specs.Message.{have};
 ghost use Rattle.peer_wire.specs.Frames.{found, number_in, read_of};
 
 use refusal::big_endian;
-use refusal::big_endian::Number;
 
 // Whether the bytes begin with a whole have.
 pub fn is_whole(bytes: &[u8]) -> bool
@@ -25,8 +24,5 @@ pub fn number(bytes: &[u8], at: usize) -> u32
     requires { at + 4 ≤ length bytes.now }
     ensures { result ≡ number_in bytes.now at }
 {
-    match big_endian::read4(bytes, at) {
-        Number::Is(n) => n as u32,
-        Number::Cut => 0,
-    }
+    big_endian::read::<u32>(bytes, at).unwrap_or(0)
 }

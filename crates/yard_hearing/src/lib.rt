@@ -48,10 +48,10 @@ pub fn feed_step(
         return news::have_step(h, s, rows, holders, i, n, 9, piece);
     }
     match peer_wire::read_frame(bytes) {
-        Read::Wait => reply::waiting(h, s),
-        Read::Refused(r) => reply::refused(h, s, r.number),
-        Read::Keepalive(used) => reply::taken(h, s, used),
-        Read::Whole(f, used) => {
+        Ok(Read::Wait) => reply::waiting(h, s),
+        Err(r) => reply::refused(h, s, r.number),
+        Ok(Read::Keepalive(used)) => reply::taken(h, s, used),
+        Ok(Read::Whole(f, used)) => {
             // Copies are lent to the call, so that LLVM may keep h and s out of memory.
             let g = h;
             let t = s;
@@ -96,7 +96,7 @@ fn frame_step(
         }
         Frame::Cancel(p, begin, len) => {
             let within = block::lies_within(h, p, begin, wide(len));
-            block::block_step(h, s, p, within, Answer::Taken(used))
+            block::block_step(h, s, p, within, Ok(Answer::Taken(used)))
         }
         Frame::Other(_, _) => reply::passed(h, s, used),
     }

@@ -1,6 +1,7 @@
 // A bitfield beside the row of its seat: what it brings, byte by byte. A byte that brings nothing new is passed by.
-ghost use Rattle.std.specs.Prelude.{◌≡◌, not, ◌&&◌, ◌||◌, List, ℕ, ◌<◌, ◌≤◌, ◌+◌, ◌*◌, ◌/◌, ◌%◌, length};
+ghost use Rattle.std.specs.Prelude.{◌≡◌, not, ◌&&◌, List, ℕ, ◌<◌, ◌≤◌, ◌+◌, ◌*◌, ◌/◌, ◌%◌, length};
 ghost use Rattle.yard_tables.specs.Frames.{spare_set};
+ghost use Rattle.yard_tables.specs.Rows.{digit};
 ghost use Rattle.yard_hearing.specs.Passes.{noted, checked, up, raised, merged};
 
 use yard_tables::bits;
@@ -28,11 +29,10 @@ pub fn check_row(
         added: 0,
         over: false,
     };
-    let mut p = 0;
-    while p < pieces {
-        let end = bits::end_of(p, pieces);
+    for k in 0..(pieces + 7) / 8 {
+        let p = 8 * k;
+        let end = (p + 8).min(pieces);
         news = check_byte(rows, said, holders, at, p, end, top, news);
-        p = end;
     }
     news
 }
@@ -42,11 +42,10 @@ pub fn raise_row(rows: &[u8], said: &[u8], holders: &mut [u16], at: usize, piece
     requires { (at + (pieces + 7) / 8 ≤ length rows.now) × ((pieces + 7) / 8 ≤ length said.now) × (pieces ≤ length holders.old) × (pieces ≤ 65536) }
     ensures { holders.new ≡ raised rows.now at said.now pieces holders.old }
 {
-    let mut p = 0;
-    while p < pieces {
-        let end = bits::end_of(p, pieces);
+    for k in 0..(pieces + 7) / 8 {
+        let p = 8 * k;
+        let end = (p + 8).min(pieces);
         raise_byte(rows, said, holders, at, p, end);
-        p = end;
     }
 }
 
@@ -55,10 +54,8 @@ pub fn merge_row(rows: &mut [u8], said: &[u8], at: usize, n: usize)
     requires { (at + n ≤ length rows.old) × (n ≤ length said.now) }
     ensures { rows.new ≡ merged at said.now n rows.old }
 {
-    let mut k = 0;
-    while k < n {
-        rows[at + k] = rows[at + k] | said[k];
-        k += 1;
+    for k in 0..n {
+        rows[at + k] |= said[k];
     }
 }
 
@@ -67,15 +64,12 @@ pub fn spare_set(said: &[u8], pieces: usize) -> bool
     requires { (pieces ≤ 8 * length said.now) × (length said.now < 65536) }
     ensures { result ≡ spare_set pieces said.now }
 {
-    let end = 8 * said.len();
-    let mut found = false;
-    let mut p = pieces;
-    while p < end {
-        let b = said[p / 8];
-        found = either(found, bits::bit_of(b, p));
-        p += 1;
+    for p in pieces..8 * said.len() {
+        if bits::bit_of(said[p / 8], p) {
+            return true;
+        }
     }
-    found
+    false
 }
 
 // The pieces from p to end, all of one byte.
@@ -93,33 +87,33 @@ fn check_byte(
         × (before ≡ checked rows.now at said.now holders.now top p) }
     ensures { result ≡ checked rows.now at said.now holders.now top end }
 {
-    let had = rows[at + p / 8];
-    let says = said[p / 8];
-    if had | says == had {
+    let new = new_bits(rows[at + p / 8], said[p / 8]);
+    if new == 0 {
         return before;
     }
     let mut news = before;
-    let mut q = p;
-    while q < end {
-        let had_it = bits::bit_of(had, q);
-        let says_it = bits::bit_of(says, q);
-        news = note(news, had_it, says_it, holders[q], top);
-        q += 1;
+    for q in p..end {
+        news = note(news, bits::bit_of(new, q), holders[q], top);
     }
     news
 }
 
-fn note(a: News, had: bool, says: bool, holders: u16, top: u16) -> News
-    requires { a.added ≤ 65536 }
-    ensures { result ≡ noted a (says && not had) holders top }
+// What a byte that is said brings to one that is had.
+fn new_bits(had: u8, says: u8) -> u8
+    ensures { (k : ℕ) → k < 8 → digit k result ≡ (digit k says && not (digit k had)) }
 {
-    if had {
-        return a;
-    }
-    if says {
+    says & !had
+}
+
+// One piece more, new or not. `|` looks at both sides, so that no branch is left but the one.
+fn note(a: News, new: bool, holders: u16, top: u16) -> News
+    requires { a.added ≤ 65536 }
+    ensures { result ≡ noted a new holders top }
+{
+    if new {
         return News {
             added: a.added + 1,
-            over: a.over || top <= holders,
+            over: a.over | (top <= holders),
         };
     }
     a
@@ -129,41 +123,21 @@ fn raise_byte(rows: &[u8], said: &[u8], holders: &mut [u16], at: usize, p: usize
     requires { (at + p / 8 < length rows.now) × (p / 8 < length said.now) × (end ≤ length holders.old) × (p ≤ end) × (end ≤ p + 8) × (p % 8 ≡ 0) × (end ≤ 65536) }
     ensures { (l : List ℕ) → holders.old ≡ raised rows.now at said.now p l → holders.new ≡ raised rows.now at said.now end l }
 {
-    let had = rows[at + p / 8];
-    let says = said[p / 8];
-    if had | says == had {
+    let new = new_bits(rows[at + p / 8], said[p / 8]);
+    if new == 0 {
         return;
     }
-    let mut q = p;
-    while q < end {
-        let had_it = bits::bit_of(had, q);
-        let says_it = bits::bit_of(says, q);
-        holders[q] = raise(holders[q], had_it, says_it);
-        q += 1;
+    for q in p..end {
+        holders[q] = raise(holders[q], bits::bit_of(new, q));
     }
 }
 
 // A count, one up for a new piece. No count that was checked is near the end of its 16 bits.
-fn raise(count: u16, had: bool, says: bool) -> u16
-    ensures { result ≡ up (says && not had) count }
+fn raise(count: u16, new: bool) -> u16
+    ensures { result ≡ up new count }
 {
-    if had {
-        return count;
-    }
-    if says {
-        if 65535 <= count {
-            return 65535;
-        }
-        return count + 1;
+    if new {
+        return count.saturating_add(1);
     }
     count
-}
-
-fn either(a: bool, b: bool) -> bool
-    ensures { result ≡ (a || b) }
-{
-    if a {
-        return true;
-    }
-    b
 }

@@ -1,6 +1,5 @@
 -- What a contract here permits is one answer, and one content of what is lent. Assumes nothing.
 use mathlib.Core.Path.{◌≡◌, sym, ◌∙◌}
-use mathlib.Core.Bool.{Bool, cond}
 use mathlib.Core.List.{List}
 use Prim.Native.Nat.{ℕ}
 use lib.ListN.{length, get_or, set, replicate}
@@ -28,8 +27,8 @@ module _ (seats : List Seat) where
   pub lowest-determined : (r t : ℕ) → r ≡ lowest_free seats → t ≡ lowest_free seats → r ≡ t
   lowest-determined r t e f = e ∙ sym f
 
-  pub clear-determined : (wanted : Bool) (a b : List Seat) → a ≡ cond wanted (replicate (length seats) cleared) seats → b ≡ cond wanted (replicate (length seats) cleared) seats → a ≡ b
-  clear-determined wanted a b e f = e ∙ sym f
+  pub clear-determined : (a b : List Seat) → a ≡ replicate (length seats) cleared → b ≡ replicate (length seats) cleared → a ≡ b
+  clear-determined a b e f = e ∙ sym f
 
   pub rank-determined : (h : Head) (r t : Ranking) → r ≡ ranked h.last seats → t ≡ ranked h.last seats → r ≡ t
   rank-determined h r t e f = e ∙ sym f

@@ -1,16 +1,21 @@
 -- What a pass over all seats comes to, in order from the first. Assumes nothing.
 use mathlib.Core.Path.{◌≡◌, refl, sym, ap, ◌∙◌}
 use mathlib.Core.Logic.{inl, inr}
-use mathlib.Core.Bool.{Bool, true, false, cond, ◌||◌}
+use mathlib.Core.Bool.{Bool, true, false, cond, not}
 use mathlib.Core.List.{List, [], ◌∷◌, ◌++◌, append-nil}
 use Prim.Native.Nat.{ℕ, zero, suc, ◌+◌, ◌≤◌, ◌<◌}
 use native.Mathlib.Numerals.{add-one}
 use native.Mathlib.Omega.{arith}
-use native.Mathlib.Nat.{add-zero, add-suc, zero-add, suc-add}
+use native.Mathlib.Nat.{add-zero, zero-add}
 use borrow.Author.Tests.{lt-ltb, le-ltb, ltb-true, ltb-false}
 use lib.Dec.{ltb}
-use lib.ListN.{length, get_or, set, take, drop, replicate, drop_of_length-le, length-drop}
+use lib.ListN.{length, get_or, set, take, drop, drop_of_length-le, length-drop}
 use lib.Seq.{sets, drop-cons, drop-set-lt, take-suc-set, append_snoc, take_all}
+use Rattle.std.specs.Prelude.{position, Some, None, unwrap_or}
+use Rattle.std.specs.List.{position_or_len}
+use Rattle.refusal.proofs.Cases.{less-or}
+use Rattle.std.proofs.lemmas.List.Recursion.{is_position_or_len}
+use Rattle.std.proofs.lemmas.List.Sums.{prefix_len-le-length}
 use Rattle.yard_tables.specs.Seats.{on, cleared}
 use Rattle.yard_tables.specs.Counting.{each_from, each}
 use Rattle.yard_tables.specs.Ranks.{rank_step, rank_from, choke_step}
@@ -24,38 +29,23 @@ use Rattle.yard_scans.specs.Pages.{line_of, as_lines, empty_page, counted, liste
 use Rattle.yard_scans.proofs.Steps.{by-test, pick_yes, pick_no, step_skip, step-early, step_line, step_past}
 
 -- ---- the lowest free seat
-abbrev pub free_step : ℕ → Seat → ℕ → ℕ
-free_step at s i = cond (ltb at i || on s.taken) at i
+abbrev pub is_free : Seat → Bool
+is_free s = not (on s.taken)
 
-unfoldable pub free_from : List Seat → ℕ → ℕ → ℕ
-free_from [] i at = at
-free_from (s ∷ ss) i at = free_from ss (suc i) (free_step at s i)
+turned : (b : Bool) (x y : ℕ) → cond b (suc x) y ≡ cond (not b) y (1 + x)
+turned true x y = omega arith
+turned false x y = refl
 
-found-stays : (ss : List Seat) (i at : ℕ) → at < i → free_from ss i at ≡ at
-unfolding free_from
-found-stays [] i at l = refl
-found-stays (s ∷ ss) i at l = ap (λ (t : Bool). free_from ss (suc i) (cond (t || on s.taken) at i)) (lt-ltb at i l) ∙ found-stays ss (suc i) at (omega arith)
+lowest-first : (ss : List Seat) → lowest_free ss ≡ position_or_len is_free ss
+unfolding lowest_free
+lowest-first = is_position_or_len lowest_free is_free refl (λ s ss. turned (on s.taken) (lowest_free ss) 0)
 
-lowest : (ss : List Seat) (i at : ℕ) → at ≡ i + length ss → free_from ss i at ≡ i + lowest_free ss
-unfolding free_from lowest_free
-lowest [] i at e = e
-lowest (s ∷ ss) i at e =
-    ap (λ (t : Bool). free_from ss (suc i) (cond (t || on s.taken) at i)) (le-ltb at i (omega arith))
-    ∙ elim (by-test (on s.taken)) [
-      | inl t ↦ ap (λ (b : Bool). free_from ss (suc i) (cond b at i)) t ∙ lowest ss (suc i) at (omega arith) ∙ suc-add i (lowest_free ss) ∙ sym (add-suc i (lowest_free ss)) ∙ ap (λ (k : ℕ). i + k) (sym (pick_yes (on s.taken) (suc (lowest_free ss)) 0 t))
-      | inr t ↦ ap (λ (b : Bool). free_from ss (suc i) (cond b at i)) t ∙ found-stays ss (suc i) i (omega arith) ∙ sym (add-zero i) ∙ ap (λ (k : ℕ). i + k) (sym (pick_no (on s.taken) (suc (lowest_free ss)) 0 t))
-    ]
-
-pub free_all : (ys : List Seat) → free_from ys 0 (length ys) ≡ lowest_free ys
-free_all ys = lowest ys 0 (length ys) (sym (zero-add (length ys))) ∙ zero-add (lowest_free ys)
-
-pub free-next : (ys : List Seat) (i at : ℕ) → i < length ys → free_from (drop (i + 1) ys) (i + 1) (free_step at (get_or ys i cleared) i) ≡ free_from (drop i ys) i at
-unfolding free_from
-free-next ys i at l = rw (add-one, drop-cons ys i cleared)
-
-pub free-end : (ys : List Seat) (i at : ℕ) → length ys ≤ i → at ≡ free_from (drop i ys) i at
-unfolding free_from
-free-end ys i at l = rw (drop_of_length-le ys)
+pub lowest-is : (ss : List Seat) → unwrap_or (position is_free ss) (length ss) ≡ lowest_free ss
+lowest-is ss =
+    let p = position_or_len is_free ss in
+    less-or p (length ss)
+    (λ l. ap (λ (b : Bool). unwrap_or (cond b (Some p) None) (length ss)) (lt-ltb p (length ss) l) ∙ sym (lowest-first ss))
+    (λ l. ap (λ (b : Bool). unwrap_or (cond b (Some p) None) (length ss)) (le-ltb p (length ss) l) ∙ omega (arith, prefix_len-le-length (λ s. not (is_free s)) ss) ∙ sym (lowest-first ss))
 
 -- ---- the seats ranked
 pub rank-next : (last : ℕ) (ys : List Seat) (i : ℕ) (r : Ranking) → i < length ys → rank_from last (drop (i + 1) ys) (i + 1) (rank_step last r (get_or ys i cleared) i) ≡ rank_from last (drop i ys) i r
@@ -84,24 +74,9 @@ each-end f ys zs i l e =
     ∙ ap (λ (d : List Seat). take i zs ++ each_from i f d) (sym (drop_of_length-le zs l))
     ∙ e
 
--- choked by a round, if that is wanted
-abbrev pub choke_by : Bool → ℕ → Seat → Seat
-choke_by wanted i s = choke_step wanted s
-
--- cleared, if that is wanted
-abbrev pub clear_by : Bool → ℕ → Seat → Seat
-clear_by wanted i s = cond wanted cleared s
-
-cleared-all : (wanted : Bool) (k : ℕ) (ys : List Seat) → each_from k (clear_by wanted) ys ≡ cond wanted (replicate (length ys) cleared) ys
-unfolding each_from
-cleared-all true k [] = refl
-cleared-all true k (y ∷ ys) = ap {B = List Seat} (λ r. cleared ∷ r) (cleared-all true (suc k) ys)
-cleared-all false k [] = refl
-cleared-all false k (y ∷ ys) = ap {B = List Seat} (λ r. y ∷ r) (cleared-all false (suc k) ys)
-
-pub clear-end : (wanted : Bool) (ys zs : List Seat) (i : ℕ) → length zs ≤ i → take i zs ++ each_from i (clear_by wanted) (drop i zs) ≡ each (clear_by wanted) ys
-    → zs ≡ cond wanted (replicate (length ys) cleared) ys
-clear-end wanted ys zs i l e = each-end (clear_by wanted) ys zs i l e ∙ cleared-all wanted 0 ys
+-- choked by a round
+abbrev pub choke_by : ℕ → Seat → Seat
+choke_by i s = choke_step s
 
 -- ---- a page of the missing list, with its lines
 pub record Listing : Type 0 where

@@ -1,7 +1,7 @@
 -- One seat more, case by case. Assumes nothing.
 use mathlib.Core.Path.{◌≡◌, refl, sym, ap, subst, ◌∙◌}
 use mathlib.Core.Logic.{◌⊎◌, inl, inr}
-use mathlib.Core.Bool.{Bool, true, false, cond, ◌&&◌, ◌||◌, not}
+use mathlib.Core.Bool.{Bool, true, false, cond, ◌&&◌, not}
 use mathlib.Core.List.{List}
 use Prim.Native.Nat.{ℕ, ◌+◌, ◌<◌, ◌≤◌}
 use native.Mathlib.Omega.{arith}
@@ -24,16 +24,6 @@ pick_yes t x y e = ap (λ (b : Bool). cond b x y) e
 
 pub pick_no : {A : Type 0} (t : Bool) (x y : A) → t ≡ false → cond t x y ≡ y
 pick_no t x y e = ap (λ (b : Bool). cond b x y) e
-
--- ---- the lowest free seat
-pub kept-found : (t : Bool) (at i : ℕ) → at < i → at ≡ cond (ltb at i || t) at i
-kept-found t at i l = rw (lt-ltb at i l)
-
-pub kept-taken : (t : Bool) (at i : ℕ) → i ≤ at → t ≡ true → at ≡ cond (ltb at i || t) at i
-kept-taken t at i l f = rw (le-ltb at i l, f)
-
-pub kept_free : (t : Bool) (at i : ℕ) → i ≤ at → t ≡ false → i ≡ cond (ltb at i || t) at i
-kept_free t at i l f = rw (le-ltb at i l, f)
 
 -- ---- a page
 lacks : (t u : Bool) → t ≡ true → u ≡ false → t && not u ≡ true

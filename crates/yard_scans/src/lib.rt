@@ -1,7 +1,7 @@
 // Thin functions over lent seats: one seat taken out or put back, and the five passes over all of them.
 #![tactic(auto)]
 
-ghost use Rattle.std.specs.Prelude.{◌≡◌, cond, ◌||◌, ◌+◌, ◌<◌, ◌≤◌, ◌^◌, min, ltb, length, get_or, set, replicate};
+ghost use Rattle.std.specs.Prelude.{◌≡◌, not, position, ◌+◌, ◌<◌, ◌≤◌, ◌^◌, length, get_or, set, replicate};
 ghost use Rattle.std.proofs.lemmas.List.Edits.{sets};
 ghost use Rattle.yard_tables.specs.Seats.{on, cleared};
 ghost use Rattle.yard_tables.specs.Counting.{each};
@@ -19,10 +19,10 @@ use yard_tables::{Head, Page, Seat, cleared_seat, held, on};
 pub fn seat_get(seats: &[Seat], i: usize) -> Seat
     ensures { result ≡ get_or seats.now i cleared }
 {
-    if seats.len() <= i {
-        return cleared_seat();
+    match seats.get(i) {
+        Some(s) => *s,
+        None => cleared_seat(),
     }
-    seats[i]
 }
 
 // The seat at i is set, and nothing happens past the end.
@@ -39,46 +39,20 @@ pub fn seat_set(seats: &mut [Seat], i: usize, s: Seat)
 pub fn lowest_free(seats: &[Seat]) -> usize
     ensures { result ≡ lowest_free seats.now }
 {
-    let mut at = seats.len();
-    let mut i: usize = 0;
-    while i < seats.len() {
-        at = free_step(at, seats[i], i);
-        i += 1;
-    }
-    at
+    first_free(seats).unwrap_or(seats.len())
 }
 
-// One seat more: the first that is free is kept.
-fn free_step(at: usize, s: Seat, i: usize) -> usize
-    ensures { result ≡ cond (ltb at i || on s.taken) at i }
+fn first_free(seats: &[Seat]) -> Option<usize>
+    ensures { result ≡ position (λ s. not (on s.taken)) seats.now }
 {
-    if at < i {
-        return at;
-    }
-    if on(s.taken) {
-        return at;
-    }
-    i
+    seats.iter().position(|s| !on(s.taken))
 }
 
-// Every seat is cleared, if that is wanted.
-pub fn clear_seats(seats: &mut [Seat], wanted: bool)
-    ensures { seats.new ≡ cond wanted (replicate (length seats.old) cleared) seats.old }
+// Every seat is cleared.
+pub fn clear_seats(seats: &mut [Seat])
+    ensures { seats.new ≡ replicate (length seats.old) cleared }
 {
-    let mut i: usize = 0;
-    while i < seats.len() {
-        seats[i] = clear_step(wanted, seats[i]);
-        i += 1;
-    }
-}
-
-fn clear_step(wanted: bool, s: Seat) -> Seat
-    ensures { result ≡ cond wanted cleared s }
-{
-    if wanted {
-        return cleared_seat();
-    }
-    s
+    seats.fill(cleared_seat());
 }
 
 // The seats ranked: the four that want the uplink and sent most, and whose turn the free place is.
@@ -86,10 +60,8 @@ pub fn rank_seats(seats: &[Seat], h: Head) -> Ranking
     ensures { result ≡ ranked h.last seats.now }
 {
     let mut best = unranked();
-    let mut i: usize = 0;
-    while i < seats.len() {
-        best = rank_step(best, seats[i], i, h);
-        i += 1;
+    for (i, s) in seats.iter().enumerate() {
+        best = rank_step(best, *s, i, h);
     }
     best
 }
@@ -98,31 +70,28 @@ pub fn rank_seats(seats: &[Seat], h: Head) -> Ranking
 pub fn mark_seats(seats: &mut [Seat], marks: Marks)
     ensures { seats.new ≡ each (λ i s. mark_step marks s i) seats.old }
 {
-    choke_seats(seats, marks.wanted);
-    unchoke_seat(seats, marks.wanted, marks.fourth);
-    unchoke_seat(seats, marks.wanted, marks.third);
-    unchoke_seat(seats, marks.wanted, marks.second);
-    unchoke_seat(seats, marks.wanted, marks.first);
-    unchoke_seat(seats, marks.wanted, marks.free);
+    choke_seats(seats);
+    unchoke_seat(seats, marks.fourth);
+    unchoke_seat(seats, marks.third);
+    unchoke_seat(seats, marks.second);
+    unchoke_seat(seats, marks.first);
+    unchoke_seat(seats, marks.free);
 }
 
-fn choke_seats(seats: &mut [Seat], wanted: bool)
-    ensures { seats.new ≡ each (λ i s. choke_step wanted s) seats.old }
+fn choke_seats(seats: &mut [Seat])
+    ensures { seats.new ≡ each (λ i s. choke_step s) seats.old }
 {
-    let mut i: usize = 0;
-    while i < seats.len() {
-        seats[i] = choke(wanted, seats[i]);
-        i += 1;
+    for s in seats.iter_mut() {
+        *s = choke(*s);
     }
 }
 
 // Nothing happens past the end.
-fn unchoke_seat(seats: &mut [Seat], wanted: bool, i: usize)
-    ensures { seats.new ≡ set seats.old i (unchoke_step wanted (get_or seats.old i cleared)) }
+fn unchoke_seat(seats: &mut [Seat], i: usize)
+    ensures { seats.new ≡ set seats.old i (unchoke_step (get_or seats.old i cleared)) }
 {
     let s = seat_get(seats, i);
-    let t = unchoke(wanted, s);
-    seat_set(seats, i, t);
+    seat_set(seats, i, unchoke(s));
 }
 
 // Which page of the missing list is asked for: the trucks that lack one of so many pieces, from a first seat on, on at
@@ -140,10 +109,8 @@ pub fn list_missing(seats: &[Seat], page: &mut [u32], asked: Asked) -> Page
         × (page.new ≡ sets page.old 0 (as_lines (lines_of asked.pieces asked.first asked.lines seats.now))) }
 {
     let mut listed = empty_page(seats.len());
-    let mut i: usize = 0;
-    while i < seats.len() {
-        listed = list_step(asked, listed, seats[i], i, page);
-        i += 1;
+    for (i, s) in seats.iter().enumerate() {
+        listed = list_step(asked, listed, *s, i, page);
     }
     listed
 }
@@ -180,7 +147,7 @@ fn list_step(asked: Asked, p: Page, s: Seat, i: usize, page: &mut [u32]) -> Page
     Page {
         written,
         total,
-        next: lower(p.next, i),
+        next: p.next.min(i),
     }
 }
 
@@ -195,15 +162,6 @@ fn empty_page(n: usize) -> Page
     }
 }
 
-fn lower(a: usize, b: usize) -> usize
-    ensures { result ≡ min a b }
-{
-    if a <= b {
-        return a;
-    }
-    b
-}
-
 fn put_line(page: &mut [u32], k: usize, i: usize)
     ensures { page.new ≡ set page.old k (line_of i) }
 {
@@ -216,8 +174,5 @@ fn put_line(page: &mut [u32], k: usize, i: usize)
 fn line_of(i: usize) -> u32
     ensures { result ≡ line_of i }
 {
-    if i < 4294967295 {
-        return i as u32;
-    }
-    4294967295
+    u32::try_from(i).unwrap_or(u32::MAX)
 }

@@ -1,12 +1,14 @@
 -- From any two outcomes that a contract permits for one entry, equality. Assumes nothing.
-use mathlib.Core.Path.{◌≡◌, sym, ap, ap₂, ◌∙◌}
-use mathlib.Core.Bool.{Bool}
+use Rattle.std.specs.Prelude.{Result, Ok, Err}
+use Rattle.refusal.specs.declared.Refusal.{Refusal}
+use mathlib.Core.Path.{◌≡◌, refl, sym, ap, ◌∙◌}
 use mathlib.Core.List.{List}
 use Prim.Native.Nat.{ℕ}
 use lib.ListN.{length, replicate, length-replicate}
 use lib.Seq.{sets}
 use Rattle.yard_tables.specs.Seats.{cleared}
-use Rattle.yard_tables.specs.Tables.{Around, around, Turn, turn, paper, Out, yard_of}
+use Rattle.refusal.specs.Paper.{Outcome, taken, refused}
+use Rattle.yard_tables.specs.Tables.{Said, Around, around, Turn, turn, paper, Out, yard_of}
 use Rattle.yard_tables.specs.Looks.{seat_of}
 use Rattle.yard_tables.specs.Seating.{start_of, sit_of, leave_of, mark_of}
 use Rattle.yard_tables.specs.Step.{if_taken}
@@ -16,7 +18,6 @@ use Rattle.yard_tables.specs.declared.Seat.{Seat}
 use Rattle.yard_tables.specs.declared.Stepped.{Stepped}
 use Rattle.yard_tables.specs.declared.Answer.{Answer}
 use Rattle.yard_seating.specs.Steps.{begun}
-use Rattle.yard_seating.specs.declared.Begun.{Begun}
 
 module _ (h : Head) (s : Seat) (rows holders : List ℕ) (i n : ℕ) where
   abbrev X : Around
@@ -36,26 +37,37 @@ module _ (h : Head) (s : Seat) (rows holders : List ℕ) (i n : ℕ) where
       let e : r ≡ q = (turn-tells r q rows rows holders holders (a ∙ sym b)).0 in
       (e, c ∙ ap (λ (x : Stepped). sets o 0 (if_taken (paper x.answer) bytes)) e ∙ sym d)
 
-  pub seat-determined : (r q : Answer) → paper r ≡ (seat_of i n X).answer → paper q ≡ (seat_of i n X).answer → r ≡ q
+  pub seat-determined : (r q : Result Answer Refusal) → paper r ≡ (seat_of i n X).answer → paper q ≡ (seat_of i n X).answer → r ≡ q
   seat-determined r q a b = paper-tells r q (a ∙ sym b)
 
 -- of the looks that hold for any seat
-pub look-determined : (f : Seat → Turn) (r q : Answer) → ((s : Seat) → paper r ≡ (f s).answer) → ((s : Seat) → paper q ≡ (f s).answer) → Seat → r ≡ q
+pub look-determined : (f : Seat → Turn) (r q : Result Answer Refusal) → ((s : Seat) → paper r ≡ (f s).answer) → ((s : Seat) → paper q ≡ (f s).answer) → Seat → r ≡ q
 look-determined f r q a b s = paper-tells r q (a s ∙ sym (b s))
 
--- of starting: any seats will do
-pub start-determined : (h : Head) (pieces piece_length_of last_length_of n : ℕ) (rows holders : List ℕ) (b : Bool) (r q : Begun) (rows₁ rows₂ holders₁ holders₂ : List ℕ)
-    → ((seats : List Seat) → length seats ≡ n → begun r seats rows₁ holders₁ ≡ start_of pieces piece_length_of last_length_of (yard_of h seats rows holders)) → r.clear ≡ b
-    → ((seats : List Seat) → length seats ≡ n → begun q seats rows₂ holders₂ ≡ start_of pieces piece_length_of last_length_of (yard_of h seats rows holders)) → q.clear ≡ b
-    → (r ≡ q) × (rows₁ ≡ rows₂) × (holders₁ ≡ holders₂)
-start-determined h pieces piece_length_of last_length_of n rows holders b r q rows₁ rows₂ holders₁ holders₂ a c d e =
+-- what starting leaves tells its answer
+abbrev back : Outcome Said → Head → Result Head Refusal
+back (taken x) g = Ok g
+back (refused n p) g = Err (record { number = n; place = p })
+
+back_is : (r : Result Head Refusal) (h : Head) (seats : List Seat) (rows holders : List ℕ) → let o : Out = begun r h seats rows holders in back o.answer o.yard.head ≡ r
+back_is (Ok g) h seats rows holders = refl
+back_is (Err x) h seats rows holders = refl
+
+-- and the rows and the counts
+lent_is : (r : Result Head Refusal) (h : Head) (seats : List Seat) (rows holders : List ℕ) → let o : Out = begun r h seats rows holders in (o.yard.rows ≡ rows) × (o.yard.holders ≡ holders)
+lent_is (Ok g) h seats rows holders = (refl, refl)
+lent_is (Err x) h seats rows holders = (refl, refl)
+
+-- of starting: any head and seats will do
+pub start-determined : (pieces piece_length_of last_length_of n : ℕ) (rows holders : List ℕ) (r q : Result Head Refusal) (rows₁ rows₂ holders₁ holders₂ : List ℕ)
+    → ((h : Head) (seats : List Seat) → length seats ≡ n → begun r h seats rows₁ holders₁ ≡ start_of pieces piece_length_of last_length_of (yard_of h seats rows holders))
+    → ((h : Head) (seats : List Seat) → length seats ≡ n → begun q h seats rows₂ holders₂ ≡ start_of pieces piece_length_of last_length_of (yard_of h seats rows holders))
+    → Head → (r ≡ q) × (rows₁ ≡ rows₂) × (holders₁ ≡ holders₂)
+start-determined pieces piece_length_of last_length_of n rows holders r q rows₁ rows₂ holders₁ holders₂ a b h =
     let some : List Seat = replicate n cleared in
     let size : length some ≡ n = length-replicate n cleared in
-    let o : begun r some rows₁ holders₁ ≡ begun q some rows₂ holders₂ = a some size ∙ sym (d some size) in
-    let f : r.head ≡ q.head = ap (λ (x : Out). x.yard.head) o in
-    let g : r.answer ≡ q.answer = paper-tells r.answer q.answer (ap (λ (x : Out). x.answer) o) in (
-      ap₂ (λ (x : Head) (y : Answer). record { head = x; clear = r.clear; answer = y }) f g
-          ∙ ap (λ (x : Bool). record { head = q.head; clear = x; answer = q.answer }) (c ∙ sym e),
-      ap (λ (x : Out). x.yard.rows) o,
-      ap (λ (x : Out). x.yard.holders) o,
+    let o : begun r h some rows₁ holders₁ ≡ begun q h some rows₂ holders₂ = a h some size ∙ sym (b h some size) in (
+      sym (back_is r h some rows₁ holders₁) ∙ ap (λ (x : Out). back x.answer x.yard.head) o ∙ back_is q h some rows₂ holders₂,
+      sym (lent_is r h some rows₁ holders₁).0 ∙ ap (λ (x : Out). x.yard.rows) o ∙ (lent_is q h some rows₂ holders₂).0,
+      sym (lent_is r h some rows₁ holders₁).1 ∙ ap (λ (x : Out). x.yard.holders) o ∙ (lent_is q h some rows₂ holders₂).1,
     )

@@ -1,4 +1,6 @@
 -- The ways through each look, and the scarcest piece. Assumes nothing.
+use Rattle.std.specs.Prelude.{Err, Ok, Result}
+use Rattle.refusal.specs.declared.Refusal.{Refusal}
 use mathlib.Core.Path.{◌≡◌, refl, sym, ap, ◌∙◌, subst}
 use mathlib.Core.Bool.{Bool, true, false, not, cond}
 use mathlib.Core.List.{List}
@@ -19,11 +21,11 @@ use Rattle.yard_tables.proofs.Scarce.{least_start, least-turn, least-unique, pla
 use Rattle.yard_tables.specs.declared.Head.{Head}
 use Rattle.yard_tables.specs.declared.Seat.{Seat}
 use Rattle.yard_tables.specs.declared.Answer.{Answer}
-use Rattle.yard_tables.specs.declared.Answer.TheVariants.{Refused, Record, Holds, Holders, Piece}
+use Rattle.yard_tables.specs.declared.Answer.TheVariants.{Record, Holds, Holders, Piece}
 
 -- ---- looks
 
-module _ (h : Head) (n : ℕ) (rows holders : List ℕ) (b : Bool) (eb : b ≡ sizes_fit h n (length rows) (length holders)) (r : Answer) where
+module _ (h : Head) (n : ℕ) (rows holders : List ℕ) (b : Bool) (eb : b ≡ sizes_fit h n (length rows) (length holders)) (r : Result Answer Refusal) where
   fit : not b ≡ false → sizes_fit h n (length rows) (length holders) ≡ true
   fit e = sym eb ∙ not-false b e
 
@@ -34,31 +36,31 @@ module _ (h : Head) (n : ℕ) (rows holders : List ℕ) (b : Bool) (eb : b ≡ s
     abbrev X : Around
     X = around h s rows holders
 
-    pub look-sizes : (t : Turn) → not b ≡ true → r ≡ Refused (record { place = 0; number = sizes }) → paper r ≡ (sized n X t).answer
+    pub look-sizes : (t : Turn) → not b ≡ true → r ≡ Err (record { place = 0; number = sizes }) → paper r ≡ (sized n X t).answer
     look-sizes t e er = ap paper er ∙ ap (λ (u : Turn). u.answer) (pick_no {z = refuse sizes X} t (sizes_fit h n (length rows) (length holders)) (sym eb ∙ not-true b e) refl)
 
     pub look-on : (t : Turn) → not b ≡ false → paper r ≡ t.answer → paper r ≡ (sized n X t).answer
     look-on t e er = er ∙ ap (λ (u : Turn). u.answer) (pick_yes {z = t} (refuse sizes X) (sizes_fit h n (length rows) (length holders)) (fit e) refl)
 
-    pub scarce-sizes : not b ≡ true → r ≡ Refused (record { place = 0; number = sizes }) → paper r ≡ (scarcest_of n X).answer
+    pub scarce-sizes : not b ≡ true → r ≡ Err (record { place = 0; number = sizes }) → paper r ≡ (scarcest_of n X).answer
     unfolding scarcest_of
     scarce-sizes = look-sizes (says (scarce (place_of (fewest holders) holders)) X)
 
-    pub scarce-piece : (p : ℕ) → not b ≡ false → p ≡ place_of (fewest holders) holders → r ≡ Piece p → paper r ≡ (scarcest_of n X).answer
+    pub scarce-piece : (p : ℕ) → not b ≡ false → p ≡ place_of (fewest holders) holders → r ≡ (Ok (Piece p)) → paper r ≡ (scarcest_of n X).answer
     unfolding scarcest_of
     scarce-piece p e ep er = look-on (says (scarce (place_of (fewest holders) holders)) X) e (ap paper er ∙ ap (λ (q : ℕ). taken (scarce q)) ep)
 
     module _ (i : ℕ) where
-      pub seat-sizes : not b ≡ true → r ≡ Refused (record { place = 0; number = sizes }) → paper r ≡ (seat_of i n X).answer
+      pub seat-sizes : not b ≡ true → r ≡ Err (record { place = 0; number = sizes }) → paper r ≡ (seat_of i n X).answer
       unfolding seat_of
       seat-sizes = look-sizes (cond (ltb i n) (says (shows s) X) (refuse seat X))
 
-      pub seat-past : not b ≡ false → n ≤ i → r ≡ Refused (record { place = 0; number = seat }) → paper r ≡ (seat_of i n X).answer
+      pub seat-past : not b ≡ false → n ≤ i → r ≡ Err (record { place = 0; number = seat }) → paper r ≡ (seat_of i n X).answer
       unfolding seat_of
       seat-past e l er = look-on (cond (ltb i n) (says (shows s) X) (refuse seat X)) e
           (ap paper er ∙ ap (λ (u : Turn). u.answer) (pick_no {z = refuse seat X} (says (shows s) X) (ltb i n) (le-ltb i n l) refl))
 
-      pub seat-shown : not b ≡ false → i < n → r ≡ Record s → paper r ≡ (seat_of i n X).answer
+      pub seat-shown : not b ≡ false → i < n → r ≡ (Ok (Record s)) → paper r ≡ (seat_of i n X).answer
       unfolding seat_of
       seat-shown e l er = look-on (cond (ltb i n) (says (shows s) X) (refuse seat X)) e
           (ap paper er ∙ ap (λ (u : Turn). u.answer) (pick_yes {z = says (shows s) X} (refuse seat X) (ltb i n) (lt-ltb i n l) refl))
@@ -67,16 +69,16 @@ module _ (h : Head) (n : ℕ) (rows holders : List ℕ) (b : Bool) (eb : b ≡ s
       abbrev Counts : Turn
       Counts = cond (ltb p h.pieces) (says (held_by_of (get_or holders p 0)) X) (refuse beyond X)
 
-      pub count-sizes : not b ≡ true → r ≡ Refused (record { place = 0; number = sizes }) → paper r ≡ (count_of p n X).answer
+      pub count-sizes : not b ≡ true → r ≡ Err (record { place = 0; number = sizes }) → paper r ≡ (count_of p n X).answer
       unfolding count_of
       count-sizes = look-sizes Counts
 
-      pub count-beyond : not b ≡ false → length holders ≤ p → r ≡ Refused (record { place = 0; number = beyond }) → paper r ≡ (count_of p n X).answer
+      pub count-beyond : not b ≡ false → length holders ≤ p → r ≡ Err (record { place = 0; number = beyond }) → paper r ≡ (count_of p n X).answer
       unfolding count_of
       count-beyond e l er = look-on Counts e
           (ap paper er ∙ ap (λ (u : Turn). u.answer) (pick_no {z = refuse beyond X} (says (held_by_of (get_or holders p 0)) X) (ltb p h.pieces) (le-ltb p h.pieces (omega (arith, pieces_are e))) refl))
 
-      pub count-is : (k : ℕ) → not b ≡ false → p < length holders → k ≡ get_or holders p 0 → r ≡ Holders k → paper r ≡ (count_of p n X).answer
+      pub count-is : (k : ℕ) → not b ≡ false → p < length holders → k ≡ get_or holders p 0 → r ≡ (Ok (Holders k)) → paper r ≡ (count_of p n X).answer
       unfolding count_of
       count-is k e l ek er = look-on Counts e
           (ap paper er ∙ ap (λ (q : ℕ). taken (held_by_of q)) ek ∙ ap (λ (u : Turn). u.answer) (pick_yes {z = says (held_by_of (get_or holders p 0)) X} (refuse beyond X) (ltb p h.pieces) (lt-ltb p h.pieces (omega (arith, pieces_are e))) refl))
@@ -88,21 +90,21 @@ module _ (h : Head) (n : ℕ) (rows holders : List ℕ) (b : Bool) (eb : b ≡ s
         abbrev At : Turn
         At = cond (ltb i n) Has (refuse seat X)
 
-        pub has-sizes : not b ≡ true → r ≡ Refused (record { place = 0; number = sizes }) → paper r ≡ (has_of i p n X).answer
+        pub has-sizes : not b ≡ true → r ≡ Err (record { place = 0; number = sizes }) → paper r ≡ (has_of i p n X).answer
         unfolding has_of
         has-sizes = look-sizes At
 
-        pub has-past : not b ≡ false → n ≤ i → r ≡ Refused (record { place = 0; number = seat }) → paper r ≡ (has_of i p n X).answer
+        pub has-past : not b ≡ false → n ≤ i → r ≡ Err (record { place = 0; number = seat }) → paper r ≡ (has_of i p n X).answer
         unfolding has_of
         has-past e l er = look-on At e (ap paper er ∙ ap (λ (u : Turn). u.answer) (pick_no {z = refuse seat X} Has (ltb i n) (le-ltb i n l) refl))
 
-        pub has-beyond : not b ≡ false → i < n → length holders ≤ p → r ≡ Refused (record { place = 0; number = beyond }) → paper r ≡ (has_of i p n X).answer
+        pub has-beyond : not b ≡ false → i < n → length holders ≤ p → r ≡ Err (record { place = 0; number = beyond }) → paper r ≡ (has_of i p n X).answer
         unfolding has_of
         has-beyond e m l er = look-on At e
             (ap paper er ∙ ap (λ (u : Turn). u.answer) (pick_yes {z = refuse beyond X} (refuse seat X) (ltb i n) (lt-ltb i n m)
             (pick_no (says (holds (has_in (width h.pieces) rows i p)) X) (ltb p h.pieces) (le-ltb p h.pieces (omega (arith, pieces_are e))) refl)))
 
-        pub has-is : (w : ℕ) (a : Bool) → not b ≡ false → i < n → p < length holders → w ≡ width h.pieces → a ≡ digit (7 - p % 8) (get_or rows (i * w + p / 8) 0) → r ≡ Holds a
+        pub has-is : (w : ℕ) (a : Bool) → not b ≡ false → i < n → p < length holders → w ≡ width h.pieces → a ≡ digit (7 - p % 8) (get_or rows (i * w + p / 8) 0) → r ≡ (Ok (Holds a))
             → paper r ≡ (has_of i p n X).answer
         unfolding has_of
         has-is w a e m l ew ea er =

@@ -1,50 +1,20 @@
 -- Passes over a row and over counts, turn by turn. Assumes nothing.
 use mathlib.Core.Path.{◌≡◌, refl, sym, ap, ap₂, ◌∙◌}
-use mathlib.Core.Bool.{Bool, true, false, ◌&&◌, ◌||◌}
+use mathlib.Core.Bool.{Bool, false, ◌&&◌, ◌||◌}
 use mathlib.Core.List.{List}
 use Prim.Native.Nat.{ℕ, zero, suc, ◌+◌, ◌/◌, ◌%◌, ◌-◌, ◌≤◌, ◌<◌}
 use native.Mathlib.Nat.{not-suc-le-zero}
 use native.Mathlib.Omega.{arith}
 use native.Mathlib.Numerals.{add-one}
 use lib.Dec.{eqb}
-use lib.ListN.{length, get_or, set, replicate, length-set, length-replicate}
-use lib.Seq.{sets, length-sets, set-get_or, get_or-set_same, get_or-set_other, ext_get_or}
+use lib.ListN.{length, get_or, set, length-set}
+use lib.Seq.{set-get_or, get_or-set_same, get_or-set_other, ext_get_or}
 use Rattle.refusal.proofs.Cases.{same_or, or-first}
 use Rattle.yard_tables.specs.Counting.{bit, some, each}
 use Rattle.yard_tables.specs.Rows.{digit}
 use Rattle.yard_tables.proofs.Digits.{digit-zero}
-use Rattle.yard_tables.proofs.Sweeps.{length-each, get_or-each, get_or-sets-in}
+use Rattle.yard_tables.proofs.Sweeps.{length-each, get_or-each}
 use Rattle.yard_seating.specs.Steps.{has_at, some_zero, lowered}
-
--- ---- clearing
-
-pub clear-start : (l : List ℕ) (at n : ℕ) → sets l (at + 0) (replicate (n - 0) 0) ≡ sets l at (replicate n 0)
-clear-start l at n =
-    let e : at + 0 ≡ at = omega arith in
-    let f : n - 0 ≡ n = omega arith in
-    rw (e, f)
-
-pub clear-turn : (l : List ℕ) (at k n : ℕ) → k < n → sets (set l (at + k) 0) (at + (k + 1)) (replicate (n - (k + 1)) 0) ≡ sets l (at + k) (replicate (n - k) 0)
-clear-turn l at k n h =
-    let e : n - k ≡ suc (n - (k + 1)) = omega arith in
-    let f : at + (k + 1) ≡ suc (at + k) = omega arith in
-    rw (e, f)
-
-pub count_turn : (l : List ℕ) (k n : ℕ) → k < n → sets (set l k 0) (0 + (k + 1)) (replicate (n - (k + 1)) 0) ≡ sets l (0 + k) (replicate (n - k) 0)
-count_turn l k n h =
-    let e : 0 + k ≡ k = omega arith in
-    ap (λ (j : ℕ). sets (set l j 0) (0 + (k + 1)) (replicate (n - (k + 1)) 0)) (sym e) ∙ clear-turn l 0 k n h
-
-pub clear-end : (l : List ℕ) (at k n : ℕ) → k ≡ n → sets l (at + k) (replicate (n - k) 0) ≡ l
-clear-end l at k n h = let e : n - k ≡ 0 = omega arith in rw e
-
-pub all-clear : (l : List ℕ) (n : ℕ) → n ≡ length l → sets l 0 (replicate n 0) ≡ replicate n 0
-all-clear l n h =
-    let z : List ℕ = replicate n 0 in
-    let r : length z ≡ n = length-replicate n 0 in
-    ext_get_or 0 (sets l 0 z) z (length-sets l 0 z ∙ sym h ∙ sym r)
-    (λ i q. let e : 0 + i ≡ i = omega arith in
-    ap (λ (k : ℕ). get_or (sets l 0 z) k 0) (sym e) ∙ get_or-sets-in 0 l 0 z i (omega arith) (omega (arith, length-sets l 0 z)))
 
 -- ---- whether some k has f
 
@@ -56,17 +26,6 @@ some-skip f n zero l h = let r : 0 ≡ n = omega arith in ap (λ (k : ℕ). some
 some-skip f n (suc e) l h = same_or n (suc e)
     (λ r. ap (λ (k : ℕ). some k f) (sym r))
     (λ r. or-first (some e f) (f e) (h e (omega arith) (omega arith)) ∙ some-skip f n e (omega arith) (λ q m k. h q m (omega arith)))
-
--- one piece, in its ways
-module _ (found has : Bool) (k : ℕ) where
-  pub piece-found : found ≡ true → true ≡ (found || (has && eqb k 0))
-  piece-found e = ap (λ (b : Bool). b || (has && eqb k 0)) (sym e)
-
-  pub piece-has : found ≡ false → has ≡ true → eqb k 0 ≡ (found || (has && eqb k 0))
-  piece-has e f = ap₂ (λ (a b : Bool). a || (b && eqb k 0)) (sym e) (sym f)
-
-  pub piece-lacks : found ≡ false → has ≡ false → false ≡ (found || (has && eqb k 0))
-  piece-lacks e f = ap₂ (λ (a b : Bool). a || (b && eqb k 0)) (sym e) (sym f)
 
 module _ (rows : List ℕ) (at : ℕ) where
   -- a byte of no bits

@@ -3,7 +3,7 @@
 // refusal changes nothing. `i` is the seat, and `n` the number of seats.
 #![tactic(auto)]
 
-ghost use Rattle.std.specs.Prelude.{◌≡◌, true, false, cond, List, [], ◌∷◌, ◌<◌, ◌≤◌, ◌+◌, ◌-◌, ◌*◌, eqb, length};
+ghost use Rattle.std.specs.Prelude.{◌≡◌, false, cond, List, [], ◌∷◌, ◌<◌, ◌≤◌, ◌+◌, ◌-◌, ◌*◌, eqb, length};
 ghost use Rattle.std.proofs.lemmas.List.Edits.{sets};
 ghost use Rattle.refusal.specs.Numbers.{sizes};
 ghost use Rattle.peer_wire.specs.Message.{framed};
@@ -17,42 +17,30 @@ ghost use Rattle.yard_tables.specs.Replies.{head_at_zero};
 ghost use Rattle.yard_seating.specs.Steps.{begun, empty_head, fault_at, marked_or};
 
 use peer_wire::write;
-use refusal::number;
+use refusal::{Refusal, number, refuse};
 use yard_tables::{Answer, Head, NOBODY, Seat, Stepped, leaving, on, reply, sizes};
 
 pub mod looks;
 mod row;
 
-// What starting makes of the head, and whether the seats are to be cleared.
-#[derive(Clone, Copy)]
-pub struct Begun {
-    pub head: Head,
-    pub clear: bool,
-    pub answer: Answer,
-}
-
-// A yard of these sizes with nobody in it.
+// The head of a yard of these sizes with nobody in it, whose n seats are then to be cleared.
 pub fn start_step(
-    h: Head,
     pieces: u32,
     piece_length: u32,
     last_length: u32,
     n: usize,
     rows: &mut [u8],
     holders: &mut [u16],
-) -> Begun
-    ensures step { (seats : List Seat) → length seats ≡ n → begun result seats rows.new holders.new ≡ start_of pieces piece_length last_length (yard_of h seats rows.old holders.old) }
-    ensures clears { result.clear ≡ sizes_fit (empty_head pieces piece_length last_length) n (length rows.old) (length holders.old) }
+) -> Result<Head, Refusal>
+    ensures { (h : Head) (seats : List Seat) → length seats ≡ n → begun result h seats rows.new holders.new ≡ start_of pieces piece_length last_length (yard_of h seats rows.old holders.old) }
 {
     let empty = empty_head(pieces, piece_length, last_length);
-    let row_bytes = rows.len();
-    let counts = holders.len();
-    if !sizes::sizes_fit(empty, n, row_bytes, counts) {
-        return not_begun(h);
+    if !sizes::sizes_fit(empty, n, rows.len(), holders.len()) {
+        return Err(refuse(number::SIZES, 0));
     }
-    row::clear(rows, 0, row_bytes);
-    row::clear_counts(holders);
-    begin(empty, n)
+    rows.fill(0);
+    holders.fill(0);
+    Ok(begin(empty, n))
 }
 
 // A truck sits down at the lowest free seat i, which is n where none is free.
@@ -88,9 +76,8 @@ pub fn leave_step(
 {
     let row_bytes = rows.len();
     let counts = holders.len();
-    let fault = fault_at(h, s, i, n, row_bytes, counts);
-    if fault != 0 {
-        return reply::refused(h, s, fault);
+    if let Some(number) = fault_at(h, s, i, n, row_bytes, counts) {
+        return reply::refused(h, s, number);
     }
     let w = row::width(h);
     let at = i * w;
@@ -119,10 +106,12 @@ pub fn choke_step(
     ensures step { turn result rows.now holders.now ≡ mark_of (we_choke on) (length out.old) i n (around h s rows.now holders.now) }
     ensures frame { out.new ≡ sets out.old 0 (if_taken (paper result.answer) (choke_frame on)) }
 {
+    if let Some(number) = fault_at(h, s, i, n, rows.len(), holders.len()) {
+        return reply::refused(h, s, number);
+    }
     let mut t = s;
     t.am_choking = on as u8;
-    let fault = fault_at(h, s, i, n, rows.len(), holders.len());
-    mark(h, s, t, fault, choke_id(on), out)
+    mark(h, s, t, choke_id(on), out)
 }
 
 // We are interested in what the truck of seat i has, or no longer: the frame is written.
@@ -139,25 +128,24 @@ pub fn interest_step(
     ensures step { turn result rows.now holders.now ≡ mark_of (we_want on) (length out.old) i n (around h s rows.now holders.now) }
     ensures frame { out.new ≡ sets out.old 0 (if_taken (paper result.answer) (interest_frame on)) }
 {
+    if let Some(number) = fault_at(h, s, i, n, rows.len(), holders.len()) {
+        return reply::refused(h, s, number);
+    }
     let mut t = s;
     t.am_interested = on as u8;
-    let fault = fault_at(h, s, i, n, rows.len(), holders.len());
-    mark(h, s, t, fault, interest_id(on), out)
+    mark(h, s, t, interest_id(on), out)
 }
 
-// The seat s becomes t, and the frame of this id is written, unless there is a fault or no room.
-fn mark(h: Head, s: Seat, t: Seat, fault: u8, id: u8, out: &mut [u8]) -> Stepped
+// The seat s becomes t, and the frame of this id is written, unless there is no room.
+fn mark(h: Head, s: Seat, t: Seat, id: u8, out: &mut [u8]) -> Stepped
     requires { id < 4 }
-    ensures step { result ≡ marked_or h s t fault (length out.old) }
+    ensures step { result ≡ marked_or h s t (length out.old) }
     ensures frame { out.new ≡ sets out.old 0 (if_taken (paper result.answer) (framed (id ∷ []))) }
 {
-    if fault != 0 {
-        return reply::refused(h, s, fault);
-    }
     if out.len() < 5 {
         return reply::refused(h, s, number::ROOM);
     }
-    write::plain(out, id);
+    let _ = write::plain(out, id);
     marked(h, t)
 }
 
@@ -179,20 +167,20 @@ fn interest_id(on: bool) -> u8
     3
 }
 
-// The number of the refusal where the sizes do not fit or no truck sits at i, and else 0.
-fn fault_at(h: Head, s: Seat, i: usize, n: usize, row_bytes: usize, counts: usize) -> u8
+// The number of the refusal where the sizes do not fit or no truck sits at i.
+fn fault_at(h: Head, s: Seat, i: usize, n: usize, row_bytes: usize, counts: usize) -> Option<u8>
     ensures { result ≡ fault_at h s i n row_bytes counts }
 {
     if !sizes::sizes_fit(h, n, row_bytes, counts) {
-        return number::SIZES;
+        return Some(number::SIZES);
     }
     if n <= i {
-        return number::SEAT;
+        return Some(number::SEAT);
     }
     if on(s.taken) {
-        return 0;
+        return None;
     }
-    number::SEAT
+    Some(number::SEAT)
 }
 
 fn empty_head(pieces: u32, piece_length: u32, last_length: u32) -> Head
@@ -211,46 +199,32 @@ fn empty_head(pieces: u32, piece_length: u32, last_length: u32) -> Head
 }
 
 // The free place was last at the last of n seats, so that it comes to the first.
-fn begin(empty: Head, n: usize) -> Begun
+fn begin(empty: Head, n: usize) -> Head
     requires { (1 ≤ n) × (n ≤ 2000) }
-    ensures { result ≡ record { head = placed empty.round empty.free (n - 1) empty; clear = true; answer = Answer.Done } }
+    ensures { result ≡ placed empty.round empty.free (n - 1) empty }
 {
     let mut h = empty;
     h.last = (n - 1) as u32;
-    Begun {
-        head: h,
-        clear: true,
-        answer: Answer::Done,
-    }
-}
-
-fn not_begun(h: Head) -> Begun
-    ensures { result ≡ record { head = h; clear = false; answer = Answer.Refused (record { place = 0; number = sizes }) } }
-{
-    Begun {
-        head: h,
-        clear: false,
-        answer: Answer::Refused(refusal::refuse(number::SIZES, 0)),
-    }
+    h
 }
 
 fn seated(h: Head, i: usize) -> Stepped
     requires { h.taken < 2000 }
-    ensures { result ≡ record { head = counted (h.taken + 1) h.complete h; seat = arrived; answer = Answer.Seated i } }
+    ensures { result ≡ record { head = counted (h.taken + 1) h.complete h; seat = arrived; answer = Ok (Answer.Seated i) } }
 {
     let mut g = h;
     g.taken = h.taken + 1;
     Stepped {
         head: g,
         seat: yard_tables::arrived_seat(),
-        answer: Answer::Seated(i),
+        answer: Ok(Answer::Seated(i)),
     }
 }
 
 // The head and the seat once the truck of s has left.
 fn gone(h: Head, s: Seat) -> Stepped
     requires { head_at_zero h s ≡ false }
-    ensures { result ≡ record { head = counted (h.taken - 1) (h.complete - bit (eqb s.held h.pieces)) h; seat = cleared; answer = Answer.Done } }
+    ensures { result ≡ record { head = counted (h.taken - 1) (h.complete - bit (eqb s.held h.pieces)) h; seat = cleared; answer = Ok Answer.Done } }
 {
     let mut g = h;
     g.taken = h.taken - 1;
@@ -262,21 +236,21 @@ fn gone(h: Head, s: Seat) -> Stepped
 }
 
 fn left_seat(h: Head) -> Stepped
-    ensures { result ≡ record { head = h; seat = cleared; answer = Answer.Done } }
+    ensures { result ≡ record { head = h; seat = cleared; answer = Ok Answer.Done } }
 {
     Stepped {
         head: h,
         seat: yard_tables::cleared_seat(),
-        answer: Answer::Done,
+        answer: Ok(Answer::Done),
     }
 }
 
 fn marked(h: Head, s: Seat) -> Stepped
-    ensures { result ≡ record { head = h; seat = s; answer = Answer.Wrote 5 } }
+    ensures { result ≡ record { head = h; seat = s; answer = Ok (Answer.Wrote 5) } }
 {
     Stepped {
         head: h,
         seat: s,
-        answer: Answer::Wrote(5),
+        answer: Ok(Answer::Wrote(5)),
     }
 }

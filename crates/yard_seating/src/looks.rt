@@ -3,66 +3,85 @@ ghost use Rattle.std.specs.Prelude.{◌≡◌, ◌<◌, ◌≤◌, ◌+◌, ◌/
 ghost use Rattle.yard_tables.specs.Looks.{fewest, place_of, scarcest_of, seat_of, has_of, count_of};
 ghost use Rattle.yard_tables.specs.Tables.{paper, around};
 ghost use Rattle.yard_tables.specs.declared.Seat.{Seat};
-ghost use Rattle.yard_tables.specs.declared.Answer.TheVariants.{Refused};
 
 use crate::row;
-use refusal::number;
+use refusal::{Refusal, number, refuse};
 use torrent_blocks::PieceNumber;
 use yard_tables::{Answer, Head, Seat, bits, sizes};
 
 // The smallest number among the pieces with fewest holders.
-pub fn scarcest(h: Head, n: usize, rows: &[u8], holders: &[u16]) -> Answer
+pub fn scarcest(h: Head, n: usize, rows: &[u8], holders: &[u16]) -> Result<Answer, Refusal>
     ensures { (s : Seat) → paper result ≡ (scarcest_of n (around h s rows.now holders.now)).answer }
 {
     if !sizes::sizes_fit(h, n, rows.len(), holders.len()) {
-        return refuse(number::SIZES);
+        return Err(refuse(number::SIZES, 0));
     }
-    Answer::Piece(rarest(holders))
+    Ok(Answer::Piece(rarest(holders)))
 }
 
 // The record of seat i, which is s.
-pub fn seat(h: Head, s: Seat, i: usize, n: usize, rows: &[u8], holders: &[u16]) -> Answer
+pub fn seat(
+    h: Head,
+    s: Seat,
+    i: usize,
+    n: usize,
+    rows: &[u8],
+    holders: &[u16],
+) -> Result<Answer, Refusal>
     ensures { paper result ≡ (seat_of i n (around h s rows.now holders.now)).answer }
 {
     if !sizes::sizes_fit(h, n, rows.len(), holders.len()) {
-        return refuse(number::SIZES);
+        return Err(refuse(number::SIZES, 0));
     }
     if n <= i {
-        return refuse(number::SEAT);
+        return Err(refuse(number::SEAT, 0));
     }
-    Answer::Record(s)
+    Ok(Answer::Record(s))
 }
 
 // Whether the truck of seat i has a piece.
-pub fn has(h: Head, i: usize, piece: PieceNumber, n: usize, rows: &[u8], holders: &[u16]) -> Answer
+pub fn has(
+    h: Head,
+    i: usize,
+    piece: PieceNumber,
+    n: usize,
+    rows: &[u8],
+    holders: &[u16],
+) -> Result<Answer, Refusal>
     ensures { (s : Seat) → paper result ≡ (has_of i piece.0 n (around h s rows.now holders.now)).answer }
 {
     if !sizes::sizes_fit(h, n, rows.len(), holders.len()) {
-        return refuse(number::SIZES);
+        return Err(refuse(number::SIZES, 0));
     }
     if n <= i {
-        return refuse(number::SEAT);
+        return Err(refuse(number::SEAT, 0));
     }
     let p = sizes::wide(piece.0);
     if holders.len() <= p {
-        return refuse(number::BEYOND);
+        return Err(refuse(number::BEYOND, 0));
     }
     let byte = rows[i * row::width(h) + p / 8];
-    Answer::Holds(bits::bit_of(byte, p))
+    Ok(Answer::Holds(bits::bit_of(byte, p)))
 }
 
 // How many trucks hold a piece.
-pub fn count(h: Head, piece: PieceNumber, n: usize, rows: &[u8], holders: &[u16]) -> Answer
+pub fn count(
+    h: Head,
+    piece: PieceNumber,
+    n: usize,
+    rows: &[u8],
+    holders: &[u16],
+) -> Result<Answer, Refusal>
     ensures { (s : Seat) → paper result ≡ (count_of piece.0 n (around h s rows.now holders.now)).answer }
 {
     if !sizes::sizes_fit(h, n, rows.len(), holders.len()) {
-        return refuse(number::SIZES);
+        return Err(refuse(number::SIZES, 0));
     }
     let p = sizes::wide(piece.0);
     if holders.len() <= p {
-        return refuse(number::BEYOND);
+        return Err(refuse(number::BEYOND, 0));
     }
-    Answer::Holders(wide(holders[p]))
+    Ok(Answer::Holders(wide(holders[p])))
 }
 
 // The place of the first of the smallest counts.
@@ -71,10 +90,8 @@ fn rarest(holders: &[u16]) -> usize
     ensures { result ≡ place_of (fewest holders.now) holders.now }
 {
     let mut best = 0;
-    let mut p = 1;
-    while p < holders.len() {
+    for p in 1..holders.len() {
         best = rarer(holders, best, p);
-        p += 1;
     }
     best
 }
@@ -95,10 +112,4 @@ fn wide(count: u16) -> usize
     ensures { result ≡ count }
 {
     count as usize
-}
-
-fn refuse(number: u8) -> Answer
-    ensures { result ≡ Refused (record { place = 0; number = number }) }
-{
-    Answer::Refused(refusal::refuse(number, 0))
 }

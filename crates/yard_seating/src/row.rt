@@ -1,5 +1,5 @@
 // Passes over one row and the holder counts, a byte of the row at a time. `at` is the row's first byte.
-ghost use Rattle.std.specs.Prelude.{◌≡◌, ◌&&◌, ◌||◌, List, ℕ, ◌<◌, ◌≤◌, ◌+◌, ◌-◌, ◌/◌, ◌%◌, eqb, length, replicate};
+ghost use Rattle.std.specs.Prelude.{◌≡◌, List, ℕ, ◌<◌, ◌≤◌, ◌+◌, ◌-◌, ◌/◌, ◌%◌, length, replicate};
 ghost use Rattle.std.proofs.lemmas.List.Edits.{sets};
 ghost use Rattle.yard_tables.specs.Rows.{width};
 ghost use Rattle.yard_seating.specs.Steps.{some_zero, lowered};
@@ -18,22 +18,7 @@ pub fn clear(rows: &mut [u8], at: usize, n: usize)
     requires { at + n ≤ length rows.old }
     ensures { rows.new ≡ sets rows.old at (replicate n 0) }
 {
-    let mut k = 0;
-    while k < n {
-        rows[at + k] = 0;
-        k += 1;
-    }
-}
-
-// All counts become 0.
-pub fn clear_counts(holders: &mut [u16])
-    ensures { holders.new ≡ sets holders.old 0 (replicate (length holders.old) 0) }
-{
-    let mut k = 0;
-    while k < holders.len() {
-        holders[k] = 0;
-        k += 1;
-    }
+    rows[at..at + n].fill(0);
 }
 
 // Whether a piece of the row has no holder.
@@ -42,11 +27,10 @@ pub fn some_zero(rows: &[u8], holders: &[u16], at: usize, pieces: usize) -> bool
     ensures { result ≡ some_zero rows.now at holders.now pieces }
 {
     let mut found = false;
-    let mut p = 0;
-    while p < pieces {
-        let end = bits::end_of(p, pieces);
+    for k in 0..(pieces + 7) / 8 {
+        let p = 8 * k;
+        let end = (p + 8).min(pieces);
         found = byte_zero(rows, holders, at, p, end, found);
-        p = end;
     }
     found
 }
@@ -56,11 +40,10 @@ pub fn lower(rows: &[u8], holders: &mut [u16], at: usize, pieces: usize)
     requires { (at + (pieces + 7) / 8 ≤ length rows.now) × (pieces ≤ length holders.old) × (pieces ≤ 65536) }
     ensures { holders.new ≡ lowered rows.now at pieces holders.old }
 {
-    let mut p = 0;
-    while p < pieces {
-        let end = bits::end_of(p, pieces);
+    for k in 0..(pieces + 7) / 8 {
+        let p = 8 * k;
+        let end = (p + 8).min(pieces);
         lower_byte(rows, holders, at, p, end);
-        p = end;
     }
 }
 
@@ -75,10 +58,8 @@ fn byte_zero(rows: &[u8], holders: &[u16], at: usize, p: usize, end: usize, foun
         return found;
     }
     let mut any = found;
-    let mut q = p;
-    while q < end {
-        any = one_zero(any, bits::bit_of(byte, q), holders[q]);
-        q += 1;
+    for q in p..end {
+        any |= bits::bit_of(byte, q) & (holders[q] == 0);
     }
     any
 }
@@ -91,21 +72,7 @@ fn lower_byte(rows: &[u8], holders: &mut [u16], at: usize, p: usize, end: usize)
     if byte == 0 {
         return;
     }
-    let mut q = p;
-    while q < end {
+    for q in p..end {
         holders[q] = leaving::lower_to(holders[q], bits::bit_of(byte, q));
-        q += 1;
     }
-}
-
-fn one_zero(found: bool, has: bool, count: u16) -> bool
-    ensures { result ≡ (found || (has && eqb count 0)) }
-{
-    if found {
-        return true;
-    }
-    if has {
-        return count == 0;
-    }
-    false
 }

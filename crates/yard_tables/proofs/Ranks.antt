@@ -22,6 +22,14 @@ use Rattle.yard_tables.proofs.Counts.{bit_le, count-sub, count_less, count-sum, 
 
 -- ---- tests
 
+-- how many come before the first of four that is one
+first-of-four : (a b c d : Bool) → cond (not a) (1 + cond (not b) (1 + cond (not c) (1 + cond (not d) 1 0) 0) 0) 0 ≡ cond a 0 (cond b 1 (cond c 2 (cond d 3 4)))
+first-of-four true b c d = refl
+first-of-four false true c d = refl
+first-of-four false false true d = refl
+first-of-four false false false true = refl
+first-of-four false false false false = refl
+
 any-four : (a b c d : Bool) {q : Bool} → (a ≡ true → q ≡ true) → (b ≡ true → q ≡ true) → (c ≡ true → q ≡ true) → (d ≡ true → q ≡ true)
     → (a || (b || (c || d))) ≡ true → q ≡ true
 any-four true b c d ha hb hc hd e = ha refl
@@ -351,7 +359,6 @@ module _ (last : ℕ) (W : ℕ → Bool) (B : ℕ → ℕ) where
       hold-new k e = let z : bit (ahead W B m m) ≡ 0 = ap bit (ahead-self W B m) in full (omega arith) wants refl (omega arith)
 
       stand-new : (r : Ranking) → Standing m r → Standing (suc m) (inserted new (noted last m r))
-      unfolding inserted
       stand-new r s =
           by-test (Standing (suc m)) (beaten r.fourth new)
           (λ e4. let y4 = beaten-yes 3 r.fourth s.fourth e4 in
@@ -452,9 +459,9 @@ module _ (last : ℕ) (W : ℕ → Bool) (B : ℕ → ℕ) where
 
     -- and so many
     stand-four : (r : Ranking) (free : ℕ) → Standing n r → four_in (marks_of r free) ≡ count n (chosen n W B)
-    unfolding four_in
     stand-four r free s =
-        by-test (λ (x : ℕ). x ≡ count n (chosen n W B)) (eqb r.first.seat nobody)
+        first-of-four (eqb r.first.seat nobody) (eqb r.second.seat nobody) (eqb r.third.seat nobody) (eqb r.fourth.seat nobody)
+        ∙ by-test (λ (x : ℕ). x ≡ count n (chosen n W B)) (eqb r.first.seat nobody)
         (λ e1. let c = hold-none 0 r.first s.first e1 in
         omega (arith, four-levels W B n, at_none 0 (omega arith), at_none 1 (omega arith), at_none 2 (omega arith), at_none 3 (omega arith)))
         (λ e1. by-test (λ (x : ℕ). x ≡ count n (chosen n W B)) (eqb r.second.seat nobody)

@@ -9,15 +9,13 @@ use native.Mathlib.Omega.{arith}
 use borrow.Author.Tests.{ltb-false, leb-false, eqb-true, eq-eqb, ne_eqb}
 use lib.Dec.{eqb, ltb, leb}
 use lib.ListN.{length, get_or, get_or-eq_default}
-use lib.Seq.{ext_get_or}
 use Rattle.refusal.proofs.Cases.{cannot, less-or, by_bool, by-test, both, or_left, or_right}
-use Rattle.refusal.specs.Paper.{taken, refused}
-use Rattle.refusal.specs.Numbers.{sizes, damaged}
+use Rattle.refusal.specs.Paper.{taken}
 use Rattle.yard_tables.specs.Counting.{bit, count, some, each}
 use Rattle.yard_tables.specs.Seats.{on, cleared, placed}
-use Rattle.yard_tables.specs.Tables.{Out, unchoked, out, yard_of, sizes_fit}
+use Rattle.yard_tables.specs.Tables.{Out, unchoked, yard_of, sizes_fit}
 use Rattle.yard_tables.specs.Rounds.{nobody, next_of, free_then, before, chosen, served, next_round, taken_in, wants_in, sent_in, round_seat, misplaced, head_after, served_in, round_of}
-use Rattle.yard_tables.specs.Ranks.{ranked, free_of, next_number, head_of, marks_of, no_marks, among, mark_step, count_of, turned}
+use Rattle.yard_tables.specs.Ranks.{ranked, free_of, next_number, head_of, marks_of, among, mark_step, count_of, turned}
 use Rattle.yard_tables.specs.declared.Head.{Head}
 use Rattle.yard_tables.specs.declared.Seat.{Seat}
 use Rattle.yard_tables.specs.declared.rank.Ranking.{Ranking}
@@ -26,16 +24,10 @@ use Rattle.yard_tables.specs.declared.round.Turned.{Turned}
 use Rattle.yard_tables.proofs.Counts.{count-ext, count-or, count_none, some-none, some-every}
 use Rattle.yard_tables.proofs.Single.{count-only}
 use Rattle.yard_tables.proofs.Sizing.{fitting}
-use Rattle.yard_tables.proofs.Sweeps.{length-each, get_or-each, each-ext}
+use Rattle.yard_tables.proofs.Sweeps.{each-ext}
 use Rattle.yard_tables.proofs.Ranks.{next-right, ranked-among, ranked-four, ranked-free}
 
 -- ---- each seat
-
--- a refused round leaves each seat
-none-marked : (seats : List Seat) → each (λ i s. mark_step no_marks s i) seats ≡ seats
-unfolding mark_step
-none-marked seats = ext_get_or cleared (each (λ i s. s) seats) seats (length-each (λ i s. s) seats)
-    (λ k q. get_or-each (λ i s. s) seats k cleared (omega (arith, length-each {A = Seat} (λ i s. s) seats)))
 
 -- where the four are among those with t
 taken-or : (t f e : Bool) → (f ≡ true → t ≡ true) → (t && (f || e)) ≡ (f || (e && t))
@@ -134,28 +126,21 @@ module _ (h : Head) (seats : List Seat) (few : length seats ≤ nobody) (number 
 -- ---- the round
 
 module _ (h : Head) (seats : List Seat) (rows holders : List ℕ) where
-  abbrev left : Turned → Out
-  left t = out t.answer t.head (each (λ i s. mark_step t.marks s i) seats) rows holders
-
-  abbrev refusing : ℕ → Out
-  refusing fault = record { answer = refused fault 0; yard = yard_of h seats rows holders }
-
   abbrev leaving : ℕ → Head → List Seat → Out
   leaving k head l = record { answer = taken (unchoked k); yard = yard_of head l rows holders }
 
   leaving-same : {k k' : ℕ} {g g' : Head} {l l' : List Seat} → k ≡ k' → g ≡ g' → l ≡ l' → leaving k g l ≡ leaving k' g' l'
   leaving-same p q r = rw (p, q, r)
 
-  refused-turn : (fault : ℕ) (r : Ranking) (free : ℕ) (s : Seat) → eqb fault 0 ≡ false → left (turned h fault r free s) ≡ refusing fault
-  unfolding turned
-  refused-turn fault r free s e = rw (e, none-marked seats)
+  -- what a round comes to, where the free place's seat is `free`
+  abbrev turning : ℕ → Out
+  turning free = let t : Turned = turned h (ranked h.last seats) free (get_or seats free cleared) in leaving t.unchoked t.head (each (λ i s. mark_step t.marks s i) seats)
 
   taken-turn : length seats ≤ nobody → h.round ≤ 2 → h.last < length seats → h.free ≤ nobody
-      → left (turned h 0 (ranked h.last seats) (free_of h (ranked h.last seats)) (get_or seats (free_of h (ranked h.last seats)) cleared))
+      → turning (free_of h (ranked h.last seats))
       ≡ leaving (count (length seats) (λ i. taken_in seats i && served_in h seats i)) (head_after h seats) (each (λ i s. round_seat (served_in h seats i) s) seats)
-  unfolding turned
   taken-turn few number there holder =
-      ap (λ (f : ℕ). left (turned h 0 (ranked h.last seats) f (get_or seats f cleared))) (ranked-free seats few h there)
+      ap turning (ranked-free seats few h there)
       ∙ leaving-same (count-is seats few h.last (free h seats few number there holder)) (head-is h seats few number there holder) (seats-are seats few h.last (free h seats few number there holder))
 
   well-placed : length seats ≤ nobody → misplaced h (length seats) ≡ false → (h.round ≤ 2) × (h.last < length seats) × (h.free ≤ nobody)
@@ -172,18 +157,12 @@ module _ (h : Head) (seats : List Seat) (rows holders : List ℕ) where
             (λ q. let f : leb (length seats) h.free ≡ false = rw q at c in omega (arith, leb-false (length seats) h.free f)),
       )
 
-  -- the marks, the head and the answer of the passes, where the fault is that of the tables: the round as defined
-  pub round-turns : (fault : ℕ) → fault ≡ cond (sizes_fit h (length seats) (length rows) (length holders)) (cond (misplaced h (length seats)) damaged 0) sizes
-      → let r : Ranking = ranked h.last seats in let f : ℕ = free_of h r in let t : Turned = turned h fault r f (get_or seats f cleared) in
-      out t.answer t.head (each (λ i s. mark_step t.marks s i) seats) rows holders ≡ round_of (yard_of h seats rows holders)
+  -- the head, the marks and the count of the passes, where the tables are sound: the round as defined
+  pub round-turns : sizes_fit h (length seats) (length rows) (length holders) ≡ true → misplaced h (length seats) ≡ false
+      → let r : Ranking = ranked h.last seats in let f : ℕ = free_of h r in let t : Turned = turned h r f (get_or seats f cleared) in
+      leaving t.unchoked t.head (each (λ i s. mark_step t.marks s i) seats) ≡ round_of (yard_of h seats rows holders)
   unfolding round_of
-  round-turns fault e = by_bool (sizes_fit h (length seats) (length rows) (length holders))
-      (λ q. let few : length seats ≤ nobody = omega (arith, (fitting h (length seats) (length rows) (length holders) q).seats) in
-      by_bool (misplaced h (length seats))
-      (λ m. let f : fault ≡ damaged = e ∙ rw (q, m) in
-      rw (f, q, m) (refused-turn damaged (ranked h.last seats) _ _ refl))
-      (λ m. let f : fault ≡ 0 = e ∙ rw (q, m) in
+  round-turns q m =
+      let few : length seats ≤ nobody = omega (arith, (fitting h (length seats) (length rows) (length holders) q).seats) in
       let w = well-placed few m in
-      rw (f, q, m) (taken-turn few w.0 w.1 w.2)))
-      (λ q. let f : fault ≡ sizes = e ∙ rw q in
-      rw (f, q) (refused-turn sizes (ranked h.last seats) _ _ refl))
+      rw (q, m) (taken-turn few w.0 w.1 w.2)

@@ -1,12 +1,12 @@
 -- The seats ranked in one pass, and what a round makes of the ranking: contracts of inner functions cite these. Assumes nothing: these are definitions.
 -- They need not be believed: yard_tables/proofs/Ranks.antt ties them to Rounds.antt.
 use Rattle.std.specs.Prelude.{Bool, true, false, not, cond, ◌&&◌, ◌||◌, List, [], ◌∷◌, ℕ, suc, ◌+◌, min, eqb, ltb}
+use Rattle.std.specs.List.{position_or_len}
 use Rattle.yard_tables.specs.Counting.{bit}
 use Rattle.yard_tables.specs.Seats.{on, we_choke, having, placed}
 use Rattle.yard_tables.specs.Rounds.{nobody}
 use Rattle.yard_tables.specs.declared.Head.{Head}
 use Rattle.yard_tables.specs.declared.Seat.{Seat}
-use Rattle.yard_tables.specs.declared.Answer.TheVariants.{Refused, Unchoked}
 use Rattle.yard_tables.specs.declared.rank.Place.{Place}
 use Rattle.yard_tables.specs.declared.rank.Ranking.{Ranking}
 use Rattle.yard_tables.specs.declared.round.Marks.{Marks}
@@ -30,7 +30,7 @@ wants_it s = on s.taken && on s.peer_interested
 abbrev pub beaten : Place → Place → Bool
 beaten p new = eqb p.seat nobody || ltb p.bytes new.bytes
 
-unfoldable pub inserted : Place → Ranking → Ranking
+abbrev pub inserted : Place → Ranking → Ranking
 inserted new r =
     cond (beaten r.fourth new)
     (cond (beaten r.third new)
@@ -74,14 +74,8 @@ last_of h free = cond (eqb h.round 0 && not (eqb free nobody)) (min free nobody)
 abbrev pub head_of : Head → ℕ → Head
 head_of h free = placed (next_number h.round) (min free nobody) (last_of h free) h
 
-abbrev pub marks : Bool → ℕ → ℕ → ℕ → ℕ → ℕ → Marks
-marks wanted a b c d free = record { wanted = wanted; first = a; second = b; third = c; fourth = d; free = free }
-
 abbrev pub marks_of : Ranking → ℕ → Marks
-marks_of r free = marks true r.first.seat r.second.seat r.third.seat r.fourth.seat free
-
-abbrev pub no_marks : Marks
-no_marks = marks false nobody nobody nobody nobody nobody
+marks_of r free = record { first = r.first.seat; second = r.second.seat; third = r.third.seat; fourth = r.fourth.seat; free = free }
 
 -- seat i is one of the four, or is to be unchoked
 abbrev pub among : Marks → ℕ → Bool
@@ -91,24 +85,21 @@ abbrev pub marked : Marks → ℕ → Bool
 marked m i = eqb i m.free || among m i
 
 unfoldable pub mark_step : Marks → Seat → ℕ → Seat
-mark_step m s i = cond (m.wanted && on s.taken) (we_choke (not (marked m i)) (having 0 s)) s
+mark_step m s i = cond (on s.taken) (we_choke (not (marked m i)) (having 0 s)) s
 
 -- the same in two: every seat is choked, and those that are marked are unchoked after all
-abbrev pub choke_step : Bool → Seat → Seat
-choke_step wanted s = cond (wanted && on s.taken) (we_choke true (having 0 s)) s
+abbrev pub choke_step : Seat → Seat
+choke_step s = cond (on s.taken) (we_choke true (having 0 s)) s
 
-abbrev pub unchoke_step : Bool → Seat → Seat
-unchoke_step wanted s = cond (wanted && on s.taken) (we_choke false s) s
+abbrev pub unchoke_step : Seat → Seat
+unchoke_step s = cond (on s.taken) (we_choke false s) s
 
 -- how many of the four there are, and how many trucks are unchoked
-unfoldable pub four_in : Marks → ℕ
-four_in m = cond (eqb m.first nobody) 0 (cond (eqb m.second nobody) 1 (cond (eqb m.third nobody) 2 (cond (eqb m.fourth nobody) 3 4)))
+abbrev pub four_in : Marks → ℕ
+four_in m = position_or_len (λ s. eqb s nobody) (m.first ∷ m.second ∷ m.third ∷ m.fourth ∷ [])
 
 abbrev pub count_of : Marks → Seat → ℕ
 count_of m holder = four_in m + bit (on holder.taken && not (among m m.free))
 
-unfoldable pub turned : Head → ℕ → Ranking → ℕ → Seat → Turned
-turned h fault r free holder =
-    cond (eqb fault 0)
-    (record { head = head_of h free; marks = marks_of r free; answer = Unchoked (count_of (marks_of r free) holder) })
-    (record { head = h; marks = no_marks; answer = Refused (record { number = fault; place = 0 }) })
+abbrev pub turned : Head → Ranking → ℕ → Seat → Turned
+turned h r free holder = record { head = head_of h free; marks = marks_of r free; unchoked = count_of (marks_of r free) holder }

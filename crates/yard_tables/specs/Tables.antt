@@ -1,5 +1,6 @@
 -- The yard's tables, what a call says, and the checks that calls share. Assumes nothing: these are definitions.
-use Rattle.std.specs.Prelude.{Bool, cond, ◌&&◌, List, [], ◌∷◌, ℕ, ◌*◌, eqb, ltb, leb, length, get_or, set}
+use Rattle.refusal.specs.declared.Refusal.{Refusal}
+use Rattle.std.specs.Prelude.{Bool, cond, ◌&&◌, List, [], ◌∷◌, ℕ, ◌*◌, eqb, ltb, leb, length, get_or, set, Err, Ok, Result}
 use Rattle.refusal.specs.Paper.{Outcome, taken, refused, refusal}
 use Rattle.refusal.specs.Numbers.{seat, sizes}
 use Rattle.refusal.specs.Limits.{most_pieces, most_seats}
@@ -12,7 +13,7 @@ use Rattle.yard_tables.specs.declared.Seat.{Seat}
 use Rattle.yard_tables.specs.declared.Page.{Page}
 use Rattle.yard_tables.specs.declared.Stepped.{Stepped}
 use Rattle.yard_tables.specs.declared.Answer.{Answer}
-use Rattle.yard_tables.specs.declared.Answer.TheVariants.{Refused, Wait, Done, Taken, Serve, Dropped, Seated, Wrote, Listed, Record, Holds, Holders, Piece, Unchoked}
+use Rattle.yard_tables.specs.declared.Answer.TheVariants.{Wait, Done, Taken, Serve, Dropped, Seated, Wrote, Listed, Record, Holds, Holders, Piece, Unchoked}
 
 pub record Yard : Type 0 where
   pub head : Head
@@ -38,21 +39,21 @@ pub data Said : Type 0 where
   unchoked : ℕ → Said
 
 -- the code's answer in these words
-abbrev pub paper : Answer → Outcome Said
-paper (Refused r) = refusal r
-paper Wait = taken wait
-paper Done = taken done
-paper (Taken n) = taken (used n)
-paper (Serve n) = taken (serve n)
-paper (Dropped n) = taken (dropped n)
-paper (Seated i) = taken (seated i)
-paper (Wrote n) = taken (wrote n)
-paper (Listed x) = taken (listed x)
-paper (Record s) = taken (shows s)
-paper (Holds b) = taken (holds b)
-paper (Holders n) = taken (held_by_of n)
-paper (Piece p) = taken (scarce p)
-paper (Unchoked n) = taken (unchoked n)
+abbrev pub paper : Result Answer Refusal → Outcome Said
+paper (Err r) = refusal r
+paper (Ok Wait) = taken wait
+paper (Ok Done) = taken done
+paper (Ok (Taken n)) = taken (used n)
+paper (Ok (Serve n)) = taken (serve n)
+paper (Ok (Dropped n)) = taken (dropped n)
+paper (Ok (Seated i)) = taken (seated i)
+paper (Ok (Wrote n)) = taken (wrote n)
+paper (Ok (Listed x)) = taken (listed x)
+paper (Ok (Record s)) = taken (shows s)
+paper (Ok (Holds b)) = taken (holds b)
+paper (Ok (Holders n)) = taken (held_by_of n)
+paper (Ok (Piece p)) = taken (scarce p)
+paper (Ok (Unchoked n)) = taken (unchoked n)
 
 -- ---- a call at one seat
 
@@ -116,7 +117,7 @@ abbrev pub yard_of : Head → List Seat → List ℕ → List ℕ → Yard
 yard_of h seats rows holders = record { head = h; seats = seats; rows = rows; holders = holders }
 
 -- the code's answer in these words, with the tables that it leaves
-abbrev pub out : Answer → Head → List Seat → List ℕ → List ℕ → Out
+abbrev pub out : Result Answer Refusal → Head → List Seat → List ℕ → List ℕ → Out
 out r h seats rows holders = record { answer = paper r; yard = yard_of h seats rows holders }
 
 -- what a call at seat i of the yard leaves: the seat is put back, and nothing is where there is no such seat

@@ -13,19 +13,12 @@ pub fn bit_of(b: u8, p: usize) -> bool
 pub fn mask(p: usize) -> u8
     ensures { result ≡ 2 ^ (7 - p % 8) }
 {
-    let high: u8 = 128;
-    high >> (p % 8)
+    128u8 >> (p % 8)
 }
 
-// Where the byte whose first piece is p ends, or all the pieces do. Its first test is every loop's own, which LLVM drops.
+// Where the byte whose first piece is p ends, or all the pieces do.
 pub fn end_of(p: usize, pieces: usize) -> usize
     ensures { result ≡ min (p + 8) pieces }
 {
-    if pieces <= p {
-        return pieces;
-    }
-    if pieces - p < 8 {
-        return pieces;
-    }
-    p + 8
+    p.saturating_add(8).min(pieces)
 }

@@ -9,12 +9,18 @@ ghost use Rattle.yard_tables.specs.Seats.{having};
 
 use crate::sizes::wide;
 use crate::{Answer, Head, Seat, Stepped, on, reply};
-use refusal::{limit, number};
+use refusal::{Refusal, limit, number};
 use torrent_blocks::{PieceNumber, PieceOffset};
 
 // A block of piece p that fits or not; a is the answer where it does. The head's lengths are looked at by who calls, so that
 // LLVM keeps the numbers of the head that is handed on apart.
-pub fn block_step(h: Head, s: Seat, p: PieceNumber, fits: bool, a: Answer) -> Stepped
+pub fn block_step(
+    h: Head,
+    s: Seat,
+    p: PieceNumber,
+    fits: bool,
+    a: Result<Answer, Refusal>,
+) -> Stepped
     ensures { result ≡ block_step h s p.0 fits a }
 {
     if beyond(h, p) {
@@ -57,10 +63,7 @@ fn beyond(h: Head, p: PieceNumber) -> bool
 fn too_much(s: Seat, len: usize) -> bool
     ensures { result ≡ ltb most_sent (s.bytes + len) }
 {
-    if limit::SENT < s.bytes {
-        return true;
-    }
-    limit::SENT - s.bytes < len as u64
+    limit::SENT < s.bytes.saturating_add(len as u64)
 }
 
 // With so many bytes more.
@@ -68,35 +71,27 @@ fn sent(s: Seat, len: usize) -> Seat
     requires { s.bytes + len ≤ most_sent }
     ensures { result ≡ having (s.bytes + len) s }
 {
-    let mut t = s;
-    t.bytes = s.bytes + len as u64;
-    t
+    Seat {
+        bytes: s.bytes + len as u64,
+        ..s
+    }
 }
 
 // Serve exactly if we don't choke and they are interested.
-pub fn asked(s: Seat, used: usize) -> Answer
+pub fn asked(s: Seat, used: usize) -> Result<Answer, Refusal>
     ensures { paper result ≡ taken (requested used s) }
 {
-    if on(s.am_choking) {
-        return Answer::Dropped(used);
+    if !on(s.am_choking) && on(s.peer_interested) {
+        return Ok(Answer::Serve(used));
     }
-    if on(s.peer_interested) {
-        return Answer::Serve(used);
-    }
-    Answer::Dropped(used)
+    Ok(Answer::Dropped(used))
 }
 
 // A block has 1 to 16,384 bytes and ends within its piece.
 pub fn lies_within(h: Head, p: PieceNumber, begin: PieceOffset, len: usize) -> bool
     ensures { result ≡ block_fits h p.0 begin.0 len }
 {
-    if len < 1 {
-        return false;
-    }
-    if limit::BLOCK < len {
-        return false;
-    }
-    wide(begin.0) + len <= size_of(h, p)
+    1 <= len && len <= limit::BLOCK && wide(begin.0) + len <= size_of(h, p)
 }
 
 // The last piece may be short.

@@ -11,36 +11,22 @@ use crate::{Head, NOBODY, Seat, held};
 pub fn head_at_zero(h: Head, s: Seat) -> bool
     ensures { result ≡ head_at_zero h s }
 {
-    if h.taken == 0 {
-        return true;
-    }
-    if held(s) == wide(h.pieces) {
-        return h.complete == 0;
-    }
-    false
+    h.taken == 0 || held(s) == wide(h.pieces) && h.complete == 0
 }
 
 // Who leaves gives the free place up.
 pub fn give_up(h: Head, i: usize) -> Head
     ensures { result ≡ given_up i h }
 {
-    let mut g = h;
     if wide(h.free) == i {
-        g.free = NOBODY;
-        return g;
+        return Head { free: NOBODY, ..h };
     }
-    g
+    h
 }
 
 // The holders of a piece without one that has it or not.
 pub fn lower_to(count: u16, has: bool) -> u16
     ensures { result ≡ count - bit has }
 {
-    if has {
-        if count == 0 {
-            return 0;
-        }
-        return count - 1;
-    }
-    count
+    count.saturating_sub(u16::from(has))
 }

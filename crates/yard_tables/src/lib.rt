@@ -60,7 +60,6 @@ pub struct Page {
 // What a call answers.
 #[derive(Clone, Copy)]
 pub enum Answer {
-    Refused(Refusal),
     // More bytes are needed, and nothing was used.
     Wait,
     // Started, or left.
@@ -88,7 +87,7 @@ pub enum Answer {
 pub struct Stepped {
     pub head: Head,
     pub seat: Seat,
-    pub answer: Answer,
+    pub answer: Result<Answer, Refusal>,
 }
 
 // A flag is on where it is not 0; the yard itself writes 0 and 1.

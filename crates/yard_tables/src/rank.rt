@@ -56,20 +56,18 @@ pub fn rank_step(best: Ranking, s: Seat, i: usize, h: Head) -> Ranking
 fn wants(s: Seat) -> bool
     ensures { result ≡ wants_it s }
 {
-    if on(s.taken) {
-        return on(s.peer_interested);
-    }
-    false
+    on(s.taken) && on(s.peer_interested)
 }
 
 // The lowest seats, with one more that wants the uplink.
 fn note(r: Ranking, i: usize, h: Head) -> Ranking
     ensures { result ≡ noted h.last i r }
 {
-    let mut t = r;
-    t.lowest = kept(r.lowest, true, i);
-    t.next = kept(r.next, wide(h.last) < i, i);
-    t
+    Ranking {
+        lowest: kept(r.lowest, true, i),
+        next: kept(r.next, wide(h.last) < i, i),
+        ..r
+    }
 }
 
 // The four, with one more that comes after all that sent as many bytes.
@@ -103,8 +101,7 @@ fn four(r: Ranking, first: Place, second: Place, third: Place, fourth: Place) ->
         second,
         third,
         fourth,
-        lowest: r.lowest,
-        next: r.next,
+        ..r
     }
 }
 
@@ -112,23 +109,14 @@ fn four(r: Ranking, first: Place, second: Place, third: Place, fourth: Place) ->
 fn beaten(p: Place, new: Place) -> bool
     ensures { result ≡ beaten p new }
 {
-    if p.seat == NONE {
-        return true;
-    }
-    p.bytes < new.bytes
+    p.seat == NONE || p.bytes < new.bytes
 }
 
 // The first seat that is found is kept.
 fn kept(found: usize, counts: bool, i: usize) -> usize
     ensures { result ≡ cond (eqb found nobody && counts) i found }
 {
-    if found == NONE {
-        if counts {
-            return i;
-        }
-        return found;
-    }
-    found
+    if found == NONE && counts { i } else { found }
 }
 
 fn standing(i: usize, s: Seat) -> Place

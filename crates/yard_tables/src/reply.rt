@@ -12,35 +12,35 @@ pub fn refused(h: Head, s: Seat, number: u8) -> Stepped
     Stepped {
         head: h,
         seat: s,
-        answer: Answer::Refused(refusal::refuse(number, 0)),
+        answer: Err(refusal::refuse(number, 0)),
     }
 }
 
 // More bytes are needed: nothing changes, and nothing is used.
 pub fn waiting(h: Head, s: Seat) -> Stepped
-    ensures { result ≡ stepped h s Answer.Wait }
+    ensures { result ≡ stepped h s (Ok Answer.Wait) }
 {
     Stepped {
         head: h,
         seat: s,
-        answer: Answer::Wait,
+        answer: Ok(Answer::Wait),
     }
 }
 
 // A frame that was taken, with the head and the seat that it leaves.
 pub fn taken(h: Head, s: Seat, used: usize) -> Stepped
-    ensures { result ≡ stepped h s (Answer.Taken used) }
+    ensures { result ≡ stepped h s (Ok (Answer.Taken used)) }
 {
     Stepped {
         head: h,
         seat: s,
-        answer: Answer::Taken(used),
+        answer: Ok(Answer::Taken(used)),
     }
 }
 
 // A frame with an id that changes nothing but that the seat is no longer fresh.
 pub fn passed(h: Head, s: Seat, used: usize) -> Stepped
-    ensures { result ≡ stepped h (spoken s) (Answer.Taken used) }
+    ensures { result ≡ stepped h (spoken s) (Ok (Answer.Taken used)) }
 {
     taken(h, spoken(s), used)
 }
@@ -49,24 +49,24 @@ pub fn passed(h: Head, s: Seat, used: usize) -> Stepped
 pub fn spoken(s: Seat) -> Seat
     ensures { result ≡ spoken s }
 {
-    let mut t = s;
-    t.fresh = 0;
-    t
+    Seat { fresh: 0, ..s }
 }
 
 // With the truck's own marks.
 pub fn they_choke(s: Seat, b: bool) -> Seat
     ensures { result ≡ they_choke b s }
 {
-    let mut t = s;
-    t.peer_choking = b as u8;
-    t
+    Seat {
+        peer_choking: b as u8,
+        ..s
+    }
 }
 
 pub fn they_want(s: Seat, b: bool) -> Seat
     ensures { result ≡ they_want b s }
 {
-    let mut t = s;
-    t.peer_interested = b as u8;
-    t
+    Seat {
+        peer_interested: b as u8,
+        ..s
+    }
 }

@@ -1,17 +1,15 @@
 // What a round makes of the head and of each seat, once the seats are ranked.
 ghost use Rattle.std.specs.Prelude.{◌≡◌, min};
 ghost use Rattle.yard_tables.specs.Rounds.{nobody, misplaced};
-ghost use Rattle.yard_tables.specs.Ranks.{free_of, marks_of, no_marks, next_number, last_of, head_of, turned, four_in, among, choke_step, unchoke_step, count_of};
+ghost use Rattle.yard_tables.specs.Ranks.{free_of, marks_of, next_number, last_of, head_of, turned, four_in, among, choke_step, unchoke_step, count_of};
 
 use crate::rank::{NONE, Ranking};
 use crate::sizes::wide;
-use crate::{Answer, Head, NOBODY, Seat, on};
-use refusal::number;
+use crate::{Head, NOBODY, Seat, on};
 
-// The seats that a round unchokes, the free place's among them, or NONE; a refused round sets no marks.
+// The seats that a round unchokes, the free place's among them, or NONE.
 #[derive(Clone, Copy)]
 pub struct Marks {
-    pub wanted: bool,
     pub first: usize,
     pub second: usize,
     pub third: usize,
@@ -19,28 +17,19 @@ pub struct Marks {
     pub free: usize,
 }
 
-// What a round leaves of the head, the marks that it sets, and its answer.
+// What a round leaves of the head, the marks that it sets, and how many trucks it unchokes.
 #[derive(Clone, Copy)]
 pub struct Turned {
     pub head: Head,
     pub marks: Marks,
-    pub answer: Answer,
+    pub unchoked: usize,
 }
 
 // Whether the round number is over 2, or the free place, now (nobody aside) or last, is no seat of n.
 pub fn misplaced(h: Head, n: usize) -> bool
     ensures { result ≡ misplaced h n }
 {
-    if 2 < h.round {
-        return true;
-    }
-    if n <= wide(h.last) {
-        return true;
-    }
-    if wide(h.free) == NONE {
-        return false;
-    }
-    n <= wide(h.free)
+    2 < h.round || (h.free != NOBODY && n <= wide(h.free) || n <= wide(h.last))
 }
 
 // Whose the free place is after a round: on round number 0 the next seat's, else its holder's.
@@ -56,64 +45,51 @@ pub fn free_place(h: Head, best: Ranking) -> usize
     best.next
 }
 
-// A round, unless there is a fault: `free` has the free place then, and `holder` is that seat.
-pub fn turn(h: Head, fault: u8, best: Ranking, free: usize, holder: Seat) -> Turned
-    ensures { result ≡ turned h fault best free holder }
+// A round: `free` has the free place then, and `holder` is that seat.
+pub fn turn(h: Head, best: Ranking, free: usize, holder: Seat) -> Turned
+    ensures { result ≡ turned h best free holder }
 {
-    if fault != 0 {
-        return Turned {
-            head: h,
-            marks: no_marks(),
-            answer: Answer::Refused(refusal::refuse(fault, 0)),
-        };
-    }
     let marks = marks_of(best, free);
     Turned {
         head: turned_head(h, free),
         marks,
-        answer: Answer::Unchoked(unchoked(marks, holder)),
+        unchoked: unchoked(marks, holder),
     }
 }
 
 // A seat that a round chokes: the bytes of a taken one begin anew.
-pub fn choke(wanted: bool, s: Seat) -> Seat
-    ensures { result ≡ choke_step wanted s }
+pub fn choke(s: Seat) -> Seat
+    ensures { result ≡ choke_step s }
 {
-    if !wanted {
-        return s;
+    if on(s.taken) {
+        return Seat {
+            bytes: 0,
+            am_choking: 1,
+            ..s
+        };
     }
-    if !on(s.taken) {
-        return s;
-    }
-    let mut t = s;
-    t.bytes = 0;
-    t.am_choking = 1;
-    t
+    s
 }
 
 // A seat that it unchokes after all.
-pub fn unchoke(wanted: bool, s: Seat) -> Seat
-    ensures { result ≡ unchoke_step wanted s }
+pub fn unchoke(s: Seat) -> Seat
+    ensures { result ≡ unchoke_step s }
 {
-    if !wanted {
+    if !on(s.taken) {
         return s;
     }
-    let mut t = s;
-    if on(s.taken) {
-        t.am_choking = 0;
-        return t;
-    }
-    s
+    Seat { am_choking: 0, ..s }
 }
 
 fn turned_head(h: Head, free: usize) -> Head
     ensures { result ≡ head_of h free }
 {
-    let mut t = h;
-    t.round = next_number(h.round);
-    t.free = narrow(free);
-    t.last = last_place(h, free);
-    t
+    Head {
+        round: next_number(h.round),
+        free: narrow(free),
+        last: last_place(h, free),
+        ..h
+    }
 }
 
 fn next_number(round: u32) -> u32
@@ -129,10 +105,7 @@ fn next_number(round: u32) -> u32
 fn last_place(h: Head, free: usize) -> u32
     ensures { result ≡ last_of h free }
 {
-    if free == NONE {
-        return h.last;
-    }
-    if h.round == 0 {
+    if h.round == 0 && free != NONE {
         return narrow(free);
     }
     h.last
@@ -142,7 +115,6 @@ fn marks_of(r: Ranking, free: usize) -> Marks
     ensures { result ≡ marks_of r free }
 {
     Marks {
-        wanted: true,
         first: r.first.seat,
         second: r.second.seat,
         third: r.third.seat,
@@ -151,74 +123,31 @@ fn marks_of(r: Ranking, free: usize) -> Marks
     }
 }
 
-fn no_marks() -> Marks
-    ensures { result ≡ no_marks }
-{
-    Marks {
-        wanted: false,
-        first: NONE,
-        second: NONE,
-        third: NONE,
-        fourth: NONE,
-        free: NONE,
-    }
-}
-
 // How many trucks are unchoked: the four, and the holder of the free place if a truck sits there and is none of them.
 fn unchoked(m: Marks, holder: Seat) -> usize
     ensures { result ≡ count_of m holder }
 {
-    let four = four_in(m);
-    if !on(holder.taken) {
-        return four;
-    }
-    if among(m, m.free) {
-        return four;
-    }
-    four + 1
+    four_in(m) + usize::from(on(holder.taken) && !among(m, m.free))
 }
 
 // The first of them that is nobody ends the four.
 fn four_in(m: Marks) -> usize
     ensures { result ≡ four_in m }
 {
-    if m.first == NONE {
-        return 0;
-    }
-    if m.second == NONE {
-        return 1;
-    }
-    if m.third == NONE {
-        return 2;
-    }
-    if m.fourth == NONE {
-        return 3;
-    }
-    4
+    let four = [m.first, m.second, m.third, m.fourth];
+    four.iter().position(|s| *s == NONE).unwrap_or(4)
 }
 
 // Whether seat i is one of the four.
 fn among(m: Marks, i: usize) -> bool
     ensures { result ≡ among m i }
 {
-    if i == m.first {
-        return true;
-    }
-    if i == m.second {
-        return true;
-    }
-    if i == m.third {
-        return true;
-    }
-    i == m.fourth
+    [m.first, m.second, m.third, m.fourth].contains(&i)
 }
 
 // A seat's number as 32 bits hold it.
 fn narrow(seat: usize) -> u32
     ensures { result ≡ min seat nobody }
 {
-    if NONE < seat {
-        return NOBODY;
-    }
-    seat as u32
+    seat.min(NONE) as u32
 }

@@ -3,4 +3,4 @@ use Rattle.yard.proofs.Calls.{count-is}
 use Rattle.yard.proofs.wardrail_yard_count.Goals as goal
 
 pub returns : goal.returns
-returns c = count-is c.args.head.now c.args.seats.now c.args.rows.now c.args.holders.now c.args.piece c.args.told.now c.piece_numbered-p.result c.count-a.result c.tell-t.result c.code.result c.piece_numbered-p.ensures c.count-a.ensures c.tell-t.ensures c.code.ensures
+returns c = count-is c.args.head.now c.args.seats.now c.args.rows.now c.args.holders.now c.args.piece c.args.told.now c.piece_numbered-p.result c.count-a.result c.say.new.told c.say.result c.piece_numbered-p.ensures c.count-a.ensures c.say.ensures.beside c.say.ensures.number

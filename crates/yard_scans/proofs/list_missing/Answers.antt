@@ -1,5 +1,5 @@
 -- `list_missing` meets its contract: the page so far, carried on over the seats left, until none is left. Assumes nothing.
-use Rattle.std.proofs.Common.{ℕ, List, ◌+◌, ◌≤◌, ◌∙◌, ap, sym, subst, arith, drop, get_or}
+use Rattle.std.proofs.Common.{ℕ, List, ◌+◌, ◌≤◌, ◌∙◌, ap, sym, subst, drop, get_or}
 use Rattle.std.proofs.lemmas.List.{get_or_default}
 use Rattle.yard_tables.specs.Seats.{cleared}
 use Rattle.yard_tables.specs.declared.Seat.{Seat}
@@ -19,7 +19,6 @@ loop-i-preserved c =
     let g = c.list_step-listed.ensures.1 ∙ ap (λ (s : Seat). line_step a l.listed s l.i l.page) d in
     let b = step-bounds a l.listed _ l.i l.page l.invariant.written l.invariant.total in
     record {
-      within = omega arith;
       written = subst (λ (q : Page). q.written ≤ q.total) (sym c.list_step-listed.ensures.0) b.0;
       total = subst (λ (q : Page). q.total ≤ l.i + 1) (sym c.list_step-listed.ensures.0) b.1;
       rest =

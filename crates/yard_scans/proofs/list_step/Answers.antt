@@ -4,42 +4,21 @@ use Prim.Native.Nat.{ℕ, ◌+◌}
 use borrow.Author.Tests.{not-true, not-false}
 use mathlib.Core.Path.{sym, ap, ◌∙◌}
 use Rattle.yard_scans.proofs.Steps.{missing-is, missing-free, missing-whole, step_skip, step-early, step_line, step_past}
-use borrow.Author.Rules.{rules}
 use mathlib.Core.Bool.{not}
 use Rattle.yard_scans.proofs.list_step.Goals as goal
 
 pub returns-then-not-on : goal.returns-then-not-on
 returns-then-not-on c = let k = step_skip c.args.asked c.args.p c.args.s c.args.i c.args.page.now (missing-free c.args.asked.pieces c.args.s (sym c.on.ensures ∙ not-true _ (ap not c.if-not-on.true))) in (sym k.0, sym k.1)
 
-pub held-requires : goal.held-requires
-held-requires c = search rules
-
-pub wide-requires : goal.wide-requires
-wide-requires c = search rules
-
 pub returns-then-held-wide : goal.returns-then-held-wide
 returns-then-held-wide c = let k = step_skip c.args.asked c.args.p c.args.s c.args.i c.args.page.now (missing-whole c.args.asked.pieces c.args.s (sym c.on.ensures ∙ not-false _ (ap not c.if-not-on.false)) (sym c.held.ensures ∙ c.if-held-wide.true ∙ c.wide.ensures)) in (sym k.0, sym k.1)
-
-pub overflow_add-total : goal.overflow_add-total
-overflow_add-total c = search rules
 
 pub returns-then-i-asked : goal.returns-then-i-asked
 returns-then-i-asked c = let k = step-early c.args.asked c.args.p c.args.s c.args.i c.args.page.now (missing-is c.args.asked.pieces c.args.s (sym c.on.ensures ∙ not-false _ (ap not c.if-not-on.false)) (λ e. c.if-held-wide.false (c.held.ensures ∙ e ∙ sym c.wide.ensures))) c.if-i-asked.true in (sym k.0, sym k.1)
 
-pub put_line-requires : goal.put_line-requires
-put_line-requires c = search rules
-
-pub overflow_add-result : goal.overflow_add-result
-overflow_add-result c = search rules
-
-pub shape_of-page-then-written-asked : goal.shape_of-page-then-written-asked
-shape_of-page-then-written-asked c = search rules
-
 pub returns-then-written-asked : goal.returns-then-written-asked
 returns-then-written-asked c = let k = step_line c.args.asked c.args.p c.args.s c.args.i c.args.page.now (missing-is c.args.asked.pieces c.args.s (sym c.on.ensures ∙ not-false _ (ap not c.if-not-on.false)) (λ e. c.if-held-wide.false (c.held.ensures ∙ e ∙ sym c.wide.ensures))) c.if-i-asked.false c.if-written-asked.true in (sym k.0, c.put_line.ensures ∙ sym k.1)
 
-pub lower-requires : goal.lower-requires
-lower-requires c = search rules
-
 pub returns : goal.returns
-returns c = let k = step_past c.args.asked c.args.p c.args.s c.args.i c.args.page.now (missing-is c.args.asked.pieces c.args.s (sym c.on.ensures ∙ not-false _ (ap not c.if-not-on.false)) (λ e. c.if-held-wide.false (c.held.ensures ∙ e ∙ sym c.wide.ensures))) c.if-i-asked.false c.if-written-asked.false in (ap {B = Page} (λ (n : ℕ). record { written = c.args.p.written; total = c.args.p.total + 1; next = n }) c.lower.ensures ∙ sym k.0, sym k.1)
+returns c =
+    let k = step_past c.args.asked c.args.p c.args.s c.args.i c.args.page.now (missing-is c.args.asked.pieces c.args.s (sym c.on.ensures ∙ not-false _ (ap not c.if-not-on.false)) (λ e. c.if-held-wide.false (c.held.ensures ∙ e ∙ sym c.wide.ensures))) c.if-i-asked.false c.if-written-asked.false in (ap {B = Page} (λ (n : ℕ). record { written = c.args.p.written; total = c.args.p.total + 1; next = n }) c.min.ensures ∙ sym k.0, sym k.1)

@@ -3,23 +3,10 @@ use mathlib.Core.Path.{sym, ap}
 use lib.Seq.{set_out}
 use Prim.Native.Nat.{ℕ}
 use lib.ListN.{set}
-use borrow.Author.Rules.{rules}
 use Rattle.yard_scans.proofs.put_line.Goals as goal
 
 pub returns-then-page-k : goal.returns-then-page-k
 returns-then-page-k c = sym (set_out _ _ _ c.if-page-k.true)
-
-pub line_of-requires : goal.line_of-requires
-line_of-requires c = search rules
-
-pub offset_bounds-page-k : goal.offset_bounds-page-k
-offset_bounds-page-k c = search rules
-
-pub bounds-page-k : goal.bounds-page-k
-bounds-page-k c = search rules
-
-pub shape_of-page : goal.shape_of-page
-shape_of-page c = search rules
 
 pub returns : goal.returns
 returns c = ap (λ (v : ℕ). set c.args.page.now c.args.k v) c.line_of.ensures

@@ -1,5 +1,5 @@
 -- `rank_seats` meets its contract: the seats left, ranked after those before, until none is left. Assumes nothing.
-use Rattle.std.proofs.Common.{◌+◌, ◌∙◌, ap, arith, drop}
+use Rattle.std.proofs.Common.{◌+◌, ◌∙◌, ap, drop}
 use Rattle.std.proofs.lemmas.List.{get_or_default}
 use Rattle.yard_tables.specs.Seats.{cleared}
 use Rattle.yard_tables.specs.Ranks.{rank_from, rank_step}
@@ -13,10 +13,7 @@ loop-i-preserved c =
     let ys = c.args.seats.now in
     let l = c.loop-i in
     let e = c.rank_step-best.ensures ∙ ap (λ (s : Seat). rank_step c.args.h.last l.best s l.i) (get_or_default ys l.i _ cleared c.loop-i-test.true) in
-    record {
-      within = omega arith;
-      rest = ap (λ (r : Ranking). rank_from c.args.h.last (drop (l.i + 1) ys) (l.i + 1) r) e ∙ rank-next c.args.h.last ys l.i l.best c.loop-i-test.true ∙ l.invariant.rest;
-    }
+    ap (λ (r : Ranking). rank_from c.args.h.last (drop (l.i + 1) ys) (l.i + 1) r) e ∙ rank-next c.args.h.last ys l.i l.best c.loop-i-test.true ∙ l.invariant
 
 pub returns : goal.returns
-returns c = rank-end c.args.h.last c.args.seats.now c.loop-i.i c.loop-i.best c.loop-i-test.false ∙ c.loop-i.invariant.rest
+returns c = rank-end c.args.h.last c.args.seats.now c.loop-i.i c.loop-i.best c.loop-i-test.false ∙ c.loop-i.invariant

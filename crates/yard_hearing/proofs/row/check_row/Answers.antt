@@ -1,19 +1,29 @@
--- `yard_hearing::row::check_row` meets its contract. Assumes nothing.
-use mathlib.Core.Path.{◌≡◌, refl, ap, ◌∙◌}
-use native.Mathlib.Omega.{arith}
+-- `check_row` meets its contract. Assumes nothing.
+use Rattle.std.proofs.Common.{◌≡◌, ap, ◌∙◌, ◌+◌, ◌*◌, min, arith}
 use Rattle.yard_hearing.proofs.Passing.{checked-start}
 use Rattle.yard_hearing.specs.Passes.{checked}
-use borrow.Author.Rules.{rules}
 use Rattle.yard_hearing.proofs.row.check_row.Goals as goal
 
-pub loop-p-init : goal.loop-p-init
-loop-p-init c = (search rules, (λ l. refl), checked-start c.args.rows.now c.args.at c.args.said.now c.args.holders.now c.args.top)
+pub loop-k-init : goal.loop-k-init
+loop-k-init c =
+    let a = c.args in
+    let e : 0 ≡ min (8 * 0) a.pieces = omega arith in
+    checked-start a.rows.now a.at a.said.now a.holders.now a.top ∙ ap (checked a.rows.now a.at a.said.now a.holders.now a.top) e
 
 pub check_byte-news-requires : goal.check_byte-news-requires
-check_byte-news-requires c = (omega arith, omega arith, omega (arith, c.requires.2), search rules, search rules, c.loop-p.invariant.1 c.loop-p-test.true, omega arith, c.loop-p.invariant.2)
+check_byte-news-requires c =
+    let a = c.args in
+    let e : min (8 * c.loop-k.k) a.pieces ≡ 8 * c.loop-k.k = omega arith in
+    (omega arith, omega arith, omega (arith, c.requires.2), omega arith, omega arith, omega arith, omega arith, c.loop-k.invariant ∙ ap (checked a.rows.now a.at a.said.now a.holders.now a.top) e)
 
-pub loop-p-preserved : goal.loop-p-preserved
-loop-p-preserved c = (search rules, (λ l. omega (arith, c.loop-p.invariant.1 c.loop-p-test.true)), c.check_byte-news.ensures)
+pub loop-k-preserved : goal.loop-k-preserved
+loop-k-preserved c =
+    let a = c.args in
+    let e : c.min-end.result ≡ min (8 * (c.loop-k.k + 1)) a.pieces = omega arith in
+    c.check_byte-news.ensures ∙ ap (checked a.rows.now a.at a.said.now a.holders.now a.top) e
 
 pub returns : goal.returns
-returns c = let e : c.loop-p.p ≡ c.args.pieces = omega arith in c.loop-p.invariant.2 ∙ ap (checked c.args.rows.now c.args.at c.args.said.now c.args.holders.now c.args.top) e
+returns c =
+    let a = c.args in
+    let e : min (8 * c.loop-k.k) a.pieces ≡ a.pieces = omega arith in
+    c.loop-k.invariant ∙ ap (checked a.rows.now a.at a.said.now a.holders.now a.top) e

@@ -1,11 +1,7 @@
--- `yard_hearing::row::check_row` meets its contract. Assumes nothing.
-use mathlib.Core.Path.{◌≡◌}
-use Prim.Native.Nat.{◌-◌, ◌%◌, ◌≤◌, ◌<◌}
+-- The pieces of the first k bytes are looked at.
+use Rattle.std.proofs.Common.{◌≡◌, ◌*◌, min}
 use Rattle.yard_hearing.specs.Passes.{checked}
 use Rattle.yard_hearing.proofs.row.check_row.Given as goal
 
-abbrev pub invariant-loop-p : goal.invariant-loop-p
-invariant-loop-p l = (l.p ≤ l.pieces) × (l.p < l.pieces → l.p % 8 ≡ 0) × (l.news ≡ checked l.rows l.at l.said l.holders l.top l.p)
-
-abbrev pub decreases-loop-p : goal.decreases-loop-p
-decreases-loop-p l = l.pieces - l.p
+abbrev pub invariant-loop-k : goal.invariant-loop-k
+invariant-loop-k l = l.news ≡ checked l.rows l.at l.said l.holders l.top (min (8 * l.k) l.pieces)

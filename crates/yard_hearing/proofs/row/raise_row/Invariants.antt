@@ -1,12 +1,7 @@
--- `yard_hearing::row::raise_row` meets its contract. Assumes nothing.
-use mathlib.Core.Path.{◌≡◌}
-use Prim.Native.Nat.{◌-◌, ◌%◌, ◌≤◌, ◌<◌}
-use lib.ListN.{length}
+-- The counts of the pieces of the first k bytes are raised.
+use Rattle.std.proofs.Common.{◌≡◌, ◌*◌, min, length}
 use Rattle.yard_hearing.specs.Passes.{raised}
 use Rattle.yard_hearing.proofs.row.raise_row.Given as goal
 
-abbrev pub invariant-loop-p : goal.invariant-loop-p
-invariant-loop-p l = (l.p ≤ l.pieces) × (l.p < l.pieces → l.p % 8 ≡ 0) × (length l.holders ≡ length l.initial.holders) × (l.holders ≡ raised l.rows l.at l.said l.p l.initial.holders)
-
-abbrev pub decreases-loop-p : goal.decreases-loop-p
-decreases-loop-p l = l.pieces - l.p
+abbrev pub invariant-loop-k : goal.invariant-loop-k
+invariant-loop-k l = (length l.holders ≡ length l.initial.holders) × (l.holders ≡ raised l.rows l.at l.said (min (8 * l.k) l.pieces) l.initial.holders)

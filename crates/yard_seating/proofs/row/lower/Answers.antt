@@ -1,21 +1,28 @@
--- `yard_seating::row::lower` meets its contract. Assumes nothing.
-use Rattle.yard_seating.specs.Steps.{lowered}
+-- `lower` meets its contract. Assumes nothing.
+use Rattle.std.proofs.Common.{◌≡◌, refl, ap, ◌∙◌, ℕ, ◌+◌, ◌*◌, min, length, arith}
 use Rattle.yard_seating.proofs.Passes.{lowered-start, lowered-len}
-use lib.ListN.{length}
-use borrow.Author.Rules.{rules}
-use native.Mathlib.Omega.{arith}
-use Prim.Native.Nat.{ℕ}
-use mathlib.Core.Path.{◌≡◌, refl, ap, ◌∙◌}
+use Rattle.yard_seating.specs.Steps.{lowered}
 use Rattle.yard_seating.proofs.row.lower.Goals as goal
 
-pub loop-p-init : goal.loop-p-init
-loop-p-init c = (search rules, (λ l. refl), refl, lowered-start c.args.rows.now c.args.at c.args.holders.now)
+pub loop-k-init : goal.loop-k-init
+loop-k-init c =
+    let a = c.args in
+    let e : 0 ≡ min (8 * 0) a.pieces = omega arith in
+    (refl, lowered-start a.rows.now a.at a.holders.now ∙ ap (λ (x : ℕ). lowered a.rows.now a.at x a.holders.now) e)
 
 pub lower_byte-requires : goal.lower_byte-requires
-lower_byte-requires c = (omega arith, omega (arith, c.requires.1, c.loop-p.invariant.2), search rules, search rules, c.loop-p.invariant.1 c.loop-p-test.true, omega arith)
+lower_byte-requires c = (omega arith, omega (arith, c.requires.1, c.loop-k.invariant.0), omega arith, omega arith, omega arith, omega arith)
 
-pub loop-p-preserved : goal.loop-p-preserved
-loop-p-preserved c = (search rules, (λ l. omega (arith, c.loop-p.invariant.1 c.loop-p-test.true)), ap length (c.lower_byte.ensures c.args.holders.now c.loop-p.invariant.3) ∙ lowered-len c.args.rows.now c.args.at c.end_of-end.result c.args.holders.now, c.lower_byte.ensures c.args.holders.now c.loop-p.invariant.3)
+pub loop-k-preserved : goal.loop-k-preserved
+loop-k-preserved c =
+    let a = c.args in
+    let d : min (8 * c.loop-k.k) a.pieces ≡ 8 * c.loop-k.k = omega arith in
+    let e : c.min-end.result ≡ min (8 * (c.loop-k.k + 1)) a.pieces = omega arith in
+    let h = c.lower_byte.ensures a.holders.now (c.loop-k.invariant.1 ∙ ap (λ (x : ℕ). lowered a.rows.now a.at x a.holders.now) d) in
+    (ap length h ∙ lowered-len a.rows.now a.at _ a.holders.now, h ∙ ap (λ (x : ℕ). lowered a.rows.now a.at x a.holders.now) e)
 
 pub returns : goal.returns
-returns c = let e : c.loop-p.p ≡ c.args.pieces = omega arith in c.loop-p.invariant.3 ∙ ap (λ (x : ℕ). lowered c.args.rows.now c.args.at x c.args.holders.now) e
+returns c =
+    let a = c.args in
+    let e : min (8 * c.loop-k.k) a.pieces ≡ a.pieces = omega arith in
+    c.loop-k.invariant.1 ∙ ap (λ (x : ℕ). lowered a.rows.now a.at x a.holders.now) e

@@ -1,18 +1,25 @@
--- `yard_seating::row::some_zero` meets its contract. Assumes nothing.
+-- `some_zero` meets its contract. Assumes nothing.
+use Rattle.std.proofs.Common.{◌≡◌, ap, ◌∙◌, ◌+◌, ◌*◌, min, arith}
 use Rattle.yard_seating.specs.Steps.{some_zero}
-use borrow.Author.Rules.{rules}
-use native.Mathlib.Omega.{arith}
-use mathlib.Core.Path.{◌≡◌, refl, ap, ◌∙◌}
 use Rattle.yard_seating.proofs.row.some_zero.Goals as goal
 
-pub loop-p-init : goal.loop-p-init
-loop-p-init c = (search rules, (λ l. refl), refl)
+pub loop-k-init : goal.loop-k-init
+loop-k-init c =
+    let e : 0 ≡ min (8 * 0) c.args.pieces = omega arith in
+    ap (some_zero c.args.rows.now c.args.at c.args.holders.now) e
 
 pub byte_zero-found-requires : goal.byte_zero-found-requires
-byte_zero-found-requires c = (omega arith, omega (arith, c.requires.1), search rules, search rules, c.loop-p.invariant.1 c.loop-p-test.true, omega arith, c.loop-p.invariant.2)
+byte_zero-found-requires c =
+    let a = c.args in
+    let e : min (8 * c.loop-k.k) a.pieces ≡ 8 * c.loop-k.k = omega arith in
+    (omega arith, omega (arith, c.requires.1), omega arith, omega arith, omega arith, omega arith, c.loop-k.invariant ∙ ap (some_zero a.rows.now a.at a.holders.now) e)
 
-pub loop-p-preserved : goal.loop-p-preserved
-loop-p-preserved c = (search rules, (λ l. omega (arith, c.loop-p.invariant.1 c.loop-p-test.true)), c.byte_zero-found.ensures)
+pub loop-k-preserved : goal.loop-k-preserved
+loop-k-preserved c =
+    let e : c.min-end.result ≡ min (8 * (c.loop-k.k + 1)) c.args.pieces = omega arith in
+    c.byte_zero-found.ensures ∙ ap (some_zero c.args.rows.now c.args.at c.args.holders.now) e
 
 pub returns : goal.returns
-returns c = let e : c.loop-p.p ≡ c.args.pieces = omega arith in c.loop-p.invariant.2 ∙ ap (some_zero c.args.rows.now c.args.at c.args.holders.now) e
+returns c =
+    let e : min (8 * c.loop-k.k) c.args.pieces ≡ c.args.pieces = omega arith in
+    c.loop-k.invariant ∙ ap (some_zero c.args.rows.now c.args.at c.args.holders.now) e
