@@ -1,9 +1,8 @@
 // SHA-1 of bytes, whole and in parts.
-ghost use Rattle.std.specs.Prelude.{◌≤◌};
-
-use crate::{report, words};
-use hash_sha1::stream::Stream;
-use hash_sha1::{Hashed, stream};
+use crate::line::{LISTED, Line};
+use crate::report;
+use hash_sha1::stream;
+use refusal::Refusal;
 use std::io::Stdout;
 
 pub fn whole(output: Stdout, bytes: &[u8]) {
@@ -12,52 +11,28 @@ pub fn whole(output: Stdout, bytes: &[u8]) {
     show(output, answer, &out);
 }
 
-// In parts of the lengths that a word lists, and the rest.
-pub fn parts(output: Stdout, bytes: &[u8], word: &[u8]) {
-    let mut lengths = [0u64; 1025];
-    listed(output, &mut lengths, bytes, word);
+// In parts of the lengths that the second word lists, cut where the bytes end, and the rest.
+pub fn parts(output: Stdout, bytes: &[u8], line: Line) {
+    let mut room = [0u64; LISTED];
+    cut(output, bytes, line.list(2, &mut room));
 }
 
-fn listed(output: Stdout, lengths: &mut [u64], bytes: &[u8], word: &[u8]) {
-    let count = words::list(lengths, word);
-    if count <= lengths.len() {
-        ended(output, cut(bytes, &lengths[0..count]));
-    }
-}
-
-fn cut(bytes: &[u8], lengths: &[u64]) -> Stream {
+fn cut(output: Stdout, bytes: &[u8], lengths: &[u64]) {
     let mut s = stream::start();
-    let mut from = 0;
-    let mut i = 0;
-    while i < lengths.len() {
-        let to = past(from, lengths[i], bytes.len());
-        s = stream::add(s, &bytes[from..to]);
-        from = to;
-        i += 1;
+    let mut rest = bytes;
+    for length in lengths {
+        let (part, after) = rest.split_at((*length).min(rest.len() as u64) as usize);
+        s = stream::add(s, part);
+        rest = after;
     }
-    stream::add(s, &bytes[from..])
-}
-
-// The end of a part that begins at `from`: `size` bytes on, within len.
-fn past(from: usize, size: u64, len: usize) -> usize
-    requires { from ≤ len }
-    ensures { (from ≤ result) × (result ≤ len) }
-{
-    if ((len - from) as u64) < size {
-        return len;
-    }
-    from + size as usize
-}
-
-fn ended(output: Stdout, s: Stream) {
     let mut out = [0u8; 20];
-    let answer = stream::finish(s, &mut out);
+    let answer = stream::finish(stream::add(s, rest), &mut out);
     show(output, answer, &out);
 }
 
-pub fn show(output: Stdout, answer: Hashed, out: &[u8; 20]) {
+pub fn show(output: Stdout, answer: Result<(), Refusal>, out: &[u8; 20]) {
     match answer {
-        Hashed::Written => report::hex(output, out),
-        Hashed::Refused(r) => report::refused(output, r),
+        Ok(()) => report::hex(output, out),
+        Err(r) => report::refused(output, r),
     }
 }

@@ -1,46 +1,44 @@
 // Magnet links: the hash, dn and tr, decoded into as many bytes as a line says; what is not written has to stay.
-use crate::{report, words, writers};
-use links::{Given, Linked};
+use crate::line::{Line, MARK};
+use crate::{report, writers};
 use std::io::Stdout;
-use writers::MARK;
 
-pub fn link(output: Stdout, line: &[u8], text: &[u8]) {
+// No name or address of the script is longer.
+const MOST: usize = 255;
+
+pub fn link(output: Stdout, line: Line, room: &mut [u8]) {
+    let (text, _) = line.bytes(1, room);
+    let mut name = [MARK; MOST];
+    let mut address = [MARK; MOST];
+    let n = line.room(2, MOST);
+    let m = line.room(3, MOST);
+    read(output, text, &mut name[..n], &mut address[..m]);
+}
+
+fn read(output: Stdout, text: &[u8], name: &mut [u8], address: &mut [u8]) {
     let mut hash = [MARK; 20];
-    let mut name = [MARK; 255];
-    let mut address = [MARK; 255];
-    let n = writers::least(words::number(line, 2), 255);
-    let m = writers::least(words::number(line, 3), 255);
-    read(output, text, &mut hash, &mut name[0..n], &mut address[0..m]);
-}
-
-fn read(output: Stdout, text: &[u8], hash: &mut [u8; 20], name: &mut [u8], address: &mut [u8]) {
-    let r = links::read(text, hash, name, address);
-    show(output, r, hash, name, address);
-}
-
-fn show(output: Stdout, r: Linked, hash: &[u8; 20], name: &[u8], address: &[u8]) {
-    match r {
-        Linked::Is(dn, tr) => {
-            report::hex(output, hash);
+    match links::read(text, &mut hash, name, address) {
+        Ok((dn, tr)) => {
+            report::hex(output, &hash);
             given(output, dn, name);
             given(output, tr, address);
         }
-        Linked::Refused(r) => {
-            writers::refused(output, r, hash);
-            writers::marks(output, 0, name);
-            writers::marks(output, 0, address);
+        Err(r) => {
+            writers::refused(output, r, &hash);
+            report::marks(output, name, 0, &MARK);
+            report::marks(output, address, 0, &MARK);
         }
     }
 }
 
 // What a link says of a thing, after a space.
-fn given(output: Stdout, said: Given, out: &[u8]) {
-    report::name(output, report::SPACE);
+fn given(output: Stdout, said: Option<usize>, out: &[u8]) {
+    report::say(output, b" ");
     match said {
-        Given::Absent => {
-            report::name(output, report::NOBODY);
-            writers::marks(output, 0, out);
+        None => {
+            report::say(output, b"none");
+            report::marks(output, out, 0, &MARK);
         }
-        Given::Bytes(n) => writers::written(output, out, n, false),
+        Some(n) => writers::written(output, out, n, false),
     }
 }

@@ -2,13 +2,11 @@
 // tests/scripts/case_table.py makes the script; the second program and the C host answer it too.
 #![tactic(auto)]
 
-ghost use Rattle.std.specs.Prelude.{◌≤◌, length};
-
 mod addresses;
 mod blocks;
-mod bytes;
 mod calls;
 mod hashes;
+mod line;
 mod magnets;
 mod replies;
 mod report;
@@ -16,38 +14,29 @@ mod texts;
 mod torrents;
 mod weeks;
 mod wire;
-mod words;
 mod writers;
 
-use std::io::{Read, Stdin, Stdout};
+use line::Line;
+use std::io;
+use std::io::{Cursor, Read, Stdin, Stdout};
+
+// No script is longer.
+const MOST: usize = 524288;
+
+// Room for the bytes of a line's words.
+const ROOM: usize = 2097152;
 
 fn main(rt: HostRuntime) {
-    let mut script = [0u8; 524288];
-    let mut space = [0u8; 2097152];
-    lend(rt.stdin(), rt.stdout(), &mut script, &mut space);
+    let mut script = Cursor::new([0u8; MOST]);
+    let mut room = [0u8; ROOM];
+    work(rt.stdin(), rt.stdout(), &mut script, &mut room);
 }
 
-// The arrays as slices, whose lengths are known here from their types alone.
-fn lend(input: Stdin, output: Stdout, script: &mut [u8; 524288], space: &mut [u8; 2097152]) {
-    work(input, output, script, space);
-}
-
-fn work(input: Stdin, output: Stdout, script: &mut [u8], space: &mut [u8]) {
-    let n = read_full(input, script);
-    calls::each(output, &script[..n], space);
-}
-
-// Reads until the space is full, the input ends or a read fails, and answers how many bytes it put at the start of the space.
-fn read_full(mut input: Stdin, space: &mut [u8]) -> usize
-    ensures { result ≤ length space.new }
-{
-    let mut done = 0;
-    while done < space.len() {
-        match input.read(&mut space[done..]) {
-            Ok(0) => break,
-            Ok(n) => done += n,
-            Err(_) => break,
-        }
+// The arrays are lent, so that their lengths are known here from their types alone. A failed read counts as the end of the script.
+fn work(input: Stdin, output: Stdout, script: &mut Cursor<[u8; MOST]>, room: &mut [u8; ROOM]) {
+    let _ = io::copy(&mut input.take(MOST as u64), script);
+    let n = (script.position() as usize).min(MOST);
+    for text in script.get_ref()[..n].split(|b| *b == b'\n') {
+        calls::answer(output, Line { text }, room);
     }
-    done
 }

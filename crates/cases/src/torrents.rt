@@ -3,18 +3,18 @@ use crate::{hashes, report};
 use refusal::{Part, Refusal};
 use std::io::Stdout;
 use torrent_blocks::PieceNumber;
-use torrent_contents::{Checked, Element, Entry, Found, Hash};
-use torrent_metainfo::{Content, Filed, Reading, Torrent};
+use torrent_contents::{Element, Entry};
+use torrent_metainfo::{Content, Torrent};
 
 pub fn torrent(output: Stdout, text: &[u8]) {
     match torrent_metainfo::read(text) {
-        Reading::Read(t) => taken(output, text, t),
-        Reading::Refused(r) => report::refused(output, r),
+        Ok(t) => taken(output, text, t),
+        Err(r) => report::refused(output, r),
     }
 }
 
 fn taken(output: Stdout, text: &[u8], t: Torrent) {
-    report::name(output, report::TAKEN);
+    report::say(output, b"taken ");
     report::hex(output, torrent_metainfo::announce(text));
     report::next_hex(output, torrent_metainfo::name(text));
     report::number(output, t.piece_length);
@@ -29,7 +29,7 @@ fn counts(output: Stdout, c: Content) {
 }
 
 fn info_hash(output: Stdout, text: &[u8]) {
-    report::name(output, report::SPACE);
+    report::say(output, b" ");
     let mut out = [0u8; 20];
     let answer = torrent_metainfo::info_hash(text, &mut out);
     hashes::show(output, answer, &out);
@@ -38,8 +38,8 @@ fn info_hash(output: Stdout, text: &[u8]) {
 // File n: where it starts, its length, and its path.
 pub fn file(output: Stdout, text: &[u8], n: usize) {
     match torrent_contents::file(text, n) {
-        Found::Is(e) => entry(output, text, e),
-        Found::Refused(r) => report::refused(output, r),
+        Ok(e) => entry(output, text, e),
+        Err(r) => report::refused(output, r),
     }
 }
 
@@ -47,7 +47,7 @@ fn entry(output: Stdout, text: &[u8], e: Entry) {
     let offset = e.offset;
     report::decimal(output, offset.0);
     report::number(output, e.length);
-    report::name(output, report::SPACE);
+    report::say(output, b" ");
     if e.single {
         return report::hex(output, torrent_metainfo::name(text));
     }
@@ -57,16 +57,14 @@ fn entry(output: Stdout, text: &[u8], e: Entry) {
 // Walks a path, as many turns as there are bytes at most, and answers the place past it.
 fn path(output: Stdout, text: &[u8], first: usize, shown: bool) -> usize {
     let mut at = first;
-    let mut left = text.len();
-    while 0 < left {
+    for _ in 0..text.len() {
         match torrent_contents::element_at(text, at) {
-            Element::Is(x, next) => {
+            Ok(Element::Is(x, next)) => {
                 element(output, text, x, shown, at != first);
                 at = next;
-                left -= 1;
             }
-            Element::End(past) => return past,
-            Element::Refused(r) => return stop(output, r),
+            Ok(Element::End(past)) => return past,
+            Err(r) => return stop(output, r),
         }
     }
     at
@@ -80,7 +78,7 @@ fn stop(output: Stdout, r: Refusal) -> usize {
 fn element(output: Stdout, text: &[u8], x: Part, shown: bool, later: bool) {
     if shown {
         if later {
-            report::name(output, report::SLASH);
+            report::say(output, b"/");
         }
         report::hex(output, bencode_walk::bytes(text, x));
     }
@@ -89,8 +87,8 @@ fn element(output: Stdout, text: &[u8], x: Part, shown: bool, later: bool) {
 // Where the parts of a torrent stand.
 pub fn places(output: Stdout, text: &[u8]) {
     match torrent_metainfo::read(text) {
-        Reading::Read(t) => parts(output, text, t),
-        Reading::Refused(r) => report::refused(output, r),
+        Ok(t) => parts(output, text, t),
+        Err(r) => report::refused(output, r),
     }
 }
 
@@ -113,21 +111,21 @@ fn hashes_at(output: Stdout, text: &[u8], count: u64) {
 }
 
 fn hash(output: Stdout, text: &[u8], n: u64) {
-    if 4294967295 < n {
+    let Ok(piece) = u32::try_from(n) else {
         return;
-    }
-    match torrent_contents::piece_hash(text, PieceNumber(n as u32)) {
-        Hash::Stands(x) => report::next_part(output, x),
-        Hash::Refused(r) => report::number(output, r.number as u64),
+    };
+    match torrent_contents::piece_hash(text, PieceNumber(piece)) {
+        Ok(x) => report::next_part(output, x),
+        Err(r) => report::number(output, r.number as u64),
     }
 }
 
 fn content(output: Stdout, text: &[u8], c: Content) {
     if c.single {
-        report::name(output, report::SINGLE);
+        report::say(output, b" single ");
         return path_at(output, text, 0, false);
     }
-    report::field(output, report::FILES, c.place as u64);
+    report::field(output, b" files ", c.place as u64);
     walked(output, text, files_end(output, text, c.place, c.files));
     path_at(output, text, 0, true);
     if 0 < c.files {
@@ -138,8 +136,8 @@ fn content(output: Stdout, text: &[u8], c: Content) {
 // Where a file's path begins, or the place past it.
 fn path_at(output: Stdout, text: &[u8], n: usize, past: bool) {
     match torrent_contents::file(text, n) {
-        Found::Is(e) => path_place(output, text, e.path, past),
-        Found::Refused(r) => report::refused(output, r),
+        Ok(e) => path_place(output, text, e.path, past),
+        Err(r) => report::refused(output, r),
     }
 }
 
@@ -156,18 +154,16 @@ fn files_end(output: Stdout, text: &[u8], place: usize, count: usize) -> usize {
         return place;
     }
     let mut at = place + 1;
-    let mut n: usize = 0;
-    while n < count {
+    for _ in 0..count {
         at = past_file(output, text, at);
-        n += 1;
     }
     at
 }
 
 fn past_file(output: Stdout, text: &[u8], at: usize) -> usize {
     match torrent_metainfo::file_at(text, at) {
-        Filed::Is(f) => f.next,
-        Filed::Refused(r) => stop(output, r),
+        Ok(f) => f.next,
+        Err(r) => stop(output, r),
     }
 }
 
@@ -175,16 +171,16 @@ fn past_file(output: Stdout, text: &[u8], at: usize) -> usize {
 fn walked(output: Stdout, text: &[u8], at: usize) {
     report::number(output, at as u64);
     match torrent_metainfo::file_at(text, at) {
-        Filed::Is(f) => report::number(output, f.length),
-        Filed::Refused(r) => report::number(output, r.number as u64),
+        Ok(f) => report::number(output, f.length),
+        Err(r) => report::number(output, r.number as u64),
     }
 }
 
 // Whether bytes are piece n.
 pub fn piece(output: Stdout, text: &[u8], n: u32, bytes: &[u8]) {
     match torrent_contents::check_piece(text, PieceNumber(n), bytes) {
-        Checked::Yes => report::name(output, report::YES),
-        Checked::No => report::name(output, report::NO),
-        Checked::Refused(r) => report::refused(output, r),
+        Ok(true) => report::say(output, b"yes"),
+        Ok(false) => report::say(output, b"no"),
+        Err(r) => report::refused(output, r),
     }
 }

@@ -1,6 +1,4 @@
 // Frames and handshakes, read whole and cut after every byte.
-ghost use Rattle.std.specs.Prelude.{◌≤◌};
-
 use crate::report;
 use peer_wire::{Frame, Greeting, Read};
 use refusal::Part;
@@ -10,36 +8,31 @@ use torrent_blocks::{PieceNumber, PieceOffset};
 // The frame that the bytes begin with: its payload, or its numbers and where its bytes stand.
 pub fn frame(output: Stdout, bytes: &[u8], places: bool) {
     match peer_wire::read_frame(bytes) {
-        Read::Wait => report::name(output, report::WAIT),
-        Read::Keepalive(used) => keepalive(output, used, places),
-        Read::Whole(f, used) => whole(output, bytes, f, used, places),
-        Read::Refused(r) => report::refused(output, r),
+        Ok(Read::Wait) => report::say(output, b"wait"),
+        Ok(Read::Keepalive(used)) => keepalive(output, used, places),
+        Ok(Read::Whole(f, used)) => whole(output, bytes, f, used, places),
+        Err(r) => report::refused(output, r),
     }
 }
 
 fn keepalive(output: Stdout, used: usize, places: bool) {
-    report::field(output, report::TAKEN, used as u64);
-    report::name(output, report::KEEPALIVE);
+    report::field(output, b"taken ", used as u64);
+    report::say(output, b" keepalive");
     if !places {
         report::next_hex(output, b"");
     }
 }
 
 fn whole(output: Stdout, bytes: &[u8], f: Frame, used: usize, places: bool) {
-    report::field(output, report::TAKEN, used as u64);
+    report::field(output, b"taken ", used as u64);
     if places {
         return fields(output, f);
     }
-    if 5 <= used {
-        if used <= bytes.len() {
-            message(output, bytes[4], &bytes[5..used]);
-        }
+    // After four bytes of length the id, and then the payload.
+    if let Some([id, payload @ ..]) = bytes.get(4..used) {
+        report::number(output, *id as u64);
+        report::next_hex(output, payload);
     }
-}
-
-fn message(output: Stdout, id: u8, payload: &[u8]) {
-    report::number(output, id as u64);
-    report::next_hex(output, payload);
 }
 
 fn fields(output: Stdout, f: Frame) {
@@ -85,14 +78,14 @@ fn piece(output: Stdout, p: PieceNumber, b: PieceOffset, block: Part) {
 // The handshake that the bytes begin with: its bytes, or where they stand.
 pub fn handshake(output: Stdout, bytes: &[u8], info: &[u8], places: bool) {
     match peer_wire::read_handshake(bytes, &twenty(info)) {
-        Greeting::Await => report::name(output, report::WAIT),
-        Greeting::Hello(free, peer, used) => hello(output, bytes, free, peer, used, places),
-        Greeting::Refused(r) => report::refused(output, r),
+        Ok(Greeting::Await) => report::say(output, b"wait"),
+        Ok(Greeting::Hello(free, peer, used)) => hello(output, bytes, free, peer, used, places),
+        Err(r) => report::refused(output, r),
     }
 }
 
 fn hello(output: Stdout, bytes: &[u8], free: Part, peer: Part, used: usize, places: bool) {
-    report::name(output, report::TAKEN);
+    report::say(output, b"taken ");
     if places {
         report::decimal(output, used as u64);
         report::next_part(output, free);
@@ -104,55 +97,34 @@ fn hello(output: Stdout, bytes: &[u8], free: Part, peer: Part, used: usize, plac
 
 // How many of the cuts are waits, and then the whole.
 pub fn frame_cuts(output: Stdout, bytes: &[u8]) {
-    report::decimal(output, waits(bytes, bytes, false));
-    report::name(output, report::SPACE);
+    let count = waits(bytes, |cut| {
+        matches!(peer_wire::read_frame(cut), Ok(Read::Wait))
+    });
+    report::decimal(output, count as u64);
+    report::say(output, b" ");
     frame(output, bytes, true);
 }
 
 pub fn handshake_cuts(output: Stdout, bytes: &[u8], info: &[u8]) {
-    report::decimal(output, waits(bytes, info, true));
-    report::name(output, report::SPACE);
+    let hash = twenty(info);
+    let count = waits(bytes, |cut| {
+        matches!(peer_wire::read_handshake(cut, &hash), Ok(Greeting::Await))
+    });
+    report::decimal(output, count as u64);
+    report::say(output, b" ");
     handshake(output, bytes, info, true);
 }
 
 // How many of the cuts, from no byte to all but one, are waits.
-fn waits(bytes: &[u8], info: &[u8], shake: bool) -> u64 {
-    let mut count: usize = 0;
-    let mut cut: usize = 0;
-    while cut < bytes.len() {
-        count += wait_at(&bytes[0..cut], info, shake);
-        cut += 1;
-    }
-    count as u64
-}
-
-// 1 for a wait.
-fn wait_at(bytes: &[u8], info: &[u8], shake: bool) -> usize
-    ensures { result ≤ 1 }
+fn waits<F: Fn(&[u8]) -> bool>(bytes: &[u8], is_wait: F) -> usize
+    requires { F.IsAlwaysCallable is_wait }
 {
-    if shake {
-        if let Greeting::Await = peer_wire::read_handshake(bytes, &twenty(info)) {
-            return 1;
-        }
-        return 0;
-    }
-    if let Read::Wait = peer_wire::read_frame(bytes) {
-        return 1;
-    }
-    0
+    (0..bytes.len())
+        .filter(|cut| bytes.get(..*cut).is_some_and(|start| is_wait(start)))
+        .count()
 }
 
-// The first twenty bytes.
+// The first twenty bytes; past the last, 0.
 pub fn twenty(bytes: &[u8]) -> [u8; 20] {
-    let mut a = [0u8; 20];
-    let mut i = 0;
-    while i < 20 {
-        a[i] = byte_at(bytes, i);
-        i += 1;
-    }
-    a
-}
-
-fn byte_at(bytes: &[u8], i: usize) -> u8 {
-    if i < bytes.len() { bytes[i] } else { 0 }
+    std::array::from_fn(|i| bytes.get(i).copied().unwrap_or(0))
 }

@@ -1,4 +1,5 @@
 -- An answer other than 0, a refusal or a wait, leaves all that is lent as it was. Assumes nothing.
+use Rattle.std.specs.Prelude.{Err}
 use mathlib.Core.Path.{◌≡◌, refl, sym, ap, ◌∙◌}
 use mathlib.Core.List.{List}
 use Prim.Native.Nat.{ℕ}
@@ -6,10 +7,8 @@ use Rattle.refusal.specs.Paper.{Outcome, taken, refused, map, Left, left}
 use Rattle.refusal.specs.declared.Part.{Part}
 use Rattle.torrent_blocks.specs.Spans.{joined_files}
 use Rattle.torrent_blocks.specs.Answers.{spot, block_of, parts_written}
-use Rattle.torrent_blocks.specs.declared.Parts.TheVariants.{Refused as Unlaid}
 use Rattle.torrent_blocks.proofs.Determined.{block-refusal-keeps}
 use Rattle.bencode_writer.specs.Put.{put_of}
-use Rattle.bencode_writer.specs.declared.Put.TheVariants.{Refused}
 use Rattle.bencode_writer.proofs.Laws.{refusal-keeps}
 use Rattle.peer_wire.specs.Frames.{write_of}
 use Rattle.peer_wire.proofs.Written.{write-keeps}
@@ -70,19 +69,19 @@ write-frame-keeps body o = keeps (write_of body o) o (write-keeps body o)
 
 -- of a keepalive and a handshake, which are put as they are
 pub put_keeps : (w o : List ℕ) → Keeps (put_of w 0 o) o
-put_keeps w o = keeps (put_of w 0 o) o (λ n p e. (refusal-keeps w 0 o (Refused (record { number = n; place = p })) (same_left (put_of w 0 o) n p e) refl).1)
+put_keeps w o = keeps (put_of w 0 o) o (λ n p e. (refusal-keeps w 0 o (Err (record { number = n; place = p })) (same_left (put_of w 0 o) n p e) refl).1)
 
 pub write-reply-keeps : (n : ℕ) (bs o : List ℕ) → Keeps (reply_text_of n bs o) o
-write-reply-keeps n bs o = keeps (reply_text_of n bs o) o (λ k p e. (reply-keeps n bs o (Refused (record { number = k; place = p })) (same_left (reply_text_of n bs o) k p e) k p refl).2)
+write-reply-keeps n bs o = keeps (reply_text_of n bs o) o (λ k p e. (reply-keeps n bs o (Err (record { number = k; place = p })) (same_left (reply_text_of n bs o) k p e) k p refl).2)
 
 pub write-torrent-keeps : (f : Fields) (o : List ℕ) → Keeps (torrent_text_of f o) o
-write-torrent-keeps f o = keeps (torrent_text_of f o) o (λ n p e. (torrent-keeps f o (Refused (record { number = n; place = p })) (same_left (torrent_text_of f o) n p e) n p refl).2)
+write-torrent-keeps f o = keeps (torrent_text_of f o) o (λ n p e. (torrent-keeps f o (Err (record { number = n; place = p })) (same_left (torrent_text_of f o) n p e) n p refl).2)
 
 pub write-link-keeps : (s o : List ℕ) → Keeps (link_text_of s o) o
-write-link-keeps s o = keeps (link_text_of s o) o (λ n p e. link-keeps s o (Refused (record { number = n; place = p })) (same_left (link_text_of s o) n p e) n p refl)
+write-link-keeps s o = keeps (link_text_of s o) o (λ n p e. link-keeps s o (Err (record { number = n; place = p })) (same_left (link_text_of s o) n p e) n p refl)
 
 pub write-week-keeps : (bs ns o : List ℕ) → Keeps (week_text_of bs ns o) o
-write-week-keeps bs ns o = keeps (week_text_of bs ns o) o (λ n p e. week-keeps bs ns o (Refused (record { number = n; place = p })) (same_left (week_text_of bs ns o) n p e) n p refl)
+write-week-keeps bs ns o = keeps (week_text_of bs ns o) o (λ n p e. week-keeps bs ns o (Err (record { number = n; place = p })) (same_left (week_text_of bs ns o) n p e) n p refl)
 
 -- of a link that is read: the three outputs and the detail
 pub read-to-keeps : (s h n a was : List ℕ) (r : ℕ) (d h' n' a' : List ℕ) → ReadTo (read_to s h n a) was r d h' n' a' → (r ≡ 0 → ⊥) → (h' ≡ h) × (n' ≡ n) × (a' ≡ a) × (d ≡ was)
@@ -91,7 +90,7 @@ read-to-keeps s h n a was r d h' n' a' w k =
     (w.hash ∙ x, w.name ∙ y, w.address ∙ z, refusing (read_to s h n a).answer w.word k (λ m p e. w.left ∙ ap (λ (o : Outcome Sizes). left_of (map link_detail o) was) e))
 
 pub block-keeps : (ns : List ℕ) (pl p o n : ℕ) (out : List ℕ) → Keeps (parts_written (block_of (joined_files ns) pl (spot p o) n) out) out
-block-keeps ns pl p o n out = keeps l out (λ m q e. block-refusal-keeps (joined_files ns) pl p o n out (Unlaid (record { number = m; place = q })) l.out (same_left l m q e) m q refl)
+block-keeps ns pl p o n out = keeps l out (λ m q e. block-refusal-keeps (joined_files ns) pl p o n out (Err (record { number = m; place = q })) l.out (same_left l m q e) m q refl)
   where
     l : Left ℕ
     l = parts_written (block_of (joined_files ns) pl (spot p o) n) out

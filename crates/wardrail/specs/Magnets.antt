@@ -1,19 +1,17 @@
 -- What a link that is read says to C. Assumes nothing: these are definitions.
-use Rattle.std.specs.Prelude.{◌≡◌, List, [], ◌∷◌, ℕ}
+use Rattle.std.specs.Prelude.{◌≡◌, List, [], ◌∷◌, ℕ, None, Option, Some}
 use Rattle.refusal.specs.Paper.{map}
-use Rattle.links.specs.declared.Given.{Given}
-use Rattle.links.specs.declared.Given.TheVariants.{Absent, Bytes}
 use Rattle.links.specs.Reading.{Sizes, Left}
 use Rattle.wardrail.specs.Said.{word_of, left_of}
 
 -- 1 where a thing is given and else 0, and how many bytes it has
-abbrev pub is_given : Given → ℕ
-is_given Absent = 0
-is_given (Bytes n) = 1
+abbrev pub is_given : Option ℕ → ℕ
+is_given None = 0
+is_given (Some n) = 1
 
-abbrev pub given_bytes : Given → ℕ
-given_bytes Absent = 0
-given_bytes (Bytes n) = n
+abbrev pub given_bytes : Option ℕ → ℕ
+given_bytes None = 0
+given_bytes (Some n) = n
 
 -- of the name, and of the address
 abbrev pub link_detail : Sizes → List ℕ

@@ -4,18 +4,22 @@ ghost use Rattle.refusal.specs.Paper.{refusal};
 ghost use Rattle.sheets.specs.Reading.{find_of};
 ghost use Rattle.wardrail.specs.Addresses.{word_from, text_number, TellsOf};
 
-use crate::row::{sheet_word, three, word};
+use crate::row::{sheet_word, word};
 use refusal::Refusal;
-use sheets::{Found, Source};
+use sheets::Source;
 
 // The tracker's address for a torrent by a sheet. `detail` becomes 1 where it stands in the torrent or 2 in the sheet, and its first byte and
 // length there. The word of a refusal of the sheet has its top bit set.
 pub fn wardrail_address(torrent: &[u8], sheet: &[u8], detail: &mut [u64; 3]) -> u64
     ensures { TellsOf (find_of torrent.now sheet.now) detail.old result detail.new }
 {
-    match sheets::find(torrent, sheet) {
-        Found::At(source, x) => three(detail, text_number(source), x.from as u64, x.len as u64),
-        Found::Refused(source, r) => word_from(source, r),
+    let found = sheets::find(torrent, sheet);
+    match found.part {
+        Ok(x) => {
+            *detail = [text_number(found.source), x.from as u64, x.len as u64];
+            0
+        }
+        Err(r) => word_from(found.source, r),
     }
 }
 

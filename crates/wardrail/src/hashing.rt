@@ -1,35 +1,28 @@
 // SHA-1 of a message that comes in parts, for C. The message so far is held in six words, the hash value after its whole
 // blocks and how many bytes it has, and in 64 bytes, those after its whole blocks.
+ghost use Rattle.refusal.specs.Paper.{paper};
 ghost use Rattle.std.specs.Prelude.{◌≡◌};
 ghost use Rattle.hash_sha1.specs.Parts.{begun, add_of, finish_of};
-ghost use Rattle.hash_sha1.specs.Digest.{paper as hashed_paper};
 ghost use Rattle.wardrail.specs.Said.{word_of};
-ghost use Rattle.wardrail.specs.Hashing.{state_of, Holds, Digested, words_of};
+ghost use Rattle.wardrail.specs.Hashing.{state_of, Holds, Digested};
 
 use crate::row::word;
+use hash_sha1::stream;
 use hash_sha1::stream::Stream;
-use hash_sha1::{Hashed, stream};
+use refusal::Refusal;
 
 // The empty message.
 pub fn wardrail_sha1_start(words: &mut [u32; 6], tail: &mut [u8; 64])
     ensures { Holds begun words.new tail.new }
 {
-    let s = stream::start();
-    let w = words_of(s);
-    let t = s.tail;
-    *words = w;
-    *tail = t;
+    hold(stream::start(), words, tail);
 }
 
 // The message with a part after it.
 pub fn wardrail_sha1_add(words: &mut [u32; 6], tail: &mut [u8; 64], part: &[u8])
     ensures { Holds (add_of (state_of words.old tail.old) part.now) words.new tail.new }
 {
-    let s = stream::add(state(*words, *tail), part);
-    let w = words_of(s);
-    let t = s.tail;
-    *words = w;
-    *tail = t;
+    hold(stream::add(state(*words, *tail), part), words, tail);
 }
 
 // Writes the digest of the message; a refusal leaves `digest` as it was.
@@ -39,11 +32,14 @@ pub fn wardrail_sha1_finish(words: &[u32; 6], tail: &[u8; 64], digest: &mut [u8;
     hashed_word(stream::finish(state(*words, *tail), digest))
 }
 
-// The six words of a message so far.
-fn words_of(s: Stream) -> [u32; 6]
-    ensures { result ≡ words_of s }
+// Leaves a message so far in six words and 64 bytes.
+fn hold(s: Stream, words: &mut [u32; 6], tail: &mut [u8; 64])
+    ensures { Holds s words.new tail.new }
 {
-    [s.hash.a, s.hash.b, s.hash.c, s.hash.d, s.hash.e, s.length]
+    *words = [s.hash.a, s.hash.b, s.hash.c, s.hash.d, s.hash.e, s.length];
+    // By a variable: the check covers no array that goes from field to place.
+    let kept = s.tail;
+    *tail = kept;
 }
 
 // The message so far that six words and 64 bytes hold.
@@ -62,11 +58,11 @@ fn state(w: [u32; 6], tail: [u8; 64]) -> Stream
 }
 
 // The word of a digest.
-pub(crate) fn hashed_word(h: Hashed) -> u64
-    ensures { result ≡ word_of (hashed_paper h) }
+pub(crate) fn hashed_word(h: Result<(), Refusal>) -> u64
+    ensures { result ≡ word_of (paper h) }
 {
     match h {
-        Hashed::Written => 0,
-        Hashed::Refused(r) => word(r),
+        Ok(()) => 0,
+        Err(r) => word(r),
     }
 }

@@ -8,8 +8,7 @@ ghost use Rattle.wardrail.specs.Said.{Tells};
 ghost use Rattle.wardrail.specs.Hashing.{Digested};
 
 use crate::hashing::hashed_word;
-use crate::row::{one, word};
-use bencode::Checked;
+use crate::row::counted;
 
 pub mod addresses;
 pub mod files;
@@ -29,10 +28,7 @@ pub mod writers;
 pub fn wardrail_check(text: &[u8], detail: &mut u64) -> u64
     ensures { Tells (check_of text.now) detail.old result detail.new }
 {
-    match bencode::check(text) {
-        Checked::Taken(n) => one(detail, n as u64),
-        Checked::Refused(r) => word(r),
-    }
+    counted(detail, bencode::check(text))
 }
 
 // Writes the SHA-1 digest of at most 16,777,216 bytes; a refusal leaves `digest` as it was.

@@ -1,10 +1,10 @@
 // Magnet links, read for C.
-ghost use Rattle.std.specs.Prelude.{◌≡◌};
-ghost use Rattle.links.specs.Reading.{left_of};
-ghost use Rattle.wardrail.specs.Magnets.{is_given, given_bytes, ReadTo};
+ghost use Rattle.std.specs.Prelude.{◌≡◌, Ok};
+ghost use Rattle.refusal.specs.Paper.{map, taken};
+ghost use Rattle.links.specs.Reading.{left_of, linked_paper};
+ghost use Rattle.wardrail.specs.Magnets.{link_detail, ReadTo};
 
-use crate::row::{four, word};
-use links::{Given, Linked};
+use crate::row::told;
 
 // Reads a link into `hash`, `name` and `address`. `detail` becomes, of name and of address, 1 where it is given and 0 where it is not, and
 // how many bytes it has.
@@ -17,34 +17,21 @@ pub fn wardrail_link(
 ) -> u64
     ensures { ReadTo (left_of text.now hash.old name.old address.old) detail.old result detail.new hash.new name.new address.new }
 {
-    match links::read(text, hash, name, address) {
-        Linked::Is(n, a) => four(
-            detail,
-            is_given(n),
-            given_bytes(n),
-            is_given(a),
-            given_bytes(a),
-        ),
-        Linked::Refused(r) => word(r),
-    }
+    told(
+        detail,
+        links::read(text, hash, name, address).map(link_words),
+    )
 }
 
-// 1 where it is given, and else 0.
-fn is_given(x: Given) -> u64
-    ensures { result ≡ is_given x }
+// Of the name, and of the address: 1 where it is given or else 0, and how many bytes it has.
+fn link_words(sizes: (Option<usize>, Option<usize>)) -> [u64; 4]
+    ensures { taken result ≡ map link_detail (linked_paper (Ok sizes)) }
 {
-    match x {
-        Given::Absent => 0,
-        Given::Bytes(_) => 1,
-    }
-}
-
-// How many bytes are given.
-fn given_bytes(x: Given) -> u64
-    ensures { result ≡ given_bytes x }
-{
-    match x {
-        Given::Absent => 0,
-        Given::Bytes(n) => n as u64,
-    }
+    let (name, address) = sizes;
+    [
+        u64::from(name.is_some()),
+        name.unwrap_or(0) as u64,
+        u64::from(address.is_some()),
+        address.unwrap_or(0) as u64,
+    ]
 }

@@ -1,13 +1,14 @@
 // Where blocks fall, for C.
-ghost use Rattle.refusal.specs.Paper.{map};
+ghost use Rattle.std.specs.Prelude.{◌≡◌, Ok};
+ghost use Rattle.refusal.specs.Paper.{map, taken};
 ghost use Rattle.torrent_blocks.specs.Spans.{joined_files};
-ghost use Rattle.torrent_blocks.specs.Answers.{spot, block_of, byte_of, size_of, parts_written};
+ghost use Rattle.torrent_blocks.specs.Answers.{spot, block_of, byte_of, size_of, parts_written, place_paper};
 ghost use Rattle.wardrail.specs.Said.{Tells};
 ghost use Rattle.wardrail.specs.Mapping.{spot_detail};
 ghost use Rattle.wardrail.specs.Writers.{Wrote};
 
-use crate::row::{one, two, word};
-use torrent_blocks::{Parts, PieceNumber, PieceOffset, Place, Size};
+use crate::row::{counted, told};
+use torrent_blocks::{PieceNumber, PieceOffset, Spot};
 
 // Writes the parts of a block from the start of `out` on, three numbers each: file, offset in it, length. `detail` becomes
 // how many parts.
@@ -30,10 +31,7 @@ pub fn wardrail_block(
         count,
         out,
     );
-    match parts {
-        Parts::Written(n) => one(detail, n as u64),
-        Parts::Refused(r) => word(r),
-    }
+    counted(detail, parts)
 }
 
 // The piece of a file's byte and its offset there, as the two numbers of `detail`.
@@ -46,18 +44,24 @@ pub fn wardrail_byte(
 ) -> u64
     ensures { Tells (map spot_detail (byte_of (joined_files lengths.now) piece_length file offset)) detail.old result detail.new }
 {
-    match torrent_blocks::byte(lengths, piece_length, file, offset) {
-        Place::At(piece, offset) => two(detail, piece.0 as u64, offset.0 as u64),
-        Place::Refused(r) => word(r),
-    }
+    told(
+        detail,
+        torrent_blocks::byte(lengths, piece_length, file, offset).map(spot_words),
+    )
 }
 
 // The bytes of a piece as `detail`.
 pub fn wardrail_piece_size(lengths: &[u64], piece_length: u64, piece: u32, detail: &mut u64) -> u64
     ensures { Tells (size_of (joined_files lengths.now) piece_length piece) detail.old result detail.new }
 {
-    match torrent_blocks::piece_size(lengths, piece_length, PieceNumber(piece)) {
-        Size::Bytes(n) => one(detail, n),
-        Size::Refused(r) => word(r),
-    }
+    told(
+        detail,
+        torrent_blocks::piece_size(lengths, piece_length, PieceNumber(piece)),
+    )
+}
+
+fn spot_words(spot: Spot) -> [u64; 2]
+    ensures { taken result ≡ map spot_detail (place_paper (Ok spot)) }
+{
+    [spot.piece.0 as u64, spot.offset.0 as u64]
 }

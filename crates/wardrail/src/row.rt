@@ -1,5 +1,7 @@
 // How a call answers C: a row of numbers that is left in what is lent, with the answer 0; or the word of a refusal, which leaves it.
-ghost use Rattle.std.specs.Prelude.{◌≡◌, cond, [], ◌∷◌, ◌+◌, ◌*◌, ◌%◌, ◌^◌};
+ghost use Rattle.std.specs.Prelude.{◌≡◌, ◌+◌, ◌*◌, ◌%◌, ◌^◌};
+ghost use Rattle.refusal.specs.Paper.{paper};
+ghost use Rattle.wardrail.specs.Said.{Tells};
 
 use refusal::Refusal;
 
@@ -17,66 +19,22 @@ pub fn sheet_word(r: Refusal) -> u64
     r.number as u64 + 256 * (r.place as u64 % 36028797018963968) + 9223372036854775808
 }
 
-// One number.
-pub fn one(detail: &mut u64, a: u64) -> u64
-    ensures value { result ≡ 0 }
-    ensures detail_after { detail.new ≡ a }
+// What a call says: the row of what is taken and 0, or the word of its refusal.
+pub fn told<D: Copy>(detail: &mut D, answer: Result<D, Refusal>) -> u64
+    ensures { Tells (paper answer) detail.old result detail.new }
 {
-    *detail = a;
-    0
-}
-
-// Two numbers.
-pub fn two(detail: &mut [u64; 2], a: u64, b: u64) -> u64
-    ensures value { result ≡ 0 }
-    ensures detail_after { detail.new ≡ a ∷ b ∷ [] }
-{
-    *detail = [a, b];
-    0
-}
-
-// Three numbers.
-pub fn three(detail: &mut [u64; 3], a: u64, b: u64, c: u64) -> u64
-    ensures value { result ≡ 0 }
-    ensures detail_after { detail.new ≡ a ∷ b ∷ c ∷ [] }
-{
-    *detail = [a, b, c];
-    0
-}
-
-// Four numbers.
-pub fn four(detail: &mut [u64; 4], a: u64, b: u64, c: u64, d: u64) -> u64
-    ensures value { result ≡ 0 }
-    ensures detail_after { detail.new ≡ a ∷ b ∷ c ∷ d ∷ [] }
-{
-    *detail = [a, b, c, d];
-    0
-}
-
-// Five numbers.
-pub fn five(detail: &mut [u64; 5], a: u64, b: u64, c: u64, d: u64, e: u64) -> u64
-    ensures value { result ≡ 0 }
-    ensures detail_after { detail.new ≡ a ∷ b ∷ c ∷ d ∷ e ∷ [] }
-{
-    *detail = [a, b, c, d, e];
-    0
-}
-
-// Six numbers.
-pub fn six(detail: &mut [u64; 6], a: u64, b: u64, c: u64, d: u64, e: u64, f: u64) -> u64
-    ensures value { result ≡ 0 }
-    ensures detail_after { detail.new ≡ a ∷ b ∷ c ∷ d ∷ e ∷ f ∷ [] }
-{
-    *detail = [a, b, c, d, e, f];
-    0
-}
-
-// 1 for true, 0 for false.
-pub fn flag(b: bool) -> u64
-    ensures { result ≡ cond b 1 0 }
-{
-    if b {
-        return 1;
+    match answer {
+        Ok(row) => {
+            *detail = row;
+            0
+        }
+        Err(r) => word(r),
     }
-    0
+}
+
+// What a call says that answers how many.
+pub fn counted(detail: &mut u64, answer: Result<usize, Refusal>) -> u64
+    ensures { Tells (paper answer) detail.old result detail.new }
+{
+    told(detail, answer.map(|n| n as u64))
 }

@@ -8,21 +8,15 @@ ghost use Rattle.wardrail.specs.Torrents.{torrent_detail};
 ghost use Rattle.wardrail.specs.Hashing.{Digested};
 
 use crate::hashing::hashed_word;
-use crate::row::{flag, word};
-use torrent_metainfo::{Reading, Torrent};
+use crate::row::told;
+use torrent_metainfo::Torrent;
 
 // Reads a torrent. `detail` becomes the first byte and the length of announce, info, name and pieces, the piece length,
 // how many pieces, 1 for a single file or else 0, the place of length or files, how many files, and the total.
 pub fn wardrail_torrent(text: &[u8], detail: &mut [u64; 14]) -> u64
     ensures { Tells (map torrent_detail (read_of text.now)) detail.old result detail.new }
 {
-    match torrent_metainfo::read(text) {
-        Reading::Read(t) => {
-            *detail = words(t);
-            0
-        }
-        Reading::Refused(r) => word(r),
-    }
+    told(detail, torrent_metainfo::read(text).map(words))
 }
 
 // Writes the info hash; a refusal leaves `digest` as it was.
@@ -47,7 +41,7 @@ fn words(t: Torrent) -> [u64; 14]
         t.pieces.len as u64,
         t.piece_length,
         t.piece_count,
-        flag(t.content.single),
+        u64::from(t.content.single),
         t.content.place as u64,
         t.content.files as u64,
         t.content.total,

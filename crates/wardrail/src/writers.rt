@@ -1,7 +1,7 @@
 // Writers for C, each at the start of `out`. `detail` becomes how many bytes were written, and what is past them stays.
 ghost use Rattle.std.specs.Prelude.{◌∷◌, length};
 ghost use Rattle.refusal.specs.Paper.{map};
-ghost use Rattle.bencode_writer.specs.Put.{put_of, paper};
+ghost use Rattle.bencode_writer.specs.Put.{put_of};
 ghost use Rattle.peer_wire.specs.Message.{keepalive, encode};
 ghost use Rattle.peer_wire.specs.Frames.{write_of as frame_of};
 ghost use Rattle.peer_wire.specs.Handshake.{handshake, zeros};
@@ -12,23 +12,20 @@ ghost use Rattle.week.specs.Writing.{write_of as week_text_of};
 ghost use Rattle.wardrail.specs.Said.{Tells};
 ghost use Rattle.wardrail.specs.Writers.{Wrote};
 
-use crate::row::{one, word};
-use bencode_writer::Put;
-use links::Sized as LinkSized;
-use torrent_authoring::Sized;
+use crate::row::counted;
 
 // A frame of any id and payload.
 pub fn wardrail_write_frame(id: u8, payload: &[u8], out: &mut [u8], detail: &mut u64) -> u64
     ensures { Wrote (frame_of (id ∷ payload.now) out.old) detail.old result detail.new out.new }
 {
-    written(peer_wire::write::raw(out, id, payload), detail)
+    counted(detail, peer_wire::write::raw(out, id, payload))
 }
 
 // A keepalive.
 pub fn wardrail_write_keepalive(out: &mut [u8], detail: &mut u64) -> u64
     ensures { Wrote (put_of (encode keepalive) 0 out.old) detail.old result detail.new out.new }
 {
-    written(peer_wire::write::keepalive(out), detail)
+    counted(detail, peer_wire::write::keepalive(out))
 }
 
 // The handshake, its free bytes 0.
@@ -40,7 +37,7 @@ pub fn wardrail_write_handshake(
 ) -> u64
     ensures { Wrote (put_of (handshake zeros info.now peer.now) 0 out.old) detail.old result detail.new out.new }
 {
-    written(peer_wire::write::handshake(out, info, peer), detail)
+    counted(detail, peer_wire::write::handshake(out, info, peer))
 }
 
 // A torrent of one file.
@@ -55,9 +52,9 @@ pub fn wardrail_write_torrent(
 ) -> u64
     ensures { Wrote (torrent_text_of (fields announce.now name.now piece_length pieces.now length) out.old) detail.old result detail.new out.new }
 {
-    written(
-        torrent_authoring::write(out, announce, name, piece_length, pieces, length),
+    counted(
         detail,
+        torrent_authoring::write(out, announce, name, piece_length, pieces, length),
     )
 }
 
@@ -72,49 +69,36 @@ pub fn wardrail_torrent_size(
 ) -> u64
     ensures { Tells (size_of (fields announce.now name.now piece_length pieces.now length)) detail.old result detail.new }
 {
-    match torrent_authoring::size(announce, name, piece_length, pieces, length) {
-        Sized::Bytes(n) => one(detail, n as u64),
-        Sized::Refused(r) => word(r),
-    }
+    counted(
+        detail,
+        torrent_authoring::size(announce, name, piece_length, pieces, length),
+    )
 }
 
 // The link of a torrent.
 pub fn wardrail_write_link(torrent: &[u8], out: &mut [u8], detail: &mut u64) -> u64
     ensures { Wrote (link_text_of torrent.now out.old) detail.old result detail.new out.new }
 {
-    written(links::write(torrent, out), detail)
+    counted(detail, links::write(torrent, out))
 }
 
 // How many bytes of output that link needs.
 pub fn wardrail_link_size(torrent: &[u8], detail: &mut u64) -> u64
     ensures { Tells (map length (written_of torrent.now)) detail.old result detail.new }
 {
-    match links::size(torrent) {
-        LinkSized::Bytes(n) => one(detail, n as u64),
-        LinkSized::Refused(r) => word(r),
-    }
+    counted(detail, links::size(torrent))
 }
 
 // A week's file of bodies that stand one after the other and have these lengths.
 pub fn wardrail_write_week(bodies: &[u8], lengths: &[u64], out: &mut [u8], detail: &mut u64) -> u64
     ensures { Wrote (week_text_of bodies.now lengths.now out.old) detail.old result detail.new out.new }
 {
-    written(week::write(bodies, lengths, out), detail)
+    counted(detail, week::write(bodies, lengths, out))
 }
 
 // A compact reply.
 pub fn wardrail_write_reply(interval: u64, peers: &[u8], out: &mut [u8], detail: &mut u64) -> u64
     ensures { Wrote (reply_text_of interval peers.now out.old) detail.old result detail.new out.new }
 {
-    written(tracker::writing::write(out, interval, peers), detail)
-}
-
-// What a writer says.
-fn written(put: Put, detail: &mut u64) -> u64
-    ensures { Tells (paper put) detail.old result detail.new }
-{
-    match put {
-        Put::To(n) => one(detail, n as u64),
-        Put::Refused(r) => word(r),
-    }
+    counted(detail, tracker::writing::write(out, interval, peers))
 }

@@ -1,45 +1,22 @@
 // The program for a week's file: reads standard input, and prints the lines that `week::listing` decides.
 #![tactic(auto)]
 
-ghost use Rattle.std.specs.Prelude.{◌≤◌, length};
+use std::io;
+use std::io::{Cursor, Read, Stdin, Stdout, Write};
 
-use std::io::{Read, Stdin, Stdout};
+// One byte more than a file may have tells that there is too much.
+const MOST: usize = 1048577;
 
 fn main(rt: HostRuntime) {
-    // One byte more than a file may have tells that there is too much.
-    let mut space = [0u8; 1048577];
+    work(rt.stdin(), rt.stdout(), &mut Cursor::new([0u8; MOST]));
+}
+
+// The space is lent, so that its length is known here from its type alone. A failed read counts as the end of the input, and a
+// failed write is passed over.
+fn work(input: Stdin, output: Stdout, file: &mut Cursor<[u8; MOST]>) {
+    let _ = io::copy(&mut input.take(MOST as u64), file);
+    let n = (file.position() as usize).min(MOST);
     let mut printed = [0u8; 21332];
-    lend(rt.stdin(), rt.stdout(), &mut space, &mut printed);
-}
-
-// The space as a slice: its length is known here from its type alone.
-fn lend(input: Stdin, output: Stdout, space: &mut [u8; 1048577], printed: &mut [u8; 21332]) {
-    work(input, output, space, printed);
-}
-
-fn work(input: Stdin, output: Stdout, space: &mut [u8], printed: &mut [u8; 21332]) {
-    let n = read_full(input, space);
-    let count = week::listing(&space[..n], printed);
-    print(output, printed, count);
-}
-
-fn print(output: Stdout, printed: &[u8], n: usize)
-    requires { n ≤ length printed.now }
-{
-    let _ = output.write_all(&printed[0..n]);
-}
-
-// Reads until the space is full, the input ends or a read fails, and answers how many bytes it put at the start of the space.
-fn read_full(mut input: Stdin, space: &mut [u8]) -> usize
-    ensures { result ≤ length space.new }
-{
-    let mut done = 0;
-    while done < space.len() {
-        match input.read(&mut space[done..]) {
-            Ok(0) => break,
-            Ok(n) => done += n,
-            Err(_) => break,
-        }
-    }
-    done
+    let count = week::listing(&file.get_ref()[..n], &mut printed);
+    let _ = output.write_all(&printed[..count]);
 }

@@ -1,9 +1,0 @@
--- `cases::blocks::marks` is safe and ends. The measure is what is left of the space.
-use Rattle.std.proofs.Common.{◌-◌, length}
-use Rattle.cases.proofs.blocks.marks.Given as goal
-
-abbrev pub invariant-loop-i : goal.invariant-loop-i
-invariant-loop-i l = Unit {0}
-
-abbrev pub decreases-loop-i : goal.decreases-loop-i
-decreases-loop-i l = length l.space - l.i

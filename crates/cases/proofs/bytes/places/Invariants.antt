@@ -1,9 +1,0 @@
--- `cases::bytes::places` answers a place from `at` to the space's end. The measure is how many bytes are left.
-use Rattle.std.proofs.Common.{◌≡◌, ◌≤◌, length}
-use Rattle.cases.proofs.bytes.places.Given as goal
-
-abbrev pub invariant-loop-left : goal.invariant-loop-left
-invariant-loop-left l = (length l.space ≡ length l.initial.space) × ((l.at ≤ l.to) × (l.to ≤ length l.initial.space))
-
-abbrev pub decreases-loop-left : goal.decreases-loop-left
-decreases-loop-left l = l.left

@@ -1,9 +1,0 @@
--- `cases::words::start` answers a place of the line. The measure is how many words are left.
-use Rattle.std.proofs.Common.{◌≤◌, length}
-use Rattle.cases.proofs.words.start.Given as goal
-
-abbrev pub invariant-loop-left : goal.invariant-loop-left
-invariant-loop-left l = l.at ≤ length l.line
-
-abbrev pub decreases-loop-left : goal.decreases-loop-left
-decreases-loop-left l = l.left

@@ -1,6 +1,0 @@
--- `wardrail_write_link` meets its contract. Assumes nothing.
-use Rattle.wardrail.proofs.Said.{wrote}
-use Rattle.wardrail.proofs.writers.wardrail_write_link.Goals as goal
-
-pub returns : goal.returns
-returns c = wrote c.write.ensures c.written.ensures
