@@ -13,18 +13,20 @@ LENT = re.compile(r"&\s*(?:'\w+\s+)?mut\b")
 NAME = r"[^\s(){}.;,@\"«»]+"
 
 
-# a function: the name, the parameters, the answer and the contract
-FUNCTION = re.compile(r'^pub (?:extern "C" )?fn (\w+)(?:<[^>]*>)?\((.*?)\)(?: -> ([^\n{]+))?\n(.*?)^\{(.*?)^\}', re.S | re.M)
+# a function: the name, what it is generic in, the parameters, the answer and the contract
+FUNCTION = re.compile(r'^pub (?:extern "C" )?fn (\w+)(?:<([^>]*)>)?\((.*?)\)(?: -> ([^\n{]+))?\n(.*?)^\{(.*?)^\}', re.S | re.M)
 HEAD = re.compile(r'^pub (?:extern "C" )?fn \w+', re.M)
 
 
 class Function:
     def __init__(self, crate, path, source, match):
-        _, parameters, answer, self.contract, self.body = match.groups()
+        _, generic, parameters, answer, self.contract, self.body = match.groups()
         self.crate = crate
         self.path = path
         self.source = source
         self.uses = uses_of(source, "ghost use", ";")
+        # each type that it is generic in, with the trait that bounds it
+        self.bounds = [tuple(part.strip() for part in bound.split(":")) for bound in split(generic or "", ",") if not bound.strip().startswith("'")]
         self.given = [(n.strip(), t.strip()) for n, t in (p.split(":", 1) for p in split(parameters, ","))]
         self.owned = [n for n, t in self.given if not LENT.match(t)]
         self.lent = [n for n, t in self.given if LENT.match(t)]
@@ -32,6 +34,8 @@ class Function:
         self.answers = answer is not None
         self.clauses = list(clauses(self.contract, "ensures"))
         self.requires = list(clauses(self.contract, "requires"))
+        if any(len(bound) != 2 or not re.fullmatch(r"\w+", bound[1]) for bound in self.bounds) or re.search(r"\bwhere\b", f"{answer} {self.contract}") or "impl " in parameters:
+            sys.exit(f"{path}: it is generic in another way than by one trait for a type, which is not followed")
 
     def text(self):
         """The contract as one text: its clauses, joined by × where there are more."""
@@ -39,9 +43,12 @@ class Function:
             return self.clauses[0]
         return " × ".join(c if enclosed(c) else f"({c})" for c in self.clauses)
 
-    def owner(self, name):
-        """The crate, with its modules, that declares a type which the function names."""
-        return owner(name, self.source, self.path.rpartition("::")[0])
+    def module(self):
+        return self.path.rpartition("::")[0]
+
+    def home(self, name):
+        """The crate, with its modules, that declares a type or trait which the function names."""
+        return home(name, self.source, self.module())
 
 
 def clauses(contract, kind):
@@ -55,26 +62,38 @@ def clauses(contract, kind):
             yield words(contract[match.end() : at - 1])
 
 
-def declared(path):
-    """A type's fields, each with its type as it is written and the crate that declares that; none for an enum."""
+def home(name, source, here):
+    """The crate, with its modules, that declares a type or trait which a source names; it may be passed on by `pub use`."""
+    path = owner(name, source, here)
+    text = source_of(*path.split("::")).read_text()
+    return path if re.search(rf"^pub (?:struct|enum|trait) {name}\b", text, re.M) else home(name, text, path)
+
+
+def is_struct(path):
+    """Whether a type is a struct, which has one case."""
     crate, *modules, name = path.split("::")
-    source = source_of(crate, *modules).read_text()
-    if unnamed := re.search(rf"^pub struct {name}\(((?:pub \w+(?:, )?)+)\);", source, re.M):
-        return [(str(k), kind.removeprefix("pub ")) for k, kind in enumerate(unnamed.group(1).split(", "))]
-    struct = re.search(rf"^pub struct {name} \{{\n(.*?)^\}}", source, re.S | re.M)
-    if struct is None:
-        if not re.search(rf"^pub enum {name} \{{", source, re.M):
-            sys.exit(f"{path} is no struct and no enum")
-        return None
-    return re.findall(r"^    (?:pub )?(\w+): ([^\n]+),$", struct.group(1), re.M)
+    return re.search(rf"^pub struct {name}\b", source_of(crate, *modules).read_text(), re.M) is not None
+
+
+def traits():
+    """The public traits of every crate: the path of each, the types that it is written for, and the other crates that name it."""
+    sources = {file: file.read_text() for file in sorted(ROOT.glob("crates/*/src/**/*.rt"))}
+    for file, source in sources.items():
+        for name in re.findall(r"^pub trait (\w+)", source, re.M):
+            crate = file.relative_to(ROOT).parts[1]
+            path = "::".join([crate] + ([file.stem] if file.stem != "lib" else []) + [name])
+            own = "\n".join(text for other, text in sources.items() if other.relative_to(ROOT).parts[1] == crate)
+            elsewhere = {other.relative_to(ROOT).parts[1] for other, text in sources.items() if re.search(rf"\b(?:{name}\b|{file.stem}::\*)", re.sub(r"//.*|^ghost use [^;]*;", "", text, flags=re.M))}
+            yield path, re.findall(rf"^impl(?:<[^>]*>)? {name} for (.+) \{{", own, re.M), sorted(elsewhere - {crate})
 
 
 def owner(name, source, here):
     """The crate, with its modules, that declares a type which a source names."""
     if "::" in name:
         return name.rpartition("::")[0]
-    path = next((path for path in imported(source) if path.endswith(f"::{name}")), f"{here}::{name}")
-    return re.sub("^crate(?=::|$)", here.partition("::")[0], path.rpartition("::")[0])
+    path = next((path for path in imported(source) if path.endswith(f"::{name}")), f"{here}::{name}").rpartition("::")[0]
+    first = path.partition("::")[0]
+    return re.sub("^crate(?=::|$)", here.partition("::")[0], path) if first == "crate" or (ROOT / "crates" / first).is_dir() else f"{here}::{path}"
 
 
 def imported(source):

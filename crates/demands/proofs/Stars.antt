@@ -10,7 +10,7 @@ use Rattle.bencode_walk.specs.Lookup.{lookup, same_key}
 use Rattle.torrent_blocks.specs.Rules.{power_from, sum, file_lengths, lawful}
 use Rattle.torrent_blocks.specs.Spans.{joined_from, lengths, end_from, parts_from, sizes as sizes_in}
 use Rattle.torrent_blocks.specs.Answers.{block_of, byte_of}
-use Rattle.peer_wire.specs.Frames.{least, most, sized_of, read_of, message_of as message_by}
+use Rattle.peer_wire.specs.Frames.{sized_of, read_of, message_of as message_by}
 use Rattle.torrent_metainfo.specs.Rules.{clean, good_name, elements_of, file_of, lengths_of, info_of, top_of, torrent_of, sized_of as torrent_sized}
 use Rattle.bencode_writer.specs.Escaped.{escaped_by}
 use Rattle.torrent_lines.specs.Lines.{elements_in, files_in, file_lines, listing_of, slashed}
@@ -27,5 +27,5 @@ use Rattle.demands.specs.Stars.{stars, four_from, given, asked, lent}
 
 -- every row gives its answer
 pub stars-hold : given stars lent lent ≡ asked stars
-unfolding given asked stars block_of byte_of lawful power_from sum file_lengths joined_from lengths end_from parts_from sizes_in step start_of sizes_fit lowest_free sit_of seated_at leave_of at_zero_of left feed_of message_of have_of bitfield_of over_top announced each_from or_bytes read_of sized_of least most message_by big_endian_of number_bytes event phase misplaced round_of block_frame four_from lowest_without decode value_from items_of entries_of kind_of string_of closed_of integer_of key_of digits_val digits_len key_lt count_in listing_of file_lines slashed escaped_by files_in elements_in lookup same_key torrent_of top_of info_of torrent_sized lengths_of file_of elements_of good_name clean decimal_in encode
+unfolding given asked stars block_of byte_of lawful power_from sum file_lengths joined_from lengths end_from parts_from sizes_in step start_of sizes_fit lowest_free sit_of seated_at leave_of at_zero_of left feed_of message_of have_of bitfield_of over_top announced each_from or_bytes read_of sized_of message_by big_endian_of number_bytes event phase misplaced round_of block_frame four_from lowest_without decode value_from items_of entries_of kind_of string_of closed_of integer_of key_of digits_val digits_len key_lt count_in listing_of file_lines slashed escaped_by files_in elements_in lookup same_key torrent_of top_of info_of torrent_sized lengths_of file_of elements_of good_name clean decimal_in encode
 stars-hold = refl

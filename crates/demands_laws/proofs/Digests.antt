@@ -1,14 +1,14 @@
 -- Digests: when one is refused, and that a refusal leaves the bytes lent for it. Assumes nothing.
+use Rattle.std.specs.Prelude.{Result, Err}
+use Rattle.refusal.specs.declared.Refusal.{Refusal}
 use mathlib.Core.Path.{◌≡◌, refl, sym, ap, ◌∙◌}
 use mathlib.Core.Bool.{Bool}
 use mathlib.Core.List.{List}
 use Prim.Native.Nat.{ℕ, ◌<◌}
 use lib.ListN.{length}
-use Rattle.refusal.specs.Paper.{Outcome, taken, refused}
+use Rattle.refusal.specs.Paper.{paper, Outcome, taken, refused}
 use Rattle.refusal.specs.Parts.{bytes_at}
-use Rattle.hash_sha1.specs.Digest.{Left, left, digest_of, agreement_of, paper as hash_paper}
-use Rattle.hash_sha1.specs.declared.Hashed.{Hashed}
-use Rattle.hash_sha1.specs.declared.Hashed.TheVariants as hashed
+use Rattle.hash_sha1.specs.Digest.{Left, left, digest_of, agreement_of}
 use Rattle.hash_sha1.proofs.Determined.{digest-refusal-keeps, finish-refusal-keeps}
 use Rattle.torrent_metainfo.specs.Hashes.{hashed_in, info_hash_of}
 use Rattle.torrent_metainfo.specs.declared.Torrent.{Torrent}
@@ -25,10 +25,10 @@ use Rattle.refusal.proofs.Outcomes.{not-refused, same-refusal}
 use Rattle.demands_laws.proofs.Refusals.{refusal_is}
 
 -- what is left where the answer is a refusal, as the code says it
-abbrev refuses : ℕ → ℕ → Hashed
-refuses n p = hashed.Refused (record { number = n; place = p })
+abbrev refuses : ℕ → ℕ → Result (Unit {0}) Refusal
+refuses n p = Err (record { number = n; place = p })
 
-same_left : (l : Left) (n p : ℕ) → l.answer ≡ refused n p → left (hash_paper (refuses n p)) l.out ≡ l
+same_left : (l : Left) (n p : ℕ) → l.answer ≡ refused n p → left (paper (refuses n p)) l.out ≡ l
 same_left l n p e = ap (λ (a : Outcome (Unit {0})). left a l.out) (sym e)
 
 -- ---- 8, and no other number
@@ -56,7 +56,7 @@ agreement-exactly m expected k p = (
 -- ---- what a refusal leaves
 
 -- where the torrent is refused its digest is not written, and a digest that is refused leaves the 20 bytes
-pub hash-kept : (s o : List ℕ) (x : Outcome Torrent) (r : Hashed) {out : List ℕ} {n p : ℕ} → left (hash_paper r) out ≡ hashed_in s o x → hash_paper r ≡ refused n p → out ≡ o
+pub hash-kept : (s o : List ℕ) (x : Outcome Torrent) (r : Result (Unit {0}) Refusal) {out : List ℕ} {n p : ℕ} → left (paper r) out ≡ hashed_in s o x → paper r ≡ refused n p → out ≡ o
 hash-kept s o (taken t) r e h = (digest-refusal-keeps (bytes_at s t.info) o r e h).1
 hash-kept s o (refused n p) r e h = ap (λ (l : Left). l.out) e
 

@@ -1,4 +1,6 @@
 -- Frames and handshakes: when each of 20 to 23 and 37 is given, and when a frame is read. Assumes nothing.
+use Rattle.std.specs.Prelude.{Result}
+use Rattle.refusal.specs.declared.Refusal.{Refusal}
 use mathlib.Core.Path.{◌≡◌, refl, sym, ap, subst, ◌∙◌}
 use mathlib.Core.Logic.Iff
 use mathlib.Core.Logic.{inl, inr, ◌↔◌}
@@ -6,14 +8,13 @@ use mathlib.Core.List.{List, ◌∷◌, ◌++◌}
 use Prim.Native.Nat.{ℕ, ◌+◌, ◌≤◌, ◌<◌}
 use native.Mathlib.Omega.{arith}
 use lib.ListN.{length, get_or, take, drop, take-append-drop}
-use Rattle.refusal.specs.Paper.{taken, refused}
+use Rattle.refusal.specs.Paper.{paper, taken, refused}
 use Rattle.refusal.specs.Limits.{longest_frame}
 use Rattle.refusal.specs.declared.Part.{Part}
 use Rattle.peer_wire.specs.Handshake.{shake_of}
 use Rattle.peer_wire.proofs.Written.{write-exactly, write-taken, put-at-start}
 use Rattle.peer_wire.proofs.Bodies.{written}
-use Rattle.bencode_writer.specs.Put.{left, paper as put_paper}
-use Rattle.bencode_writer.specs.declared.Put.{Put}
+use Rattle.bencode_writer.specs.Put.{left}
 use Rattle.peer_wire.specs.Causes.{TooLong, All, Right, Named, Misnamed, info_in, ShakeCause, WriteCause, Cause}
 use Rattle.peer_wire.proofs.Decided.{exactly}
 use Rattle.peer_wire.proofs.Shaking.{shake-exactly}
@@ -105,7 +106,7 @@ module _ (s : List ℕ) (bytes : Bytes s) (m : Message (List ℕ)) (q : ℕ) whe
 
 -- ---- a frame of any id that was written reads back
 
-pub raw-reads-back : (id : ℕ) (p o : List ℕ) → id < 256 → Bytes p → (r : Put) {out : List ℕ} {q : ℕ} → left (put_paper r) out ≡ write_of (id ∷ p) o → put_paper r ≡ taken q
+pub raw-reads-back : (id : ℕ) (p o : List ℕ) → id < 256 → Bytes p → (r : Result ℕ Refusal) {out : List ℕ} {q : ℕ} → left (paper r) out ≡ write_of (id ∷ p) o → paper r ≡ taken q
     → (out ≡ framed (id ∷ p) ++ drop q o) × ((at : Message Part) × (read_of out ≡ taken (found at q)) × (body (meant out at) ≡ id ∷ p))
 raw-reads-back id p o small bytes r {out} {q} e t =
     let w = write-taken (id ∷ p) o r e t in

@@ -6,7 +6,9 @@ use Prim.Native.Nat.{ℕ}
 use lib.Dec.{ltb, leb}
 use lib.ListN.{length, get_or, replicate}
 use lib.Seq.{sets}
-use Rattle.refusal.specs.Paper.{Outcome, taken, refused}
+use Rattle.std.specs.Prelude.{Result, Ok, Err}
+use Rattle.refusal.specs.declared.Refusal.{Refusal}
+use Rattle.refusal.specs.Paper.{Outcome, taken, refused, paper as start_paper}
 use Rattle.yard_tables.specs.Seats.{on, cleared, we_choke, we_want}
 use Rattle.yard_tables.specs.Tables.{Yard, Said, wait, done, used, serve, dropped, seated, wrote, listed, shows, holds, held_by_of, scarce, unchoked, paper, Around, Turn, turn, around, sizes_fit, Out, yard_of}
 use Rattle.yard_tables.specs.Seating.{start_of, mark_of}
@@ -17,12 +19,12 @@ use Rattle.yard_tables.specs.declared.Seat.{Seat}
 use Rattle.yard_tables.specs.declared.Stepped.{Stepped}
 use Rattle.yard_tables.proofs.Keeping.{Keeps, step_keeps, Unused as Unspoken}
 use Rattle.yard_seating.specs.Steps.{begun}
-use Rattle.yard_seating.specs.declared.Begun.{Begun}
 use Rattle.yard_telling.specs.Telling.{code_of, told_of, shown_of}
 use Rattle.yard_telling.specs.declared.Told.{Told}
 use Rattle.yard_telling.proofs.Laws.{unused, told-kept as untold, shown-kept as unshown}
 use mathlib.Core.Logic.{◌⊎◌, inl, inr}
 use Rattle.refusal.proofs.Cases.{by-test, no_way}
+use Rattle.refusal.proofs.Outcomes.{not-refused}
 
 -- a refusal, whatever its number and place
 abbrev Refuses : {A : Type 0} → Outcome A → Type 0
@@ -42,11 +44,13 @@ turn-kept {x} {t} k r e (n, p, h) =
     (ap (λ (z : Turn). z.after.rows) e ∙ ap (λ (z : Around). z.rows) (k u), ap (λ (z : Turn). z.after.holders) e ∙ ap (λ (z : Around). z.holders) (k u))
 
 -- and so does a start, whatever the seats
-pub start-kept : (h : Head) (p l k n : ℕ) (rows holders rows₁ holders₁ : List ℕ) (r : Begun) → begun r (replicate n cleared) rows₁ holders₁ ≡ start_of p l k (yard_of h (replicate n cleared) rows holders) → Refuses (paper r.answer) → (rows₁ ≡ rows) × (holders₁ ≡ holders)
+pub start-kept : (h : Head) (p l k n : ℕ) (rows holders rows₁ holders₁ : List ℕ) (r : Result Head Refusal) → begun r h (replicate n cleared) rows₁ holders₁ ≡ start_of p l k (yard_of h (replicate n cleared) rows holders) → Refuses (start_paper r)
+    → (rows₁ ≡ rows) × (holders₁ ≡ holders)
 unfolding step
-start-kept h p l k n rows holders rows₁ holders₁ r e (m, q, g) =
+start-kept h p l k n rows holders rows₁ holders₁ (Ok g) e (m, q, f) = not-refused f
+start-kept h p l k n rows holders rows₁ holders₁ (Err x) e f =
     let y : Yard = yard_of h (replicate n cleared) rows holders in
-    let u : Unspoken (start_of p l k y).answer = subst Unspoken (sym g ∙ ap (λ (o : Out). o.answer) e) tt in
+    let u : Unspoken (start_of p l k y).answer = subst Unspoken (ap (λ (o : Out). o.answer) e) tt in
     let z : (start_of p l k y).yard ≡ y = step_keeps y (Call.start p l k) u in
     (ap (λ (o : Out). o.yard.rows) e ∙ ap (λ (v : Yard). v.rows) z, ap (λ (o : Out). o.yard.holders) e ∙ ap (λ (v : Yard). v.holders) z)
 

@@ -1,4 +1,6 @@
 -- A compact reply written, and one that was read written again. Assumes nothing.
+use Rattle.std.specs.Prelude.{Result}
+use Rattle.refusal.specs.declared.Refusal.{Refusal}
 use mathlib.Core.Path.{◌≡◌, refl, sym, ap, ◌∙◌}
 use mathlib.Core.Bool.{Bool, true, false, cond}
 use mathlib.Core.List.{List}
@@ -7,21 +9,20 @@ use native.Mathlib.Omega.{arith}
 use borrow.Author.Tests.{eqb-true, le-ltb}
 use lib.Dec.{leb, eqb}
 use lib.ListN.{length, take, drop}
-use Rattle.refusal.specs.Paper.{Outcome, taken, refused, map, then}
+use Rattle.refusal.specs.Paper.{paper, Outcome, taken, refused, map, then}
 use Rattle.bencode_scalar.specs.Written.{key_lt}
 use Rattle.bencode.specs.Value.{Value, dict, empty, entry, count, Keeps}
 use Rattle.bencode.specs.Exact.{Fine}
 use Rattle.bencode.proofs.Exact.{fine-taken}
 use Rattle.bencode_walk.specs.Lookup.{lookup, same_key}
 use Rattle.bencode_fields.specs.Values.{part_of, dictionary_at}
-use Rattle.bencode_writer.specs.Put.{put_of, left, paper as put_paper}
+use Rattle.bencode_writer.specs.Put.{put_of, left}
 use Rattle.tracker.specs.Keys.{interval, peers}
 use Rattle.tracker.specs.Entries.{PeerEntry}
 use Rattle.tracker.specs.Reply.{Answer, failure, compact, listing, counted, sixes, reply_in, reply_of}
 use Rattle.tracker.specs.Exact.{packs, IsReply, fails, has-string, has-list, shows-failure, shows-packs, shows-lists, ReplySays, ShowsReply}
 use Rattle.tracker.proofs.Exact.{reply-only}
 use Rattle.tracker.proofs.Rewriting.{rewrite}
-use Rattle.bencode_writer.specs.declared.Put.{Put}
 use Rattle.tracker.proofs.Rewriting as replies
 use Rattle.refusal.proofs.Cases.{no_way}
 use Rattle.tracker.specs.Writing.{compact_reply, text_of, write_of}
@@ -30,7 +31,7 @@ use Rattle.demands_laws.proofs.Texts.{fine}
 
 -- ---- written, it reads back
 
-pub reply-reads-back : (n : ℕ) (bs o out : List ℕ) (r : Put) → left (put_paper r) out ≡ write_of n bs o → (q : ℕ) → put_paper r ≡ taken q
+pub reply-reads-back : (n : ℕ) (bs o out : List ℕ) (r : Result ℕ Refusal) → left (paper r) out ≡ write_of n bs o → (q : ℕ) → paper r ≡ taken q
     → (take q out ≡ text_of n bs) × (drop q out ≡ drop q o)
     × ((p : ℕ) × (reply_of (take q out) ≡ taken (compact n p (sixes bs))) × (take (length bs) (drop p (take q out)) ≡ bs))
 reply-reads-back n bs o out r c q t =

@@ -1,4 +1,5 @@
 -- Writers: when each number is given. Assumes nothing.
+use Rattle.std.specs.Prelude.{Err}
 use mathlib.Core.Path.{◌≡◌, refl, sym, ap, ◌∙◌}
 use mathlib.Core.Logic.{◌↔◌}
 use mathlib.Core.List.{List}
@@ -9,7 +10,6 @@ use lib.ListN.{length}
 use Rattle.refusal.specs.Paper.{Outcome, refused}
 use Rattle.refusal.specs.Limits.{most_text, longest_interval}
 use Rattle.bencode_writer.specs.Put.{Left, left}
-use Rattle.bencode_writer.specs.declared.Put.TheVariants.{Refused}
 use Rattle.bencode_writer.proofs.Laws.{put-none}
 use Rattle.tracker.specs.Writing.{text_of, write_of as reply_text}
 use Rattle.tracker.specs.Faults.{NotWritten, too-late, not-sixes, too_long, no_room}
@@ -35,7 +35,7 @@ reply-not n bs o k (no_room a b c h) =
 
 pub reply-written : (n : ℕ) (bs o : List ℕ) (k p : ℕ) → (reply_text n bs o).answer ≡ refused k p ↔ (NotWritten n bs o k × (p ≡ 0))
 reply-written n bs o k p = at_zero
-    (λ e. let h = replies.refusal-keeps n bs o (Refused (record { number = k; place = p })) (ap (λ (a : Outcome ℕ). left a (reply_text n bs o).out) (sym e)) k p refl in (h.1, h.0))
+    (λ e. let h = replies.refusal-keeps n bs o (Err (record { number = k; place = p })) (ap (λ (a : Outcome ℕ). left a (reply_text n bs o).out) (sym e)) k p refl in (h.1, h.0))
     (reply-not n bs o k)
 
 -- ---- the torrent writer, and the size that it asks for
@@ -43,7 +43,7 @@ reply-written n bs o k p = at_zero
 module _ (f : author.Fields) where
   pub torrent-written : (o : List ℕ) (n p : ℕ) → (author.write_of f o).answer ≡ refused n p ↔ (rules.NotWritten f o n × (p ≡ 0))
   torrent-written o n p = at_zero
-      (λ e. let h = torrents.refusal-keeps f o (Refused (record { number = n; place = p })) (ap (λ (a : Outcome ℕ). left a (author.write_of f o).out) (sym e)) n p refl in (h.1, h.0))
+      (λ e. let h = torrents.refusal-keeps f o (Err (record { number = n; place = p })) (ap (λ (a : Outcome ℕ). left a (author.write_of f o).out) (sym e)) n p refl in (h.1, h.0))
       (λ h. ap (λ (l : Left). l.answer) (torrents.refused-every f o n h))
 
   pub torrent-sized : (n p : ℕ) → author.size_of f ≡ refused n p ↔ (Unsized f n × (p ≡ 0))

@@ -1,11 +1,11 @@
 -- Calls that a statement speaks of at once, each by its own contract, and what their contracts have in common. Assumes nothing.
-use Rattle.std.specs.Prelude.{◌≡◌, ◌↔◌, List, ℕ, ◌≤◌}
+use Rattle.refusal.specs.declared.Refusal.{Refusal}
+use Rattle.std.specs.Prelude.{◌≡◌, ◌↔◌, List, ℕ, ◌≤◌, Result}
 use Rattle.std.proofs.Common.{sym, ap, ◌∙◌}
 use mathlib.Core.Logic.Iff
-use Rattle.refusal.specs.Paper.{refused, left}
+use Rattle.refusal.specs.Paper.{paper, refused, left}
 use Rattle.bencode.specs.Decode.{decode}
-use Rattle.bencode_writer.specs.Put.{put_of, paper as put_paper}
-use Rattle.bencode_writer.specs.declared.Put.{Put}
+use Rattle.bencode_writer.specs.Put.{put_of}
 use Rattle.sheets.specs.declared.Source.TheVariants.{Torrent as OfTorrent, Sheet as OfSheet}
 use Rattle.sheets.specs.Reading.{about}
 use Rattle.peer_wire.specs.Frames.{write_of}
@@ -32,7 +32,7 @@ as-decoded text (a-link-written r out c) k p l = Iff.trans (left-answer c) (link
 as-decoded text (a-link-sized r c) k p l = Iff.trans (same_answer c) (links-laws.size-read (before text) k p l)
 
 -- what they answer and leave goes by the rest alone
-pub as-framed : (r : Put) (out : Lent (List ℕ)) (rest : List ℕ) → Frames r out rest → left (put_paper r) (after out) ≡ write_of rest (before out)
+pub as-framed : (r : Result ℕ Refusal) (out : Lent (List ℕ)) (rest : List ℕ) → Frames r out rest → left (paper r) (after out) ≡ write_of rest (before out)
 as-framed r out rest (raw id payload c) = c
 as-framed r out rest (plain id c) = c
 as-framed r out rest (a-have index c) = c
@@ -41,7 +41,7 @@ as-framed r out rest (a-request index begin len c) = c
 as-framed r out rest (a_piece index begin block c) = c
 as-framed r out rest (a-cancel index begin len c) = c
 
-pub as-put : (r : Put) (out : Lent (List ℕ)) (w : List ℕ) (at : ℕ) → Puts r out w at → left (put_paper r) (after out) ≡ put_of w at (before out)
+pub as-put : (r : Result ℕ Refusal) (out : Lent (List ℕ)) (w : List ℕ) (at : ℕ) → Puts r out w at → left (paper r) (after out) ≡ put_of w at (before out)
 as-put r out w at (literal i bytes c) = c
 as-put r out w at (small-hex i bytes c) = c
 as-put r out w at (a-decimal i n c) = c

@@ -1,8 +1,7 @@
 -- Demand 1 of `torrent_lines`: the listing. Assumes nothing.
 use Rattle.std.specs.Prelude.{List, ℕ}
 use Rattle.std.proofs.Common.{sym, ◌∙◌}
-use Rattle.refusal.specs.Paper.{taken}
-use Rattle.bencode_writer.specs.Put.{paper as put_paper}
+use Rattle.refusal.specs.Paper.{paper, taken}
 use Rattle.torrent_lines.proofs.Laws as laws
 use Rattle.refusal.proofs.Outcomes.{not-refused}
 use Rattle.demands.specs.One.{Lent, Determined1, Keeps1, Takes1, Refused, Determined}
@@ -12,7 +11,7 @@ use Rattle.demands.specs.One.Doors.Lines.{listing-ensures, size-ensures, refused
 pub listing-determined : (text : Lent (List ℕ)) → Determined1 (listing-ensures text)
 listing-determined text out r r' out₁ out₂ e f = laws.listing-determined _ _ r e.0 r' f.0
 
-pub listing-keeps : (text : Lent (List ℕ)) → Keeps1 (listing-ensures text) (λ r. Refused (put_paper r))
+pub listing-keeps : (text : Lent (List ℕ)) → Keeps1 (listing-ensures text) (λ r. Refused (paper r))
 listing-keeps text r out e k = (laws.listing-refusal-keeps _ _ r e.0 k.2).1
 
 -- torrent_lines::size

@@ -1,9 +1,10 @@
 -- Demand 1 of `hash_sha1`: a digest of a slice or in parts, and digests compared. Assumes nothing.
+use Rattle.refusal.specs.Paper.{paper}
 use Rattle.std.specs.Prelude.{List, ℕ}
 use Rattle.std.proofs.Common.{sym, ◌∙◌}
-use Rattle.hash_sha1.specs.Digest.{paper}
 use Rattle.hash_sha1.specs.declared.stream.Stream.{Stream}
 use Rattle.hash_sha1.proofs.Determined as laws
+use Rattle.refusal.proofs.Outcomes.{paper-determined}
 use Rattle.demands.specs.One.{Lent, Determined1, Keeps1, Refused, Determined}
 use Rattle.demands.specs.One.Doors.Sha1.{digest-ensures, agrees-ensures, start-ensures, add-ensures, finish-ensures}
 
@@ -16,7 +17,7 @@ digest-keeps message r out e k = (laws.digest-refusal-keeps _ _ r e k.2).1
 
 -- hash_sha1::agrees
 pub agrees-determined : (message expected : Lent (List ℕ)) → Determined (agrees-ensures message expected)
-agrees-determined message expected r r' e f = laws.agrees-determined _ _ r r' e f
+agrees-determined message expected r r' e f = paper-determined _ r r' e f
 
 -- hash_sha1::stream::start
 pub start-determined : Determined start-ensures

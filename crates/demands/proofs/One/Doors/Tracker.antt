@@ -1,5 +1,6 @@
 -- Demand 1 of `tracker`: replies and their entries, read. Assumes nothing.
-use Rattle.std.specs.Prelude.{List, ℕ}
+use Rattle.refusal.specs.declared.Refusal.{Refusal}
+use Rattle.std.specs.Prelude.{List, ℕ, Result}
 use Rattle.std.proofs.Common.{sym, ◌∙◌}
 use Rattle.tracker.specs.declared.Reply.{Reply}
 use Rattle.tracker.proofs.Determined as laws
@@ -15,7 +16,7 @@ pub peer-determined : (text : Lent (List ℕ)) (n : ℕ) → Determined (peer-en
 peer-determined text n r r' e f = laws.peer-determined _ r r' e f
 
 -- tracker::entries
-pub entries-determined : (reply : Reply) → Determined (entries-ensures reply)
+pub entries-determined : (reply : Result Reply Refusal) → Determined (entries-ensures reply)
 entries-determined reply r r' e f = e ∙ sym f
 
 -- tracker::compact::packed_at

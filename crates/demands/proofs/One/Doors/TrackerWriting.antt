@@ -1,6 +1,6 @@
 -- Demand 1 of `tracker::writing`: replies, written. Assumes nothing.
+use Rattle.refusal.specs.Paper.{paper}
 use Rattle.std.specs.Prelude.{List, ℕ}
-use Rattle.bencode_writer.specs.Put.{paper}
 use Rattle.tracker.proofs.Rewriting as laws
 use Rattle.demands.specs.One.{Lent, Determined1, Keeps1, Refused}
 use Rattle.demands.specs.One.Doors.TrackerWriting.{write-ensures}

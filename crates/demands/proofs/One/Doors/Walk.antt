@@ -4,7 +4,8 @@ use Rattle.std.proofs.Common.{sym, ◌∙◌}
 use Rattle.refusal.specs.declared.Part.{Part}
 use Rattle.bencode_walk.proofs.Determined as laws
 use Rattle.demands_laws.proofs.Refusals.{one-part}
-use Rattle.demands.specs.One.{Lent, now, Determined, ref}
+use Rattle.refusal.proofs.Outcomes.{paper-determined}
+use Rattle.demands.specs.One.{Lent, Determined, ref}
 use Rattle.demands.specs.One.Doors.Walk.{look-ensures, entry-ensures, seek-ensures, skip-ensures, bytes-ensures}
 
 -- bencode_walk::look
@@ -21,7 +22,7 @@ seek-determined text at key r r' e f = laws.seek-determined _ _ _ _ r r' e f
 
 -- bencode_walk::skip
 pub skip-determined : (text : Lent (List ℕ)) (at : ℕ) → Determined (skip-ensures text at)
-skip-determined text at r r' e f = laws.skip-determined (now text.entry) at r r' e f
+skip-determined text at r r' e f = paper-determined _ r r' e f
 
 -- bencode_walk::bytes
 pub bytes-determined : (text : Lent (List ℕ)) (p : Part) → Determined (bytes-ensures text p)

@@ -1,6 +1,6 @@
 -- Demand 1 of `peer_wire::write`: frames and the handshake, written. Assumes nothing.
+use Rattle.refusal.specs.Paper.{paper}
 use Rattle.std.specs.Prelude.{List, ℕ}
-use Rattle.bencode_writer.specs.Put.{paper}
 use Rattle.torrent_blocks.specs.declared.PieceNumber.{PieceNumber}
 use Rattle.torrent_blocks.specs.declared.PieceOffset.{PieceOffset}
 use Rattle.peer_wire.proofs.Written as laws

@@ -1,13 +1,13 @@
 -- Demand 1 of `torrent_blocks`: the three numberings, and the number rules for torrents. Assumes nothing.
-use Rattle.std.specs.Prelude.{ℕ}
+use Rattle.std.specs.Prelude.{List, ℕ}
 use Rattle.std.proofs.Common.{sym, ◌∙◌}
 use Rattle.torrent_blocks.specs.declared.ContentOffset.{ContentOffset}
 use Rattle.torrent_blocks.specs.declared.PieceNumber.{PieceNumber}
 use Rattle.torrent_blocks.specs.declared.PieceOffset.{PieceOffset}
 use Rattle.torrent_blocks.specs.declared.rules.Total.{Total}
 use Rattle.torrent_blocks.proofs.Determined as laws
-use Rattle.demands.specs.One.{Determined}
-use Rattle.demands.specs.One.Inner.Blocks.{content_offset-ensures, piece_number-ensures, piece_numbered-ensures, piece_offset-ensures, piece_bytes-ensures, legal_piece_length-ensures, legal_file_length-ensures, legal_file_count-ensures, with_file-ensures, pieces-ensures, legal_total-ensures}
+use Rattle.demands.specs.One.{Lent, Determined}
+use Rattle.demands.specs.One.Inner.Blocks.{content_offset-ensures, piece_number-ensures, piece_numbered-ensures, piece_offset-ensures, piece_bytes-ensures, legal_piece_length-ensures, legal_file_length-ensures, legal_file_count-ensures, with_file-ensures, with_files-ensures, pieces-ensures, legal_total-ensures}
 
 -- torrent_blocks::content_offset
 pub content_offset-determined : (piece_length : ℕ) (piece : PieceNumber) (offset : PieceOffset) → Determined (content_offset-ensures piece_length piece offset)
@@ -44,6 +44,10 @@ legal_file_count-determined n r r' e f = e ∙ sym f
 -- torrent_blocks::rules::with_file
 pub with_file-determined : (total : Total) (n : ℕ) → Determined (with_file-ensures total n)
 with_file-determined total n r r' e f = laws.total-determined _ _ r r' e f
+
+-- torrent_blocks::rules::with_files
+pub with_files-determined : (total : Total) (lengths : Lent (List ℕ)) → Determined (with_files-ensures total lengths)
+with_files-determined total lengths r r' e f = laws.total-determined _ _ r r' e f
 
 -- torrent_blocks::rules::pieces
 pub pieces-determined : (total : Total) (piece_length : ℕ) → Determined (pieces-ensures total piece_length)

@@ -1,5 +1,5 @@
 -- Demand 1 of `yard_scans`: one seat taken out or put back, and the passes over all. Assumes nothing.
-use Rattle.std.specs.Prelude.{Bool, List, refl, ℕ}
+use Rattle.std.specs.Prelude.{List, refl, ℕ}
 use Rattle.std.proofs.Common.{sym, ◌∙◌}
 use Rattle.refusal.specs.Paper.{taken}
 use Rattle.refusal.proofs.Outcomes.{not-refused}
@@ -25,8 +25,8 @@ pub lowest_free-determined : (seats : Lent (List Seat)) → Determined (lowest_f
 lowest_free-determined seats r r' e f = e ∙ sym f
 
 -- yard_scans::clear_seats
-pub clear_seats-determined : (wanted : Bool) → Determined1 (clear_seats-ensures wanted)
-clear_seats-determined wanted seats r r' seats₁ seats₂ e f = (refl, e ∙ sym f)
+pub clear_seats-determined : Determined1 clear_seats-ensures
+clear_seats-determined seats r r' seats₁ seats₂ e f = (refl, e ∙ sym f)
 
 -- yard_scans::rank_seats
 pub rank_seats-determined : (seats : Lent (List Seat)) (h : Head) → Determined (rank_seats-ensures seats h)

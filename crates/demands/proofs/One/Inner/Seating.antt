@@ -7,23 +7,24 @@ use Rattle.torrent_blocks.specs.declared.PieceNumber.{PieceNumber}
 use Rattle.yard_tables.specs.Looks.{scarcest_of, has_of, count_of}
 use Rattle.yard_tables.specs.Seats.{cleared}
 use Rattle.yard_tables.specs.Step.{choke_frame, if_taken, interest_frame}
+use Rattle.refusal.specs.Paper.{paper as start_paper}
 use Rattle.yard_tables.specs.Tables.{around, paper}
 use Rattle.yard_tables.specs.declared.Head.{Head}
 use Rattle.yard_tables.specs.declared.Seat.{Seat}
 use Rattle.yard_tables.proofs.Keeping.{sit-keeps, leave-keeps}
+use Rattle.yard_seating.specs.Steps.{empty_head}
 use Rattle.yard_seating.proofs.Determined as laws
 use Rattle.demands_laws.proofs.Keeping.{turn-kept, start-kept}
 use Rattle.demands.specs.One.{Lent, now, Determined2, Keeps2, Refused, Determined1, Keeps1, Determined}
 use Rattle.demands.specs.One.Inner.Seating.{start_step-ensures, sit_step-ensures, leave_step-ensures, choke_step-ensures, interest_step-ensures, scarcest-ensures, seat-ensures, has-ensures, count-ensures}
 
 -- yard_seating::start_step
-pub start_step-determined : (h : Head) (pieces piece_length last_length n : ℕ) → Determined2 (start_step-ensures h pieces piece_length last_length n)
-start_step-determined h pieces piece_length last_length n rows holders r r' rows₁ rows₂ holders₁ holders₂ e f =
-    laws.start-determined _ _ _ _ _ _ _ _ r r' _ _ _ _ e.0 e.1 f.0 f.1
+pub start_step-determined : (pieces piece_length last_length n : ℕ) → Determined2 (start_step-ensures pieces piece_length last_length n)
+start_step-determined pieces piece_length last_length n rows holders r r' rows₁ rows₂ holders₁ holders₂ e f = laws.start-determined _ _ _ _ _ _ r r' _ _ _ _ e f (empty_head 0 0 0)
 
-pub start_step-keeps : (h : Head) (pieces piece_length last_length n : ℕ) → Keeps2 (start_step-ensures h pieces piece_length last_length n) (λ r. Refused (paper r.answer))
-start_step-keeps h pieces piece_length last_length n r rows holders e k =
-    start-kept h pieces piece_length last_length n (now rows.entry) (now holders.entry) (now rows.exit) (now holders.exit) r (e.0 (replicate n cleared) (length-replicate n cleared)) k
+pub start_step-keeps : (pieces piece_length last_length n : ℕ) → Keeps2 (start_step-ensures pieces piece_length last_length n) (λ r. Refused (start_paper r))
+start_step-keeps pieces piece_length last_length n r rows holders e k =
+    start-kept (empty_head 0 0 0) pieces piece_length last_length n (now rows.entry) (now holders.entry) (now rows.exit) (now holders.exit) r (e (empty_head 0 0 0) (replicate n cleared) (length-replicate n cleared)) k
 
 -- yard_seating::sit_step
 pub sit_step-determined : (h : Head) (s : Seat) (holders : Lent (List ℕ)) (i n : ℕ) → Determined1 (sit_step-ensures h s holders i n)

@@ -1,5 +1,6 @@
 -- Demand 1 of `yard_tables`: what the yard's calls share. Assumes nothing.
-use Rattle.std.specs.Prelude.{Bool, ℕ}
+use Rattle.refusal.specs.declared.Refusal.{Refusal}
+use Rattle.std.specs.Prelude.{Bool, ℕ, Result}
 use Rattle.std.proofs.Common.{sym, ◌∙◌}
 use Rattle.torrent_blocks.specs.declared.PieceNumber.{PieceNumber}
 use Rattle.torrent_blocks.specs.declared.PieceOffset.{PieceOffset}
@@ -32,7 +33,7 @@ pub end_of-determined : (p pieces : ℕ) → Determined (end_of-ensures p pieces
 end_of-determined p pieces r r' e f = e ∙ sym f
 
 -- yard_tables::block::block_step
-pub block_step-determined : (h : Head) (s : Seat) (p : PieceNumber) (fits : Bool) (a : Answer) → Determined (block_step-ensures h s p fits a)
+pub block_step-determined : (h : Head) (s : Seat) (p : PieceNumber) (fits : Bool) (a : Result Answer Refusal) → Determined (block_step-ensures h s p fits a)
 block_step-determined h s p fits a r r' e f = e ∙ sym f
 
 -- yard_tables::block::piece_step
@@ -76,16 +77,16 @@ pub free_place-determined : (h : Head) (best : Ranking) → Determined (free_pla
 free_place-determined h best r r' e f = e ∙ sym f
 
 -- yard_tables::round::turn
-pub turn-determined : (h : Head) (fault : ℕ) (best : Ranking) (free : ℕ) (holder : Seat) → Determined (turn-ensures h fault best free holder)
-turn-determined h fault best free holder r r' e f = e ∙ sym f
+pub turn-determined : (h : Head) (best : Ranking) (free : ℕ) (holder : Seat) → Determined (turn-ensures h best free holder)
+turn-determined h best free holder r r' e f = e ∙ sym f
 
 -- yard_tables::round::choke
-pub choke-determined : (wanted : Bool) (s : Seat) → Determined (choke-ensures wanted s)
-choke-determined wanted s r r' e f = e ∙ sym f
+pub choke-determined : (s : Seat) → Determined (choke-ensures s)
+choke-determined s r r' e f = e ∙ sym f
 
 -- yard_tables::round::unchoke
-pub unchoke-determined : (wanted : Bool) (s : Seat) → Determined (unchoke-ensures wanted s)
-unchoke-determined wanted s r r' e f = e ∙ sym f
+pub unchoke-determined : (s : Seat) → Determined (unchoke-ensures s)
+unchoke-determined s r r' e f = e ∙ sym f
 
 -- yard_tables::reply::refused
 pub refused-determined : (h : Head) (s : Seat) (number : ℕ) → Determined (refused-ensures h s number)

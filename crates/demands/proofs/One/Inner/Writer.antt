@@ -1,8 +1,8 @@
 -- Demand 1 of `bencode_writer`: what the writers put one after the other. Assumes nothing.
-use Rattle.std.specs.Prelude.{List, ℕ, ℤ}
+use Rattle.refusal.specs.Paper.{paper}
+use Rattle.refusal.specs.declared.Refusal.{Refusal}
+use Rattle.std.specs.Prelude.{List, ℕ, ℤ, Result}
 use Rattle.std.proofs.Common.{sym, ◌∙◌}
-use Rattle.bencode_writer.specs.Put.{paper}
-use Rattle.bencode_writer.specs.declared.Put.{Put}
 use Rattle.bencode_writer.proofs.Laws as laws
 use Rattle.demands.specs.One.{Lent, Determined, Determined1, Keeps1, Refused}
 use Rattle.demands.specs.One.Inner.Writer.{literal-ensures, small_hex-ensures, decimal-ensures, string-ensures, integer-ensures, digits-ensures, end-ensures, escape-ensures}
@@ -47,7 +47,7 @@ pub digits-determined : (n : ℕ) → Determined (digits-ensures n)
 digits-determined n r r' e f = e.0 ∙ sym f.0
 
 -- bencode_writer::end
-pub end-determined : (put : Put) → Determined (end-ensures put)
+pub end-determined : (put : Result ℕ Refusal) → Determined (end-ensures put)
 end-determined put r r' e f = e ∙ sym f
 
 -- bencode_writer::escape

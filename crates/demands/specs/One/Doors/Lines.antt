@@ -1,16 +1,16 @@
 -- Demand 1 of `torrent_lines`: the listing. Assumes nothing.
-use Rattle.std.specs.Prelude.{List, ◌≡◌, ℕ, ◌≤◌, length}
-use Rattle.refusal.specs.Paper.{taken}
-use Rattle.bencode_writer.specs.Put.{paper as put_paper, left, put_of, Ran}
-use Rattle.bencode_writer.specs.declared.Put.{Put}
+use Rattle.refusal.specs.declared.Refusal.{Refusal}
+use Rattle.std.specs.Prelude.{List, ◌≡◌, ℕ, ◌≤◌, length, Result}
+use Rattle.refusal.specs.Paper.{paper, taken}
+use Rattle.bencode_writer.specs.Put.{left, put_of, Ran}
 use Rattle.torrent_lines.specs.Lines.{most_printed, refused_line, listing_of}
 use Rattle.demands.specs.One.{Lent, now}
 
 -- torrent_lines::listing
-abbrev pub listing-ensures : (text : Lent (List ℕ)) → Put → Lent (List ℕ) → Type 0
+abbrev pub listing-ensures : (text : Lent (List ℕ)) → Result ℕ Refusal → Lent (List ℕ) → Type 0
 listing-ensures text r out =
-    (left (put_paper r) (now out.exit) ≡ put_of (listing_of (now text.entry)) 0 (now out.entry))
-    × (most_printed ≤ length (now out.entry) → put_paper r ≡ taken (length (listing_of (now text.entry))))
+    (left (paper r) (now out.exit) ≡ put_of (listing_of (now text.entry)) 0 (now out.entry))
+    × (most_printed ≤ length (now out.entry) → paper r ≡ taken (length (listing_of (now text.entry))))
 
 -- torrent_lines::size
 abbrev pub size-ensures : (text : Lent (List ℕ)) → ℕ → Type 0

@@ -1,11 +1,12 @@
 -- Demand 1 of `torrent_blocks`: the three numberings, and the number rules for torrents. Assumes nothing.
-use Rattle.std.specs.Prelude.{Bool, ◌≡◌, ℕ, ◌+◌, min}
-use Rattle.torrent_blocks.specs.Rules.{piece_length_of, file_length, file_count, largest, pieces_of, total_and}
+use Rattle.std.specs.Prelude.{Bool, List, ◌≡◌, ℕ, ◌+◌, min}
+use Rattle.torrent_blocks.specs.Rules.{piece_length_of, file_length, file_count, largest, pieces_of, sum, total_and}
 use Rattle.torrent_blocks.specs.Numberings.{widest, content_offset, piece_number, piece_offset, piece_bytes_of}
 use Rattle.torrent_blocks.specs.declared.ContentOffset.{ContentOffset}
 use Rattle.torrent_blocks.specs.declared.PieceNumber.{PieceNumber}
 use Rattle.torrent_blocks.specs.declared.PieceOffset.{PieceOffset}
 use Rattle.torrent_blocks.specs.declared.rules.Total.{Total}
+use Rattle.demands.specs.One.{Lent, now}
 
 -- torrent_blocks::content_offset
 abbrev pub content_offset-ensures : (piece_length : ℕ) (piece : PieceNumber) (offset : PieceOffset) → ContentOffset → Type 0
@@ -42,6 +43,10 @@ legal_file_count-ensures n r = r ≡ file_count n
 -- torrent_blocks::rules::with_file
 abbrev pub with_file-ensures : (total : Total) (n : ℕ) → Total → Type 0
 with_file-ensures total n r = r.0 ≡ min (total.0 + n) largest
+
+-- torrent_blocks::rules::with_files
+abbrev pub with_files-ensures : (total : Total) (lengths : Lent (List ℕ)) → Total → Type 0
+with_files-ensures total lengths r = r.0 ≡ min (total.0 + sum (now lengths.entry)) largest
 
 -- torrent_blocks::rules::pieces
 abbrev pub pieces-ensures : (total : Total) (piece_length : ℕ) → ℕ → Type 0

@@ -1,5 +1,5 @@
 -- Demand 1 of `yard_scans`: one seat taken out or put back, and the passes over all. Assumes nothing.
-use Rattle.std.specs.Prelude.{Bool, cond, List, ◌≡◌, ℕ, get_or, set, length, replicate}
+use Rattle.std.specs.Prelude.{List, ◌≡◌, ℕ, get_or, set, length, replicate}
 use Rattle.std.proofs.lemmas.List.Edits.{sets}
 use Rattle.yard_tables.specs.Counting.{each}
 use Rattle.yard_tables.specs.Looks.{page_of, lines_of}
@@ -28,8 +28,8 @@ abbrev pub lowest_free-ensures : (seats : Lent (List Seat)) → ℕ → Type 0
 lowest_free-ensures seats r = r ≡ lowest_free (now seats.entry)
 
 -- yard_scans::clear_seats
-abbrev pub clear_seats-ensures : (wanted : Bool) → Unit {0} → Lent (List Seat) → Type 0
-clear_seats-ensures wanted r seats = now seats.exit ≡ cond wanted (replicate (length (now seats.entry)) cleared) (now seats.entry)
+abbrev pub clear_seats-ensures : Unit {0} → Lent (List Seat) → Type 0
+clear_seats-ensures r seats = now seats.exit ≡ replicate (length (now seats.entry)) cleared
 
 -- yard_scans::rank_seats
 abbrev pub rank_seats-ensures : (seats : Lent (List Seat)) (h : Head) → Ranking → Type 0

@@ -1,5 +1,6 @@
 -- Demand 1 of `yard_tables`: what the yard's calls share. Assumes nothing.
-use Rattle.std.specs.Prelude.{Bool, ◌≡◌, ℕ, ◌+◌, ◌-◌, ◌%◌, ◌^◌, min}
+use Rattle.refusal.specs.declared.Refusal.{Refusal}
+use Rattle.std.specs.Prelude.{Bool, ◌≡◌, ℕ, ◌+◌, ◌-◌, ◌%◌, ◌^◌, min, Ok, Result}
 use Rattle.refusal.specs.Paper.{taken}
 use Rattle.torrent_blocks.specs.declared.PieceNumber.{PieceNumber}
 use Rattle.torrent_blocks.specs.declared.PieceOffset.{PieceOffset}
@@ -40,7 +41,7 @@ abbrev pub end_of-ensures : (p pieces : ℕ) → ℕ → Type 0
 end_of-ensures p pieces r = r ≡ min (p + 8) pieces
 
 -- yard_tables::block::block_step
-abbrev pub block_step-ensures : (h : Head) (s : Seat) (p : PieceNumber) (fits : Bool) (a : Answer) → Stepped → Type 0
+abbrev pub block_step-ensures : (h : Head) (s : Seat) (p : PieceNumber) (fits : Bool) (a : Result Answer Refusal) → Stepped → Type 0
 block_step-ensures h s p fits a r = r ≡ block_step h s p.0 fits a
 
 -- yard_tables::block::piece_step
@@ -48,7 +49,7 @@ abbrev pub piece_step-ensures : (h : Head) (s : Seat) (p : PieceNumber) (fits : 
 piece_step-ensures h s p fits len used r = r ≡ piece_step h s p.0 fits len used
 
 -- yard_tables::block::asked
-abbrev pub asked-ensures : (s : Seat) (used : ℕ) → Answer → Type 0
+abbrev pub asked-ensures : (s : Seat) (used : ℕ) → Result Answer Refusal → Type 0
 asked-ensures s used r = paper r ≡ taken (requested used s)
 
 -- yard_tables::block::lies_within
@@ -84,16 +85,16 @@ abbrev pub free_place-ensures : (h : Head) (best : Ranking) → ℕ → Type 0
 free_place-ensures h best r = r ≡ free_of h best
 
 -- yard_tables::round::turn
-abbrev pub turn-ensures : (h : Head) (fault : ℕ) (best : Ranking) (free : ℕ) (holder : Seat) → Turned → Type 0
-turn-ensures h fault best free holder r = r ≡ turned h fault best free holder
+abbrev pub turn-ensures : (h : Head) (best : Ranking) (free : ℕ) (holder : Seat) → Turned → Type 0
+turn-ensures h best free holder r = r ≡ turned h best free holder
 
 -- yard_tables::round::choke
-abbrev pub choke-ensures : (wanted : Bool) (s : Seat) → Seat → Type 0
-choke-ensures wanted s r = r ≡ choke_step wanted s
+abbrev pub choke-ensures : (s : Seat) → Seat → Type 0
+choke-ensures s r = r ≡ choke_step s
 
 -- yard_tables::round::unchoke
-abbrev pub unchoke-ensures : (wanted : Bool) (s : Seat) → Seat → Type 0
-unchoke-ensures wanted s r = r ≡ unchoke_step wanted s
+abbrev pub unchoke-ensures : (s : Seat) → Seat → Type 0
+unchoke-ensures s r = r ≡ unchoke_step s
 
 -- yard_tables::reply::refused
 abbrev pub refused-ensures : (h : Head) (s : Seat) (number : ℕ) → Stepped → Type 0
@@ -101,15 +102,15 @@ refused-ensures h s number r = r ≡ refusing h s number
 
 -- yard_tables::reply::waiting
 abbrev pub waiting-ensures : (h : Head) (s : Seat) → Stepped → Type 0
-waiting-ensures h s r = r ≡ stepped h s Answer.Wait
+waiting-ensures h s r = r ≡ stepped h s (Ok Answer.Wait)
 
 -- yard_tables::reply::taken
 abbrev pub taken-ensures : (h : Head) (s : Seat) (used : ℕ) → Stepped → Type 0
-taken-ensures h s used r = r ≡ stepped h s (Answer.Taken used)
+taken-ensures h s used r = r ≡ stepped h s (Ok (Answer.Taken used))
 
 -- yard_tables::reply::passed
 abbrev pub passed-ensures : (h : Head) (s : Seat) (used : ℕ) → Stepped → Type 0
-passed-ensures h s used r = r ≡ stepped h (spoken s) (Answer.Taken used)
+passed-ensures h s used r = r ≡ stepped h (spoken s) (Ok (Answer.Taken used))
 
 -- yard_tables::reply::spoken
 abbrev pub spoken-ensures : (s : Seat) → Seat → Type 0
