@@ -34,10 +34,10 @@ pub fn check(text: &[u8], t: Torrent, piece: PieceNumber, bytes: &[u8]) -> Resul
         return Err(refuse(number::LONG, 0));
     }
     let content = t.content;
-    if bytes.len() as u64
-        == torrent_blocks::piece_bytes(Total(content.total), t.piece_length, piece)
-    {
-        return hash_sha1::agrees(bytes, bencode_walk::bytes(text, part));
+    let size = torrent_blocks::piece_bytes(Total(content.total), t.piece_length, piece);
+    if bytes.len() as u64 != size {
+        return Err(refuse(number::OUTSIDE, 0));
     }
-    Err(refuse(number::OUTSIDE, 0))
+    let same = hash_sha1::agrees(bytes, bencode_walk::bytes(text, part))?;
+    Ok(same)
 }

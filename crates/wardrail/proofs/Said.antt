@@ -1,4 +1,4 @@
--- What C reads from the word of a refusal: its number and its place. Assumes nothing.
+-- What a call says to C, by what the call below it answers; and what C reads from the word of a refusal: its number and its place. Assumes nothing.
 use mathlib.Core.Path.{◌≡◌, ap, ◌∙◌}
 use native.Mathlib.Omega.{arith}
 use Prim.Native.Nat.{ℕ, ◌<◌, ◌+◌, ◌*◌, ◌/◌, ◌%◌, ◌^◌}
@@ -6,8 +6,18 @@ use Rattle.refusal.specs.Paper.{Outcome, refused}
 use Rattle.refusal.specs.declared.Part.{Part}
 use Rattle.sheets.specs.declared.Source.{Source}
 use Rattle.sheets.specs.declared.Source.TheVariants.{Torrent, Sheet}
-use Rattle.wardrail.specs.Said.{word_of, number_in, place_in, text_in}
+use Rattle.wardrail.specs.Said.{word_of, number_in, place_in, text_in, left_of, Tells}
 use Rattle.wardrail.specs.Addresses.{word_from, text_number}
+
+-- the answer a, which the contract says is x, is the case b, and g is what C is told of an answer
+pub tells : {A D : Type 0} (g : Outcome A → Outcome D) {b a x : Outcome A} {was d : D} {r : ℕ} → b ≡ a → a ≡ x → r ≡ word_of (g b) → d ≡ left_of (g b) was → Tells (g x) was r d
+tells {A} g {was = was} e f k h =
+    record {
+      word = k ∙ ap (λ (y : Outcome A). word_of (g y)) (e ∙ f);
+      left = h ∙ ap (λ (y : Outcome A). left_of (g y) was) (e ∙ f);
+    }
+
+-- ---- what C reads from the word of a refusal
 
 number_of : (n p : ℕ) → n < 256 → (n + 256 * (p % 2 ^ 56)) % 256 ≡ n
 number_of n p h = omega arith
