@@ -76,7 +76,7 @@ def is_struct(path):
 
 
 def traits():
-    """The public traits of every crate: the path of each, the types that it is written for, and the other crates that name it."""
+    """The public traits of every crate: the path of each, the types that it is written for, its methods, and the other crates that name it."""
     sources = {file: file.read_text() for file in sorted(ROOT.glob("crates/*/src/**/*.rt"))}
     for file, source in sources.items():
         for name in re.findall(r"^pub trait (\w+)", source, re.M):
@@ -84,7 +84,15 @@ def traits():
             path = "::".join([crate] + ([file.stem] if file.stem != "lib" else []) + [name])
             own = "\n".join(text for other, text in sources.items() if other.relative_to(ROOT).parts[1] == crate)
             elsewhere = {other.relative_to(ROOT).parts[1] for other, text in sources.items() if re.search(rf"\b(?:{name}\b|{file.stem}::\*)", re.sub(r"//.*|^ghost use [^;]*;", "", text, flags=re.M))}
-            yield path, re.findall(rf"^impl(?:<[^>]*>)? {name} for (.+) \{{", own, re.M), sorted(elsewhere - {crate})
+            yield path, re.findall(rf"^impl(?:<[^>]*>)? {name} for (.+) \{{", own, re.M), methods(source, name), sorted(elsewhere - {crate})
+
+
+def methods(source, trait):
+    """The methods that a trait declares: the name of each and the kinds of its clauses."""
+    body = re.search(rf"^pub trait {trait}\b.*?^\}}", source, re.S | re.M).group(0)
+    for item in re.split(r"^ {4}(?=\S)", body, flags=re.M):
+        if method := re.search(r"\bfn (\w+)", item.partition("\n")[0]):
+            yield method.group(1), [match.group(1) for match in CLAUSE.finditer(item)]
 
 
 def owner(name, source, here):

@@ -1,11 +1,17 @@
 -- `u64::get` meets its contract: these are the eight bytes at the place. Assumes nothing.
+use mathlib.Core.Path.{◌≡◌, sym, ap, ◌∙◌}
+use mathlib.Core.Bool.{true}
 use native.Mathlib.Omega.{arith}
-use Rattle.refusal.specs.BigEndian.{big_endian_of}
+use borrow.Author.Tests.{leb-true}
+use lib.ListN.{length}
+use Rattle.std.specs.Prelude.{◌+◌, Some}
+use Rattle.refusal.specs.BigEndian.{big_endian_of, fits}
 use Rattle.refusal.proofs.Places.{eight-there}
 use Rattle.refusal.proofs.big_endian.U64BigEndian.get.Goals as goal
 
-pub returns : goal.returns
+pub returns-then-fits_at : goal.returns-then-fits_at
 unfolding big_endian_of
-returns c =
+returns-then-fits_at c =
     let a = c.args in
-    rw (eight-there a.at a.text.now (omega arith)) (omega arith)
+    let there : fits 8 a.text.now a.at ≡ true = sym c.fits_at.ensures ∙ c.if-fits_at.true in
+    rw (there, eight-there a.at a.text.now (leb-true (a.at + 8) (length a.text.now) there)) (ap Some (omega arith))
