@@ -1,7 +1,8 @@
 -- The laws of the digits at a place of a text. Assumes nothing.
-use Rattle.std.proofs.Common.{◌≡◌, refl, ◌∙◌, Bool, true, false, cond, List, ℕ, suc, ◌+◌, ◌*◌, ◌-◌, ◌<◌, ◌≤◌, min, arith, add-one, ltb, length, get_or, drop, drop_of_length-le}
+use Rattle.std.proofs.Common.{◌≡◌, refl, ◌∙◌, Bool, true, false, cond, List, [], ◌∷◌, ℕ, suc, ◌+◌, ◌*◌, ◌-◌, ◌<◌, ◌≤◌, min, arith, add-one, ltb, length, get_or, drop, drop_of_length-le}
 use lib.Seq.{drop-cons}
 use borrow.Author.Tests.{lt-ltb, le-ltb, ltb-true, ltb-false}
+use Rattle.refusal.proofs.Cases.{by-test}
 use Rattle.bencode_scalar.specs.Reading.{is_digit, digits_val, digits_len}
 
 abbrev pub cap : ℕ
@@ -61,6 +62,12 @@ module _ (s : List ℕ) (at : ℕ) where
   pub passing-end : {i : ℕ} → Passing s at i → length s ≤ i → i ≡ at + digits_len (drop at s)
   passing-end {i} w h = omega (arith, w.place, len-end s i h)
 
+-- digits that follow make no number less
+digits-least : (n : ℕ) (l : List ℕ) → n ≤ digits_val n l
+unfolding digits_val
+digits-least n [] = omega arith
+digits-least n (b ∷ t) = by-test (λ (m : ℕ). n ≤ m) (is_digit b) (λ e. omega (arith, digits-least (n * 10 + (b - 48)) t)) (λ e. omega arith)
+
 -- the same, added up as far as the cap
 pub record Reading (s : List ℕ) (at acc i value : ℕ) : Type 0 where
   pub passed : Passing s at i
@@ -88,6 +95,11 @@ module _ (s : List ℕ) (at acc : ℕ) where
   pub reading-stop : {i v : ℕ} → Reading s at acc i v → i < length s → is_digit (get_or s i 0) ≡ false
       → (v ≡ min (digits_val acc (drop at s)) cap) × (i ≡ at + digits_len (drop at s))
   reading-stop {i} {v} r h d = (omega (arith, r.capped, r.same, val-stop s i r.true-value h d), passing-stop s at r.passed h d)
+
+  -- what is read is enough, and the run goes on
+  pub reading-enough : {i v r : ℕ} → Reading s at acc i v → cap ≤ v → r ≡ i + digits_len (drop i s)
+      → (v ≡ min (digits_val acc (drop at s)) cap) × (r ≡ at + digits_len (drop at s))
+  reading-enough {i} {v} {r} w l e = (omega (arith, w.capped, w.same, digits-least w.true-value (drop i s)), omega (arith, w.passed.place, e))
 
   pub reading-end : {i v : ℕ} → Reading s at acc i v → length s ≤ i
       → (v ≡ min (digits_val acc (drop at s)) cap) × (i ≡ at + digits_len (drop at s))

@@ -1,5 +1,5 @@
 -- What the definitions of strings and integers come to at a place p of a text s, case by case as the code meets them. Assumes nothing.
-use Rattle.std.proofs.Common.{Option, Some, None, Result, Ok, Err, IsErrAnd, ◌≡◌, refl, sym, ap, ◌∙◌, Bool, true, false, List, [], ◌∷◌, ℕ, zero, suc, ◌+◌, ◌-◌, ◌<◌, ◌≤◌, ◌^◌, min, pred, ℤ, pos, negsuc, ◌-ℤ◌, length, get_or, drop, arith, add-one, w64, drop_of_length-le, SFits}
+use Rattle.std.proofs.Common.{Option, Some, None, Result, Ok, Err, IsErrAnd, ◌≡◌, refl, sym, ap, ◌∙◌, Bool, true, false, List, [], ◌∷◌, ℕ, zero, suc, ◌+◌, ◌-◌, ◌<◌, ◌≤◌, ◌^◌, min, pred, ℤ, pos, negsuc, ◌-ℤ◌, length, get_or, drop, arith, add-one, ltb, w64, drop_of_length-le, SFits}
 use Rattle.std.specs.Option.{SomeIff, MatchOption}
 use lib.Seq.{drop-cons, drop-drop}
 use borrow.Author.Tests.{lt-ltb, le-ltb, le-leb, lt-leb, ne_eqb}
@@ -112,7 +112,24 @@ module _ (n v q : ℕ) (h : v ≡ min n cap) where
   plus-said = less-or v (2 ^ 63) (λ k. let e : 0 + v ≡ n = omega arith in rw e)
       (λ k. rw (le-ltb (0 + v) (2 ^ 63) (omega arith), le-ltb n (2 ^ 63) (omega arith)))
 
+  pub plus-fits : v < 2 ^ 63 → (n ≡ v) × (ltb n (2 ^ 63) ≡ true)
+  plus-fits k = (omega arith, lt-ltb n (2 ^ 63) (omega arith))
+
+  pub plus-large : 2 ^ 63 ≤ v → ltb n (2 ^ 63) ≡ false
+  plus-large k = le-ltb n (2 ^ 63) (omega arith)
+
+  pub minus-fits : 1 ≤ v → v - 1 < 2 ^ 63 → (pred n ≡ v - 1) × (ltb (pred n) (2 ^ 63) ≡ true)
+  minus-fits m k = (omega arith, lt-ltb (pred n) (2 ^ 63) (omega arith))
+
+  pub minus-large : 1 ≤ v → 2 ^ 63 ≤ v - 1 → ltb (pred n) (2 ^ 63) ≡ false
+  minus-large m k = le-ltb (pred n) (2 ^ 63) (omega arith)
+
   pub minus-said : 1 ≤ v → integer_is (got (pos 0 -ℤ pos v) [] q 0) ≡ integer_is (got (negsuc (pred n)) [] q 0)
   minus-said m = rw (zero_less v m)
       (less-or v (2 ^ 63 + 1) (λ k. let e : v ≡ n = omega arith in rw e)
       (λ k. rw (le-ltb (pred v) (2 ^ 63) (omega arith), le-ltb (pred n) (2 ^ 63) (omega arith))))
+
+-- minus one, less k
+pub one_less : (k : ℕ) → negsuc 0 -ℤ pos k ≡ negsuc k
+one_less zero = refl
+one_less (suc m) = let e : suc (0 + m) ≡ suc m = omega arith in ap negsuc e

@@ -1,5 +1,5 @@
 -- The order of keys is strict and total. Assumes nothing.
-use Rattle.std.proofs.Common.{◌≡◌, refl, sym, ◌∙◌, true, false, List, [], ◌∷◌, ℕ, ◌<◌, ◌≤◌, arith}
+use Rattle.std.proofs.Common.{◌≡◌, refl, sym, ◌∙◌, Bool, true, false, List, [], ◌∷◌, ℕ, ◌<◌, ◌≤◌, arith}
 use borrow.Author.Tests.{lt-ltb, le-ltb, eq-eqb, ne_eqb}
 use Rattle.std.specs.Ordering.{is_lt, nat_cmp}
 use Rattle.std.specs.Cmp.Lexicographic.{slice_cmp}
@@ -50,6 +50,14 @@ key-less (t ∷ a) (u ∷ b) (v ∷ c) x y =
     (λ h. let e = first_more t u a b h in no_way (cc))
     (λ h. by_bytes u v (λ k. first-less t v a c (omega arith)) (λ k. let e = first_more u v b c k in no_way (cc))
     (λ k. first-same t v a c (h ∙ k) ∙ key-less a b c (sym (first-same t u a b h) ∙ x) (sym (first-same u v b c k) ∙ y)))
+
+-- one before the other: not the other way round
+pub key-not : (a b : List ℕ) → key_lt a b ≡ true → key_lt b a ≡ false
+key-not a b x = go (key_lt b a) refl
+  where
+    go : (t : Bool) → key_lt b a ≡ t → t ≡ false
+    go true e = let f = key-less a b a x e in let g = key-irreflexive a in no_way (cc)
+    go false e = refl
 
 -- the library's order of bytes is that of keys
 pub cmp-key : (a b : List ℕ) → is_lt (slice_cmp nat_cmp a b) ≡ key_lt a b

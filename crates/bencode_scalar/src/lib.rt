@@ -2,7 +2,6 @@
 #![tactic(auto)]
 
 ghost use Rattle.std.specs.Prelude.{◌≡◌, true, ℕ, ◌+◌, ◌-◌, ◌<◌, ◌≤◌, min, pred, [], pos, negsuc, Ok, length, drop};
-ghost use Rattle.std.specs.Option.{MatchOption};
 ghost use Rattle.std.specs.Result.{MatchResult};
 ghost use Rattle.refusal.specs.Numbers.{cut};
 ghost use Rattle.bencode_scalar.specs.declared.Int.TheVariants.{Is, Large};
@@ -69,7 +68,13 @@ pub fn integer(text: &[u8], at: usize) -> Result<Int, Refusal>
 pub fn precedes(a: &[u8], b: &[u8]) -> bool
     ensures { result ≡ key_lt a.now b.now }
 {
-    a.cmp(&b).is_lt()
+    for (x, y) in a.iter().zip(b) {
+        let (x, y) = (*x, *y);
+        if x != y {
+            return x < y;
+        }
+    }
+    a.len() < b.len()
 }
 
 // The byte at `at`.
@@ -123,7 +128,11 @@ fn closed(text: &[u8], b: u8, at: usize) -> Result<Run, Refusal>
 fn from_zero(run: Run) -> Int
     ensures { (n : ℕ) → run.value ≡ min n top → Ok result ≡ integer_is (got (pos n) [] run.next 0) }
 {
-    in_64_bits(0i64.checked_add_unsigned(run.value), run.next)
+    if run.value < 9223372036854775808 {
+        Int::Is(run.value as i64, run.next)
+    } else {
+        Int::Large(run.next)
+    }
 }
 
 // The integer -n of that run.
@@ -131,16 +140,11 @@ fn below_zero(run: Run) -> Int
     requires { 1 ≤ run.value }
     ensures { (n : ℕ) → run.value ≡ min n top → Ok result ≡ integer_is (got (negsuc (pred n)) [] run.next 0) }
 {
-    in_64_bits(0i64.checked_sub_unsigned(run.value), run.next)
-}
-
-// An integer by its value, if that has 64 bits.
-fn in_64_bits(z: Option<i64>, next: usize) -> Int
-    ensures { MatchOption z (result ≡ Large next) (λ z. result ≡ Is z next) }
-{
-    match z {
-        Some(z) => Int::Is(z, next),
-        None => Int::Large(next),
+    let less = run.value - 1;
+    if less < 9223372036854775808 {
+        Int::Is(-1 - less as i64, run.next)
+    } else {
+        Int::Large(run.next)
     }
 }
 
@@ -163,7 +167,7 @@ fn number_from(text: &[u8], b: u8, at: usize) -> Run
     }
 }
 
-// The run of digits from `at` on, whose first digits stand for `acc`.
+// The run of digits from `at` on, whose first digits stand for `acc`. Those past the greatest number are only passed.
 fn digits(text: &[u8], at: usize, acc: u64) -> Run
     requires { (at ≤ length text.now) × (acc < 10) }
     ensures { (result.value ≡ min (digits_val acc (drop at text.now)) top) × (result.next ≡ at + digits_len (drop at text.now)) }
@@ -174,10 +178,29 @@ fn digits(text: &[u8], at: usize, acc: u64) -> Run
         if !digit(b) {
             return Run { value, next: i };
         }
+        if value == u64::MAX {
+            return Run {
+                value,
+                next: run_end(text, i),
+            };
+        }
         value = value.saturating_mul(10).saturating_add((b - b'0') as u64);
     }
     Run {
         value,
         next: text.len(),
     }
+}
+
+// Where the run of digits from `at` on ends.
+fn run_end(text: &[u8], at: usize) -> usize
+    requires { at ≤ length text.now }
+    ensures { result ≡ at + digits_len (drop at text.now) }
+{
+    for i in at..text.len() {
+        if !digit(text[i]) {
+            return i;
+        }
+    }
+    text.len()
 }

@@ -11,6 +11,9 @@ use lib.ListN.{length, take, drop, length-append, length-drop, drop_of_length-le
 use borrow.Author.Tests.{lt-ltb, le-ltb, ltb-true, ltb-false, ne_eqb, eq-eqb}
 use Rattle.std.proofs.Common.{Less, Equal, Greater, nat_cmp}
 use Rattle.std.specs.Cmp.Lexicographic.{slice_cmp}
+use Rattle.std.proofs.lemmas.Slice.Eq.{slice_eq-Decides}
+use Rattle.std.proofs.lemmas.Bool.Decides.{Decides-eqb, not_from_Decides}
+use lib.Pointwise.{pointwise}
 use Rattle.refusal.specs.Paper.{paper, Outcome, taken, refused, refusal, then}
 use Rattle.refusal.specs.Limits.{most_text}
 use Rattle.refusal.specs.declared.Refusal.{Refusal}
@@ -18,6 +21,7 @@ use Rattle.refusal.specs.declared.Part.{Part}
 use Rattle.refusal.proofs.Cases.{no_way, by-test, less-or}
 use Rattle.bencode_scalar.specs.Written.{decimal, in_range, key_lt}
 use Rattle.bencode_scalar.specs.Reading.{Got, got, bad, string_at, integer_at}
+use Rattle.bencode_scalar.proofs.Ordering.{key-same, key-irreflexive}
 use Rattle.bencode_scalar.proofs.Sound.{Holds, at_left, TextP, string_at-sound}
 use Rattle.bencode.proofs.Complete.{encode-pos}
 use Rattle.bencode.specs.Value.{encode}
@@ -128,6 +132,22 @@ module _ (a b : List ℕ) where
       go true y g = no_way (cc)
       go false true g = (refl, refl)
       go false false g = no_way (cc)
+
+  -- as the code tells them apart: by the order of keys, and else by their bytes
+  pub before-by : key_lt a b ≡ true → Less ≡ slice_cmp nat_cmp a b
+  before-by e = sym (cmp_key a b ∙ rw e)
+
+  pub same_by : {t : Bool} → t ≡ pointwise eqb a b → t ≡ true → Equal ≡ slice_cmp nat_cmp a b
+  same_by {t} d x =
+      let e : a ≡ b = (slice_eq-Decides Decides-eqb a b t d).0 x in
+      subst (λ (k : List ℕ). Equal ≡ slice_cmp nat_cmp a k) e (sym (cmp_key a a ∙ rw (key-irreflexive a)))
+
+  pub after-by : key_lt a b ≡ false → {t : Bool} → t ≡ pointwise eqb a b → t ≡ false → Greater ≡ slice_cmp nat_cmp a b
+  after-by e {t} d x = go (key_lt b a) refl
+    where
+      go : (y : Bool) → key_lt b a ≡ y → Greater ≡ slice_cmp nat_cmp a b
+      go true f = sym (cmp_key a b ∙ rw (e, f))
+      go false f = absurd (not_from_Decides t (slice_eq-Decides Decides-eqb a b t d) x (key-same a b e f))
 
 module _ (s k : List ℕ) where
   -- one turn of the search

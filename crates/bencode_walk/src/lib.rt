@@ -11,7 +11,6 @@ ghost use Rattle.bencode_walk.specs.Walk.{seen_paper, string_seen, integer_seen,
 use bencode::Cursor;
 use bencode_scalar::Int;
 use refusal::{Part, Refusal, limit, number, refuse};
-use std::cmp::Ordering;
 
 // What stands at a place. The last number is the place past it; of a list or dictionary it is the place of the first
 // item or key, or of the e.
@@ -85,11 +84,16 @@ pub fn seek(text: &[u8], at: usize, key: &[u8]) -> Result<Sought, Refusal>
     let mut p = at;
     loop {
         match entry(text, p)? {
-            Next::Key(k, value) => match bytes(text, k).cmp(key) {
-                Ordering::Less => p = skip(text, value)?,
-                Ordering::Equal => return Ok(Sought::Found(p, value)),
-                Ordering::Greater => return Ok(Sought::Missing(p)),
-            },
+            Next::Key(k, value) => {
+                let here = bytes(text, k);
+                if bencode_scalar::precedes(here, key) {
+                    p = skip(text, value)?;
+                } else if here == key {
+                    return Ok(Sought::Found(p, value));
+                } else {
+                    return Ok(Sought::Missing(p));
+                }
+            }
             Next::Close(_) => return Ok(Sought::Missing(p)),
         }
     }

@@ -1,7 +1,12 @@
 -- `bencode_scalar::from_zero` meets its contract. Assumes nothing.
-use Rattle.std.proofs.Common.{◌∙◌}
-use Rattle.bencode_scalar.proofs.Forms.{int-said, plus-said}
+use Rattle.bencode_scalar.proofs.Forms.{plus-fits, plus-large}
+use mir.Syntax.{w64}
+use mir.ValLaws.{to_z_pos}
+use Rattle.std.proofs.Common.{sym}
 use Rattle.bencode_scalar.proofs.from_zero.Goals as goal
 
-pub returns : goal.returns
-returns c = λ n h. int-said _ _ _ _ c.checked_add_unsigned.ensures c.in_64_bits.ensures ∙ plus-said n _ _ h
+pub returns-then-run-lt9223372036854775808 : goal.returns-then-run-lt9223372036854775808
+returns-then-run-lt9223372036854775808 c = λ n h. let f = plus-fits n c.args.run.value c.args.run.next h c.if-run-lt9223372036854775808.true in rw (to_z_pos w64 c.args.run.value c.if-run-lt9223372036854775808.true, f.1, sym f.0)
+
+pub returns-else-run-lt9223372036854775808 : goal.returns-else-run-lt9223372036854775808
+returns-else-run-lt9223372036854775808 c = λ n h. rw (plus-large n c.args.run.value c.args.run.next h c.if-run-lt9223372036854775808.false)
