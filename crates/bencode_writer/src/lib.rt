@@ -115,9 +115,11 @@ fn store(out: &mut [u8], at: usize, bytes: &[u8]) -> usize
     requires { at + length bytes.now ≤ length out.old }
     ensures { Ran bytes.now at out.old result out.new }
 {
-    let end = at + bytes.len();
-    out[at..end].copy_from_slice(bytes);
-    end
+    // std's copy would ask C for memmove
+    for (i, b) in bytes.iter().enumerate() {
+        out[at + i] = *b;
+    }
+    at + bytes.len()
 }
 
 // Stores two small hex digits for each byte, and gives the place past them.

@@ -135,18 +135,19 @@ fn whole(bytes: &[u8], id: u8, n: usize) -> Frame
     }
 }
 
-// The least and the most length of a frame, for the ids 0 to 8.
-const LEASTS: [usize; 9] = [1, 1, 1, 1, 5, 2, 13, 10, 13];
-
-const MOSTS: [usize; 9] = [1, 1, 1, 1, 5, 2049, 13, 16393, 13];
-
 // Whether a frame of this id may have this length.
 fn is_allowed(id: u8, n: usize) -> bool
     ensures { result ≡ allowed id n }
 {
-    let at = usize::from(id);
-    let least = LEASTS.get(at).copied().unwrap_or(1);
-    let most = MOSTS.get(at).copied().unwrap_or(limit::FRAME);
+    let (least, most) = match id {
+        0..=3 => (1, 1),
+        4 => (5, 5),
+        5 => (2, 2049),
+        6 => (13, 13),
+        7 => (10, 16393),
+        8 => (13, 13),
+        _ => (1, limit::FRAME),
+    };
     least <= n && n <= most
 }
 
