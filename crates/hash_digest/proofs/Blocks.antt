@@ -121,7 +121,7 @@ module _ {H : Type 0} (compress : H → List ℕ → H) where
       ∙ ap (λ (x : List ℕ). hashed compress (compress h f) (x ++ g)) (rest-block f (length-take-le 64 l b))
 
   -- the last two blocks: what is left of a message of n bytes and its padding
-  last-two : (h : H) (s t : List ℕ) (n : ℕ) {g r : H} → length s ≡ n % 64 → 56 ≤ n % 64 → t ≡ filled 128 (s ++ padding n) → g ≡ compress h (take 64 t)
+  pub last-two : (h : H) (s t : List ℕ) (n : ℕ) {g r : H} → length s ≡ n % 64 → 56 ≤ n % 64 → t ≡ filled 128 (s ++ padding n) → g ≡ compress h (take 64 t)
       → r ≡ compress g (take 64 (drop 64 t)) → r ≡ hashed compress h (s ++ padding n)
   last-two h s t n l b e v q =
       let p : List ℕ = s ++ padding n in

@@ -80,7 +80,7 @@ stored-filled n l =
     stored n (take n l) h ∙ rw (length-take n l, e, take-append n l (replicate n 0), take-zeros (n - length l) n (omega arith))
 
 -- what two runs of stores leave: of a, and after it of b, as many bytes as there is room for
-gathers : (n : ℕ) (a b x y o o' : List ℕ) {i j : ℕ} → i ≡ min (length a) n → j ≡ min (length b) (n - i) → x ≡ take i a → y ≡ take j b
+pub gathers : (n : ℕ) (a b x y o o' : List ℕ) {i j : ℕ} → i ≡ min (length a) n → j ≡ min (length b) (n - i) → x ≡ take i a → y ≡ take j b
     → o ≡ sets (replicate n 0) 0 x → o' ≡ sets o i y → o' ≡ filled n (a ++ b)
 gathers n a b x y o o' {i} {j} p q s t u v =
     let k : n - i ≡ n - length a = omega arith in

@@ -14,7 +14,7 @@ use borrow.Author.Tests.{le-leb, lt-leb, lt-ltb, le-ltb}
 use Rattle.refusal.specs.Paper.{paper, Outcome, taken, refused, refusal}
 use Rattle.refusal.specs.Numbers.{range, beyond, outside, room}
 use Rattle.refusal.proofs.Outcomes.{not_taken}
-use Rattle.torrent_blocks.specs.Rules.{piece_length_of, file_count, pieces_of, total_and, largest, sum}
+use Rattle.torrent_blocks.specs.Rules.{piece_length_of, file_count, pieces_of, total_and, largest, sum, lawful}
 use Rattle.torrent_blocks.specs.Spans.{Span, FilePart, lengths, joined_files, end_of, parts_from, parts_of, held_in, nowhere}
 use Rattle.torrent_blocks.specs.Answers.{spot, place_paper, pieces, keeps, lies, size_of, block_of, byte_of, flat, Left, left, parts_written}
 use Rattle.torrent_blocks.specs.declared.Spot.{Spot}
@@ -25,6 +25,10 @@ use Rattle.torrent_blocks.proofs.Steps.{sum-parts, before-step}
 -- ---- the rules
 
 module _ (ns : List ℕ) (pl : ℕ) where
+  pub breaks-first : piece_length_of pl ≡ false → keeps (joined_files ns) pl ≡ false
+  unfolding lawful
+  breaks-first e = rw e
+
   -- what is known once the rules are kept
   pub record Known (total : ℕ) : Type 0 where
     pub law : keeps (joined_files ns) pl ≡ true

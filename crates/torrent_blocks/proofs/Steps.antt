@@ -5,7 +5,7 @@ use mathlib.Core.List.{List, [], ◌∷◌, ◌++◌}
 use Prim.Native.Nat.{ℕ, zero, suc, ◌+◌, ◌-◌, ◌^◌, ◌≤◌, ◌<◌, min, max}
 use native.Mathlib.Omega.{arith}
 use native.Mathlib.Numerals.{add-one}
-use lib.ListN.{length, get_or, take, drop}
+use lib.ListN.{length, get_or, take, drop, drop_of_length-le}
 use lib.Seq.{drop-cons, sets}
 use Rattle.refusal.proofs.Places.{sets-append}
 use Rattle.refusal.proofs.Cases.{lt-or-le}
@@ -57,13 +57,13 @@ module _ (k a n : ℕ) (ns : List ℕ) (e from to : ℕ) (q : e ≡ min (a + n) 
   unfolding parts_from joined_from
   parts-step = rw (q, capped (k + 1) (a + n) ns from to m, add-one)
 
-  parts-some : max from a < min to e
+  pub parts-some : max from a < min to e
       → parts_from k (joined_from a (n ∷ ns)) from to ≡ part k (max from a - a) (min to e - max from a) ∷ parts_from (k + 1) (joined_from e ns) from to
   parts-some g =
       let d : min to (a + n) ≡ min to e = omega arith in
       parts-step ∙ cut-some k (span a n) from to (parts_from (k + 1) (joined_from e ns) from to) (omega arith) ∙ rw d
 
-  parts_none : min to e ≤ max from a → parts_from k (joined_from a (n ∷ ns)) from to ≡ parts_from (k + 1) (joined_from e ns) from to
+  pub parts_none : min to e ≤ max from a → parts_from k (joined_from a (n ∷ ns)) from to ≡ parts_from (k + 1) (joined_from e ns) from to
   parts_none g =
       let d : min to (a + n) ≡ min to e = omega arith in
       parts-step ∙ cut-none k (span a n) from to (parts_from (k + 1) (joined_from e ns) from to) (omega arith)
@@ -120,18 +120,30 @@ few-parts k (s ∷ ss) from to =
     (λ (l : high s to ≤ low s from). omega (arith, ap length (cut-none k s from to (parts_from (suc k) ss from to) l)))
     (lt-or-le (low s from) (high s to))
 
-pub parts-fit : (f : Files) (from to : ℕ) → length (parts_in f from to) < 2 ^ 64
-parts-fit f from to = omega (arith, few-parts f.number (files_from f) from to, joined-count f.start.0 f.lengths.now, f.numbered)
+module _ (f : Files) (from to : ℕ) where
+  pub parts-few : length (parts_in f from to) ≤ length f.lengths.now
+  parts-few = omega (arith, few-parts f.number (files_from f) from to, joined-count f.start.0 f.lengths.now)
+
+  pub parts-fit : length (parts_in f from to) < 2 ^ 64
+  parts-fit = omega (arith, parts-few, f.numbered)
 
 -- ---- the total, file by file
 
-pub no-more : (t : ℕ) → t ≤ largest → t ≡ min (t + sum []) largest
+pub total-start : (l : List ℕ) (t : ℕ) → t ≡ t + sum (take 0 l)
 unfolding sum
-no-more t h = omega arith
+total-start l t = omega arith
 
-pub total-more : (t : ℕ) (ns : List ℕ) (n a b : ℕ) → a ≡ min (t + sum ns) largest → b ≡ min (a + n) largest → b ≡ min (t + sum (ns ++ (n ∷ []))) largest
+pub total-done : (l : List ℕ) (i t a : ℕ) → length l ≤ i → a ≡ t + sum (take i l) → a ≤ largest → a ≡ min (t + sum l) largest
 unfolding sum
-total-more t ns n a b e f = omega (arith, sum-append ns (n ∷ []))
+total-done l i t a h e m = let d : sum (drop i l) ≡ 0 = ap sum (drop_of_length-le l h) in omega (arith, sum-parts l i)
+
+-- a is the total with the files before number i, which has n bytes
+module _ (l : List ℕ) (i t a n : ℕ) (h : i < length l) (e : a ≡ t + sum (take i l)) (q : n ≡ get_or l i 0) where
+  pub total-next : a + n ≡ t + sum (take (i + 1) l)
+  total-next = omega (arith, before-step l i h)
+
+  pub total-past : largest < a + n → largest ≡ min (t + sum l) largest
+  total-past g = omega (arith, before-step l i h, sum-parts l (i + 1))
 
 -- ---- the output
 

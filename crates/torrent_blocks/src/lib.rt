@@ -46,8 +46,12 @@ pub fn block(
 ) -> Result<usize, Refusal>
     ensures { left (paper result) out.new ≡ parts_written (block_of (joined_files lengths.now) piece_length (spot piece.0 offset.0) count) out.old }
 {
-    // One pass over the lengths: the files before the block, then those from there on, for the total. Only the block's are
-    // read again, to count its parts and to write them. No memory is used but `out`, and nothing is written before every check.
+    // One pass over the lengths: the files before the block, those in it, those past it. Only once everything is checked
+    // those in it are read again, to write, and before that to count its parts where there may not be room. No memory is used but `out`.
+    // A piece length that is not legal is refused before any of them is read.
+    if !rules::legal_piece_length(piece_length) {
+        return Err(refuse(number::RANGE, 0));
+    }
     let from = content_offset(piece_length, piece, offset);
     let files = Files::seek(lengths, from);
     let held = held(lengths, piece_length, files.total(), piece)?;
@@ -56,12 +60,10 @@ pub fn block(
     }
     let to = ContentOffset(from.0 + count as u64);
     let parts = Parts { files, from, to };
-    let n = parts.count();
-    if out.len() / 3 < n {
+    if !parts.fit(out.len() / 3) {
         return Err(refuse(number::ROOM, 0));
     }
-    parts.write(out);
-    Ok(n)
+    Ok(parts.write(out))
 }
 
 // The piece of a file's byte and its offset there. One pass over the lengths.

@@ -123,19 +123,31 @@ impl File {
 }
 
 impl Parts<'_> {
-    ghost use Rattle.std.specs.Prelude.{◌*◌, ◌≤◌};
+    ghost use Rattle.std.specs.Prelude.{◌*◌, ◌≤◌, leb};
     ghost use Rattle.std.proofs.lemmas.List.Edits.{sets};
     ghost use Rattle.torrent_blocks.specs.Answers.{flat};
     ghost use Rattle.torrent_blocks.specs.Steps.{parts_left};
 
-    // Writes parts from the start of `out` on.
-    pub(crate) fn write(self, out: &mut [u64])
-        requires { 3 * length (parts_left self) ≤ length out.old }
-        ensures { out.new ≡ sets out.old 0 (flat (parts_left self.entry)) }
+    // Whether there is room for so many parts. They are counted only where there are more files than that.
+    pub(crate) fn fit(self, room: usize) -> bool
+        ensures { result ≡ leb (length (parts_left self.entry)) room }
     {
-        for (i, part) in self.enumerate() {
-            out[3 * i..3 * i + 3].copy_from_slice(&[part.file as u64, part.offset, part.size]);
+        self.files.lengths.len() <= room || self.count() <= room
+    }
+
+    // Writes parts from the start of `out` on, and gives how many there are.
+    pub(crate) fn write(self, out: &mut [u64]) -> usize
+        requires { 3 * length (parts_left self) ≤ length out.old }
+        ensures { (result ≡ length (parts_left self.entry)) × (out.new ≡ sets out.old 0 (flat (parts_left self.entry))) }
+    {
+        let mut n = 0;
+        for part in self {
+            out[3 * n] = part.file as u64;
+            out[3 * n + 1] = part.offset;
+            out[3 * n + 2] = part.size;
+            n += 1;
         }
+        n
     }
 }
 

@@ -54,9 +54,14 @@ pub fn with_file(total: Total, n: u64) -> Total
 pub fn with_files(total: Total, lengths: &[u64]) -> Total
     ensures { result.0 ≡ min (total.0 + sum lengths.now) largest }
 {
-    lengths
-        .iter()
-        .fold(total, |total, length| with_file(total, *length))
+    let mut all = total;
+    for &n in lengths {
+        match all.0.checked_add(n) {
+            Some(sum) => all = Total(sum),
+            None => return Total(u64::MAX),
+        }
+    }
+    all
 }
 
 // How many pieces the total has; none where the piece length is 0.

@@ -1,7 +1,6 @@
 -- Names and paths: the rule for their bytes as the code tests it, and what the looks say where a value stands. Assumes nothing.
-use Rattle.std.proofs.Common.{◌≡◌, refl, sym, ap, ◌∙◌, Bool, true, false, cond, not, ◌&&◌, ◌||◌, List, [], ◌∷◌, ◌++◌, ℕ, suc, ◌+◌, ◌<◌, ◌≤◌, arith, eqb, length, take, drop, length-append}
-use mathlib.Core.Bool.{and-false}
-use Rattle.std.specs.List.{list_any}
+use Rattle.std.proofs.Common.{◌≡◌, refl, sym, ap, ◌∙◌, Bool, true, false, cond, not, ◌&&◌, List, [], ◌∷◌, ◌++◌, ℕ, suc, ◌+◌, ◌<◌, ◌≤◌, arith, eqb, length, take, drop, length-append}
+use Rattle.std.specs.List.{list_all}
 use Rattle.refusal.specs.Paper.{Outcome, taken, refused, then, map}
 use Rattle.refusal.specs.declared.Part.{Part}
 pub use Rattle.refusal.proofs.Cases.{no_way}
@@ -35,20 +34,17 @@ not-then f g {r} {i} o e = ap (λ x. then x g) (not_taken f r i o e)
 
 -- ---- the bytes of a name
 
-pub clean-by : (s : List ℕ) → (not (list_any (λ y. eqb y 47) s) && not (list_any (λ y. eqb y 0) s)) ≡ clean s
+pub clean-by : (s : List ℕ) → list_all (λ y. not (eqb y 47) && not (eqb y 0)) s ≡ clean s
 unfolding clean
 clean-by [] = refl
 clean-by (b ∷ t) = go (clean-by t) (eqb b 47) (eqb b 0)
   where
     A : Bool
-    A = list_any (λ y. eqb y 47) t
+    A = list_all (λ y. not (eqb y 47) && not (eqb y 0)) t
 
-    B : Bool
-    B = list_any (λ y. eqb y 0) t
-
-    go : (not A && not B) ≡ clean t → (x y : Bool) → (not (x || A) && not (y || B)) ≡ cond x false (cond y false (clean t))
+    go : A ≡ clean t → (x y : Bool) → ((not x && not y) && A) ≡ cond x false (cond y false (clean t))
     go e true y = refl
-    go e false true = and-false (not A)
+    go e false true = refl
     go e false false = e
 
 -- ---- a name that stands at p

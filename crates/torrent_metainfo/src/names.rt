@@ -78,5 +78,5 @@ fn is_special(name: &[u8]) -> bool
 fn is_clean(name: &[u8]) -> bool
     ensures { result ≡ clean name.now }
 {
-    !name.contains(&b'/') && !name.contains(&0)
+    name.iter().all(|b| *b != b'/' && *b != 0)
 }

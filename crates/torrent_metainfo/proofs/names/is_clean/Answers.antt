@@ -1,14 +1,12 @@
 -- `torrent_metainfo::names::is_clean` meets its contract. Assumes nothing.
-use Rattle.std.proofs.Common.{ap, not, ◌∙◌}
+use Rattle.std.proofs.Common.{◌&&◌, ◌∙◌, eqb, not, rules, tests}
+use Rattle.std.proofs.lemmas.Iterator.{YieldsList-from_slice}
+use Rattle.std.proofs.lemmas.Iterator.Search.{all_from_yields_List}
 use Rattle.torrent_metainfo.proofs.Naming.{clean-by}
 use Rattle.torrent_metainfo.proofs.names.is_clean.Goals as goal
 
-pub returns-then-not-contains : goal.returns-then-not-contains
-returns-then-not-contains c =
-    let e = clean-by c.args.name.now in
-    ap not c.contains-then-not-contains.ensures.value ∙ (rw (← c.contains.ensures.value, c.if-not-contains.true) at e)
-
-pub returns-else-not-contains : goal.returns-else-not-contains
-returns-else-not-contains c =
-    let e = clean-by c.args.name.now in
-    ap not c.if-not-contains.false ∙ (rw (← c.contains.ensures.value, c.if-not-contains.false) at e)
+pub returns : goal.returns
+returns c =
+    let s = c.args.name.now in
+    all_from_yields_List (λ y. not (eqb y 47) && not (eqb y 0)) _ _ c.all.result c.all.ensures.ran (YieldsList-from_slice s cc) (λ x b q k. search (rules, tests))
+    ∙ clean-by s

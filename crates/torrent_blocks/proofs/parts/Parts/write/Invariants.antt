@@ -5,9 +5,10 @@ use Rattle.torrent_blocks.specs.Answers.{flat}
 use Rattle.torrent_blocks.specs.Steps.{parts_left}
 use Rattle.torrent_blocks.proofs.parts.Parts.write.Given as goal
 
-abbrev pub invariant-loop-i : goal.invariant-loop-i
-invariant-loop-i l =
+abbrev pub invariant-loop-part : goal.invariant-loop-part
+invariant-loop-part l =
     record {
-      room : 3 * l.i-iterator.count + 3 * length (parts_left l.i-iterator.iter) ≤ length l.out;
-      same : sets l.out (3 * l.i-iterator.count) (flat (parts_left l.i-iterator.iter)) ≡ sets l.fn.out 0 (flat (parts_left l.fn.self));
+      count : l.n + length (parts_left l.part-iterator) ≡ length (parts_left l.fn.self);
+      room : 3 * l.n + 3 * length (parts_left l.part-iterator) ≤ length l.out;
+      same : sets l.out (3 * l.n) (flat (parts_left l.part-iterator)) ≡ sets l.fn.out 0 (flat (parts_left l.fn.self));
     }
