@@ -16,7 +16,7 @@ use Rattle.yard_tables.specs.Tables.{Yard, Said, listed, unchoked, Around, Turn,
 use Rattle.yard_tables.specs.Counting.{each}
 use Rattle.yard_tables.specs.Frames.{feed_of}
 use Rattle.yard_tables.specs.Ranks.{ranked, free_of, turned, mark_step}
-use Rattle.yard_tables.specs.Rounds.{misplaced, round_of}
+use Rattle.yard_tables.specs.Rounds.{misplaced}
 use Rattle.yard_tables.specs.Seating.{start_of, lowest_free, sit_of, leave_of, mark_of}
 use Rattle.yard_tables.specs.Looks.{page_of, lines_of, scarcest_of, seat_of, has_of, count_of}
 use Rattle.yard_tables.specs.Step.{Call, start, sit, leave, feed, choke, interest, missing, scarcest, look, has, count, round, step, choke_frame, interest_frame, if_taken, writes, written}
@@ -75,26 +75,36 @@ module _ (h : Head) (seats : List Seat) (rows holders : List ℕ) where
       ∙ ap {B = Out} (λ (x : Turn). record { answer = x.answer; yard = yard_of x.after.head (set seats i x.after.seat) x.after.rows x.after.holders })
       (t ∙ ap (λ (x : Seat). f (length seats) (around h x rows holders)) e)
 
-  pub start_is : (p l m : ℕ) (rows' holders' : List ℕ) (r : Result Head Refusal) (n : ℕ)
-      → ((ss : List Seat) → length ss ≡ length seats → begun r h ss rows' holders' ≡ start_of p l m (yard_of h ss rows holders))
-      → n ≡ code_of (begun r h seats rows' holders').answer
-      → Steps (step (start p l m) Y) n (begun r h seats rows' holders').yard
-  unfolding step
-  start_is p l m rows' holders' r n e k = (k ∙ ap (λ (x : Out). code_of x.answer) (e seats refl), ap (λ (x : Out). x.yard) (e seats refl))
-
   -- a start that is not refused clears the seats
   pub start-done : (p l m : ℕ) (seats' : List Seat) (rows' holders' : List ℕ) (g : Head)
-      → ((h : Head) (ss : List Seat) → length ss ≡ length seats → begun (Ok g) h ss rows' holders' ≡ start_of p l m (yard_of h ss rows holders))
+      → ((ss : List Seat) → length ss ≡ length seats → begun (Ok g) h ss rows' holders' ≡ start_of p l m (yard_of h ss rows holders))
       → seats' ≡ replicate (length seats) cleared → Steps (step (start p l m) Y) 0 (yard_of g seats' rows' holders')
   unfolding step
   start-done p l m seats' rows' holders' g e b =
-      stepped (start_of p l m Y) (Ok Done) (yard_of g seats' rows' holders') (ap (λ (x : List Seat). out (Ok Done) g x rows' holders') b ∙ e h seats refl) 0 refl
+      stepped (start_of p l m Y) (Ok Done) (yard_of g seats' rows' holders') (ap (λ (x : List Seat). out (Ok Done) g x rows' holders') b ∙ e seats refl) 0 refl
 
   pub start-refused : (p l m : ℕ) (rows' holders' : List ℕ) (r : Refusal)
-      → ((h : Head) (ss : List Seat) → length ss ≡ length seats → begun (Err r) h ss rows' holders' ≡ start_of p l m (yard_of h ss rows holders))
+      → ((ss : List Seat) → length ss ≡ length seats → begun (Err r) h ss rows' holders' ≡ start_of p l m (yard_of h ss rows holders))
       → Steps (step (start p l m) Y) r.number (yard_of h seats rows' holders')
   unfolding step
-  start-refused p l m rows' holders' r e = stepped (start_of p l m Y) (Err r) (yard_of h seats rows' holders') (e h seats refl) r.number refl
+  start-refused p l m rows' holders' r e = stepped (start_of p l m Y) (Err r) (yard_of h seats rows' holders') (e seats refl) r.number refl
+
+  -- the head and the seats that a start leaves
+  abbrev head_left : Result Head Refusal → Head
+  head_left (Ok g) = g
+  head_left (Err r) = h
+
+  abbrev seats_left : Result Head Refusal → List Seat
+  seats_left (Ok g) = replicate (length seats) cleared
+  seats_left (Err r) = seats
+
+  pub start_is : (p l m : ℕ) (seats' : List Seat) (rows' holders' : List ℕ) (r : Result Head Refusal) (n : ℕ)
+      → ((ss : List Seat) → length ss ≡ length seats → begun r h ss rows' holders' ≡ start_of p l m (yard_of h ss rows holders))
+      → seats' ≡ seats_left r → n ≡ code_of (begun r h seats rows' holders').answer
+      → Steps (step (start p l m) Y) n (yard_of (head_left r) seats' rows' holders')
+  start_is p l m seats' rows' holders' (Ok g) n e b k = let (a, y) = start-done p l m seats' rows' holders' g e b in (k ∙ a, y)
+  start_is p l m seats' rows' holders' (Err r) n e b k =
+      let (a, y) = start-refused p l m rows' holders' r e in (k ∙ a, ap (λ (x : List Seat). yard_of h x rows' holders') b ∙ y)
 
   pub sit-is : (was : Told) (seats' : List Seat) (rows' : List ℕ) (i : ℕ) (s : Seat) (r : Stepped) (t : Told) (n : ℕ)
       → i ≡ lowest_free seats → s ≡ get_or seats i cleared → turn r rows' holders ≡ sit_of i (length seats) (around h s rows holders)
@@ -162,15 +172,17 @@ module _ (h : Head) (seats : List Seat) (rows holders : List ℕ) where
   refused-by true false k z e = no_way (cc)
   refused-by false m k z e = let q : k ≡ sizes = cc in ap no q
 
-  sound-by : (f m : Bool) → None ≡ cond f (cond m (Some damaged) None) (Some sizes) → (f ≡ true) × (m ≡ false)
-  sound-by true true e = no_way (cc)
-  sound-by true false e = (refl, refl)
-  sound-by false m e = no_way (cc)
+  done-by : (f m : Bool) (z : Out) → None ≡ cond f (cond m (Some damaged) None) (Some sizes) → z ≡ cond f (cond m (no damaged) z) (no sizes)
+  done-by true true z e = no_way (cc)
+  done-by true false z e = refl
+  done-by false m z e = no_way (cc)
 
   pub round-refused : (was : Told) (k : ℕ) → Some k ≡ round_fault h (length seats) (length rows) (length holders) → Tells (step round Y) was k was Y
-  unfolding step round_of
+  unfolding step
   round-refused was k e =
-      told (step round Y) (Err (record { place = 0; number = k })) Y (refused-by (sizes_fit h (length seats) (length rows) (length holders)) (misplaced h (length seats)) k _ e) was was k refl refl
+      told (step round Y) (Err (record { place = 0; number = k })) Y
+      (refused-by (sizes_fit h (length seats) (length rows) (length holders)) (misplaced h (length seats)) k _ e ∙ round-turns h seats rows holders)
+      was was k refl refl
 
   pub round-done : (was : Told) (seats' : List Seat) (ranking : Ranking) (free : ℕ) (holder : Seat) (r : Turned) (t : Told) (n : ℕ)
       → None ≡ round_fault h (length seats) (length rows) (length holders) → ranking ≡ ranked h.last seats → free ≡ free_of h ranking → holder ≡ get_or seats free cleared
@@ -179,7 +191,6 @@ module _ (h : Head) (seats : List Seat) (rows holders : List ℕ) where
       → Tells (step round Y) was n t (yard_of r.head seats' rows holders)
   unfolding step
   round-done was seats' ranking free holder r t n e k f s m b g c =
-      let (q, p) = sound-by (sizes_fit h (length seats) (length rows) (length holders)) (misplaced h (length seats)) e in
       let left : Turned → Out = λ (x : Turned). out (Ok (Unchoked x.unchoked)) x.head (each (λ i s. mark_step x.marks s i) seats) rows holders in
       told (step round Y) (Ok (Unchoked r.unchoked)) (yard_of r.head seats' rows holders)
       (ap (λ (l : List Seat). out (Ok (Unchoked r.unchoked)) r.head l rows holders) b
@@ -188,7 +199,8 @@ module _ (h : Head) (seats : List Seat) (rows holders : List ℕ) where
       ∙ ap (λ (x : Seat). turned h ranking free x) s
       ∙ ap (λ (j : ℕ). turned h ranking j (get_or seats j cleared)) f
       ∙ ap (λ (x : Ranking). turned h x (free_of h x) (get_or seats (free_of h x) cleared)) k)
-      ∙ round-turns h seats rows holders q p)
+      ∙ done-by (sizes_fit h (length seats) (length rows) (length holders)) (misplaced h (length seats)) _ e
+      ∙ round-turns h seats rows holders)
       was t n g c
 
   -- ---- looks

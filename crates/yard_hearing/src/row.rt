@@ -31,7 +31,7 @@ pub fn check_row(
     };
     for k in 0..(pieces + 7) / 8 {
         let p = 8 * k;
-        let end = (p + 8).min(pieces);
+        let end = bits::end_of(p, pieces);
         news = check_byte(rows, said, holders, at, p, end, top, news);
     }
     news
@@ -44,7 +44,7 @@ pub fn raise_row(rows: &[u8], said: &[u8], holders: &mut [u16], at: usize, piece
 {
     for k in 0..(pieces + 7) / 8 {
         let p = 8 * k;
-        let end = (p + 8).min(pieces);
+        let end = bits::end_of(p, pieces);
         raise_byte(rows, said, holders, at, p, end);
     }
 }

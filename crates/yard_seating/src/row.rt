@@ -29,7 +29,7 @@ pub fn some_zero(rows: &[u8], holders: &[u16], at: usize, pieces: usize) -> bool
     let mut found = false;
     for k in 0..(pieces + 7) / 8 {
         let p = 8 * k;
-        let end = (p + 8).min(pieces);
+        let end = bits::end_of(p, pieces);
         found = byte_zero(rows, holders, at, p, end, found);
     }
     found
@@ -42,7 +42,7 @@ pub fn lower(rows: &[u8], holders: &mut [u16], at: usize, pieces: usize)
 {
     for k in 0..(pieces + 7) / 8 {
         let p = 8 * k;
-        let end = (p + 8).min(pieces);
+        let end = bits::end_of(p, pieces);
         lower_byte(rows, holders, at, p, end);
     }
 }

@@ -10,7 +10,8 @@ use borrow.Author.Tests.{ltb-false, leb-false, eqb-true, eq-eqb, ne_eqb}
 use lib.Dec.{eqb, ltb, leb}
 use lib.ListN.{length, get_or, get_or-eq_default}
 use Rattle.refusal.proofs.Cases.{cannot, less-or, by_bool, by-test, both, or_left, or_right}
-use Rattle.refusal.specs.Paper.{taken}
+use Rattle.refusal.specs.Numbers.{sizes, damaged}
+use Rattle.refusal.specs.Paper.{taken, refused}
 use Rattle.yard_tables.specs.Counting.{bit, count, some, each}
 use Rattle.yard_tables.specs.Seats.{on, cleared, placed}
 use Rattle.yard_tables.specs.Tables.{Out, unchoked, yard_of, sizes_fit}
@@ -129,6 +130,9 @@ module _ (h : Head) (seats : List Seat) (rows holders : List ℕ) where
   abbrev leaving : ℕ → Head → List Seat → Out
   leaving k head l = record { answer = taken (unchoked k); yard = yard_of head l rows holders }
 
+  abbrev refusing : ℕ → Out
+  refusing k = record { answer = refused k 0; yard = yard_of h seats rows holders }
+
   leaving-same : {k k' : ℕ} {g g' : Head} {l l' : List Seat} → k ≡ k' → g ≡ g' → l ≡ l' → leaving k g l ≡ leaving k' g' l'
   leaving-same p q r = rw (p, q, r)
 
@@ -157,12 +161,16 @@ module _ (h : Head) (seats : List Seat) (rows holders : List ℕ) where
             (λ q. let f : leb (length seats) h.free ≡ false = rw q at c in omega (arith, leb-false (length seats) h.free f)),
       )
 
-  -- the head, the marks and the count of the passes, where the tables are sound: the round as defined
-  pub round-turns : sizes_fit h (length seats) (length rows) (length holders) ≡ true → misplaced h (length seats) ≡ false
-      → let r : Ranking = ranked h.last seats in let f : ℕ = free_of h r in let t : Turned = turned h r f (get_or seats f cleared) in
-      leaving t.unchoked t.head (each (λ i s. mark_step t.marks s i) seats) ≡ round_of (yard_of h seats rows holders)
+  -- of any tables: a refusal, which leaves all as it was, or the head, the marks and the count of the passes are the round as defined
+  pub round-turns : let r : Ranking = ranked h.last seats in let f : ℕ = free_of h r in let t : Turned = turned h r f (get_or seats f cleared) in
+      cond (sizes_fit h (length seats) (length rows) (length holders))
+      (cond (misplaced h (length seats)) (refusing damaged) (leaving t.unchoked t.head (each (λ i s. mark_step t.marks s i) seats)))
+      (refusing sizes)
+      ≡ round_of (yard_of h seats rows holders)
   unfolding round_of
-  round-turns q m =
-      let few : length seats ≤ nobody = omega (arith, (fitting h (length seats) (length rows) (length holders) q).seats) in
-      let w = well-placed few m in
-      rw (q, m) (taken-turn few w.0 w.1 w.2)
+  round-turns = by_bool (sizes_fit h (length seats) (length rows) (length holders))
+      (λ q. let few : length seats ≤ nobody = omega (arith, (fitting h (length seats) (length rows) (length holders) q).seats) in
+      by_bool (misplaced h (length seats))
+      (λ m. rw (q, m))
+      (λ m. let w = well-placed few m in rw (q, m) (taken-turn few w.0 w.1 w.2)))
+      (λ q. rw q)

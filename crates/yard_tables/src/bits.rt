@@ -20,5 +20,8 @@ pub fn mask(p: usize) -> u8
 pub fn end_of(p: usize, pieces: usize) -> usize
     ensures { result ≡ min (p + 8) pieces }
 {
-    p.saturating_add(8).min(pieces)
+    if pieces <= p.saturating_add(8) {
+        return pieces;
+    }
+    p + 8
 }

@@ -36,6 +36,7 @@ pub fn tell(a: Result<Answer, Refusal>, was: Told) -> Told
     ensures { result ≡ told_of (paper a) was }
 {
     match a {
+        Err(_) => was,
         Ok(Answer::Serve(n)) => heard(n as u64, 1),
         Ok(Answer::Dropped(n)) => heard(n as u64, 2),
         Ok(Answer::Listed(p)) => page(p),

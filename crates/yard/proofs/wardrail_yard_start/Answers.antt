@@ -1,9 +1,15 @@
 -- `wardrail_yard_start` meets its contract: what it calls joins to the call on the whole yard. Assumes nothing.
-use Rattle.yard.proofs.Calls.{start-done, start-refused}
+use Rattle.std.specs.Prelude.{Ok, Err}
+use Rattle.std.proofs.Common.{refl}
+use Rattle.yard.proofs.Calls.{start_is}
 use Rattle.yard.proofs.wardrail_yard_start.Goals as goal
 
 pub returns-in-Ok : goal.returns-in-Ok
-returns-in-Ok c = start-done c.args.head.now c.args.seats.now c.args.rows.now c.args.holders.now c.args.pieces c.args.piece_length c.args.last_length c.clear_seats.new.seats c.start_step.new.rows c.start_step.new.holders c.in-Ok.begun c.in-Ok.ensures c.clear_seats.ensures
+returns-in-Ok c =
+    let a = c.args in
+    start_is a.head.now a.seats.now a.rows.now a.holders.now a.pieces a.piece_length a.last_length c.clear_seats.new.seats c.start_step.new.rows c.start_step.new.holders (Ok c.in-Ok.begun) 0 (c.in-Ok.ensures a.head.now) c.clear_seats.ensures refl
 
 pub returns-in-Err : goal.returns-in-Err
-returns-in-Err c = start-refused c.args.head.now c.args.seats.now c.args.rows.now c.args.holders.now c.args.pieces c.args.piece_length c.args.last_length c.start_step.new.rows c.start_step.new.holders c.in-Err.r c.in-Err.ensures
+returns-in-Err c =
+    let a = c.args in
+    start_is a.head.now a.seats.now a.rows.now a.holders.now a.pieces a.piece_length a.last_length a.seats.now c.start_step.new.rows c.start_step.new.holders (Err c.in-Err.r) c.in-Err.r.number (c.in-Err.ensures a.head.now) refl refl

@@ -19,7 +19,7 @@ check_byte-news-requires c =
 pub loop-k-preserved : goal.loop-k-preserved
 loop-k-preserved c =
     let a = c.args in
-    let e : c.min-end.result ≡ min (8 * (c.loop-k.k + 1)) a.pieces = omega arith in
+    let e : c.end_of-end.result ≡ min (8 * (c.loop-k.k + 1)) a.pieces = omega arith in
     c.check_byte-news.ensures ∙ ap (checked a.rows.now a.at a.said.now a.holders.now a.top) e
 
 pub returns : goal.returns

@@ -17,7 +17,7 @@ pub loop-k-preserved : goal.loop-k-preserved
 loop-k-preserved c =
     let a = c.args in
     let d : min (8 * c.loop-k.k) a.pieces ≡ 8 * c.loop-k.k = omega arith in
-    let e : c.min-end.result ≡ min (8 * (c.loop-k.k + 1)) a.pieces = omega arith in
+    let e : c.end_of-end.result ≡ min (8 * (c.loop-k.k + 1)) a.pieces = omega arith in
     let h = c.lower_byte.ensures a.holders.now (c.loop-k.invariant.1 ∙ ap (λ (x : ℕ). lowered a.rows.now a.at x a.holders.now) d) in
     (ap length h ∙ lowered-len a.rows.now a.at _ a.holders.now, h ∙ ap (λ (x : ℕ). lowered a.rows.now a.at x a.holders.now) e)
 

@@ -16,7 +16,7 @@ byte_zero-found-requires c =
 
 pub loop-k-preserved : goal.loop-k-preserved
 loop-k-preserved c =
-    let e : c.min-end.result ≡ min (8 * (c.loop-k.k + 1)) c.args.pieces = omega arith in
+    let e : c.end_of-end.result ≡ min (8 * (c.loop-k.k + 1)) c.args.pieces = omega arith in
     c.byte_zero-found.ensures ∙ ap (some_zero c.args.rows.now c.args.at c.args.holders.now) e
 
 pub returns : goal.returns
