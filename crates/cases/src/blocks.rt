@@ -9,24 +9,24 @@ use torrent_blocks::{PieceNumber, PieceOffset};
 // What the lent output holds before each call.
 const MARK: u64 = 77;
 
-// So many numbers are 1,025 parts, and two numbers more.
-const MOST: usize = 3077;
+// So many numbers are 1,025 parts, one more than a torrent may have files.
+const MOST: usize = 3075;
 
 pub fn block(output: Stdout, line: Line) {
     let mut lengths = [0u64; LISTED];
     let lengths = line.list(2, &mut lengths);
     let mut space = [MARK; MOST];
-    within(output, line, lengths, &mut space[..room(line.word(6))]);
+    within(output, line, lengths, &mut space);
 }
 
-fn within(output: Stdout, line: Line, lengths: &[u64], space: &mut [u64]) {
+fn within(output: Stdout, line: Line, lengths: &[u64], space: &mut [u64; MOST]) {
     let found = torrent_blocks::block(
         lengths,
         line.number(1),
         PieceNumber(line.small(3)),
         PieceOffset(line.small(4)),
         line.small(5),
-        space,
+        &mut space[..room(line.word(6))],
     );
     match found {
         Ok(count) => parts(output, space, count),
@@ -37,13 +37,16 @@ fn within(output: Stdout, line: Line, lengths: &[u64], space: &mut [u64]) {
     }
 }
 
-// So many parts, or `1+2` for one and two numbers more, in numbers: no more than a torrent has files, and one.
+// So many parts, or `1+2` for one and two numbers more, in numbers.
 fn room(word: &[u8]) -> usize
     ensures { result ≤ MOST }
 {
-    let mut numbers = word.split(|b| *b == b'+').map(value);
-    let parts = numbers.next().unwrap_or(0).min(1025);
+    let mut numbers = word.splitn(2, |b| *b == b'+').map(value);
+    let parts = numbers.next().unwrap_or(0);
     let more = numbers.next().unwrap_or(0);
+    if 1024 < parts {
+        return MOST;
+    }
     (parts * 3 + more % 3) as usize
 }
 

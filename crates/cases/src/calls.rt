@@ -5,28 +5,30 @@ use crate::{
 };
 use std::io::Stdout;
 
-// A remark, or a call, or `sum` and a call.
+// A remark, or a call, or `sum` and a call: no other call has a u second, and none has under four bytes.
 pub fn answer(output: Stdout, line: Line, room: &mut [u8]) {
-    if line.text.is_empty() || line.text.starts_with(b"#") {
+    if line.text.len() < 4 || line.text.starts_with(b"#") {
         return;
     }
-    match line.text.strip_prefix(b"sum ") {
-        Some(text) => ask(output, Line { text }, room, true),
-        None => ask(output, line, room, false),
+    match line.text {
+        [_, b'u', _, _, text @ ..] => ask(output, Line { text }, room, true),
+        _ => ask(output, line, room, false),
     }
     report::say(output, b"\n");
 }
 
 fn ask(output: Stdout, line: Line, room: &mut [u8], brief: bool) {
-    let name = line.word(0);
-    if name.starts_with(b"write-") {
-        return writers::ask(output, line, room, brief);
-    }
-    match name {
+    match line.word(0) {
         b"block" => blocks::block(output, line),
         b"byte" => blocks::byte(output, line),
         b"size" => blocks::size(output, line),
         b"link" => magnets::link(output, line, room),
+        b"write-torrent"
+        | b"write-reply"
+        | b"write-handshake"
+        | b"write-frame"
+        | b"write-link"
+        | b"write-week" => writers::ask(output, line, room, brief),
         _ => read(output, line, room),
     }
 }

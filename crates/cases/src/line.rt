@@ -1,5 +1,5 @@
 // A line of the script: its words, which spaces part, and what they stand for.
-ghost use Rattle.std.specs.Prelude.{◌<◌, ◌≤◌};
+ghost use Rattle.std.specs.Prelude.{◌<◌, ◌≤◌, length};
 
 // What lent output holds before each call.
 pub const MARK: u8 = 255;
@@ -35,19 +35,17 @@ impl<'a> Line<'a> {
         for part in self.word(k).split(|b| *b == b'.') {
             at = add_part(room, at, part);
         }
-        let len = at.min(room.len());
-        let (word, rest) = room.split_at_mut(len);
+        let (word, rest) = room.split_at_mut(at);
         (word, rest)
     }
 
-    // The numbers of word k, which commas part, in a lent room; `-` is none.
+    // The numbers of word k, each up to a comma or the end, in a lent room; `-` is none.
     pub fn list<'b>(self, k: usize, room: &'b mut [u64]) -> &'b [u64] {
         let mut at = 0;
-        for item in self.word(k).split(|b| *b == b',') {
+        for item in self.word(k).split_inclusive(|b| *b == b',') {
             at = add_number(room, at, item);
         }
-        let len = at.min(room.len());
-        &room[..len]
+        &room[..at]
     }
 
     // How much output word k says, but no more than `most`.
@@ -63,9 +61,15 @@ pub fn value(digits: &[u8]) -> u64 {
     digits
         .iter()
         .filter(|b| b.is_ascii_digit())
-        .fold(0u64, |n, b| {
-            n.wrapping_mul(10).wrapping_add((*b - b'0') as u64)
-        })
+        .fold(0u64, |n, b| with_digit(n, *b - b'0'))
+}
+
+// A number with one more digit, where 64 bits hold it ten times.
+fn with_digit(n: u64, digit: u8) -> u64 {
+    if n <= u64::MAX / 10 {
+        return n.wrapping_mul(10).wrapping_add(digit as u64);
+    }
+    n
 }
 
 // What stands before a star, and how many times it is meant; once where there is none.
@@ -77,8 +81,11 @@ fn times(word: &[u8]) -> (&[u8], u64) {
 }
 
 // A number, or `0*1023` for a number so many times.
-fn add_number(room: &mut [u64], at: usize, item: &[u8]) -> usize {
-    if item == b"-".as_slice() {
+fn add_number(room: &mut [u64], at: usize, item: &[u8]) -> usize
+    requires { at ≤ length room.old }
+    ensures { (at ≤ result) × (result ≤ length room.old) }
+{
+    if item.contains(&b'-') {
         return at;
     }
     let (digits, count) = times(item);
@@ -90,8 +97,11 @@ fn add_number(room: &mut [u64], at: usize, item: &[u8]) -> usize {
     to
 }
 
-fn add_part(room: &mut [u8], at: usize, part: &[u8]) -> usize {
-    if part.starts_with(b"@") {
+fn add_part(room: &mut [u8], at: usize, part: &[u8]) -> usize
+    requires { at ≤ length room.old }
+    ensures { (at ≤ result) × (result ≤ length room.old) }
+{
+    if part.contains(&b'@') {
         return add_places(room, at, value(part));
     }
     let (digits, count) = times(part);
@@ -103,7 +113,10 @@ fn add_part(room: &mut [u8], at: usize, part: &[u8]) -> usize {
 }
 
 // So many bytes, each its place modulo 251.
-fn add_places(room: &mut [u8], at: usize, count: u64) -> usize {
+fn add_places(room: &mut [u8], at: usize, count: u64) -> usize
+    requires { at ≤ length room.old }
+    ensures { (at ≤ result) × (result ≤ length room.old) }
+{
     let mut to = at;
     for _ in 0..count {
         to = put(room, to, (to % 251) as u8);
@@ -112,7 +125,10 @@ fn add_places(room: &mut [u8], at: usize, count: u64) -> usize {
 }
 
 // A byte for each two digits.
-fn add_hex(room: &mut [u8], at: usize, digits: &[u8]) -> usize {
+fn add_hex(room: &mut [u8], at: usize, digits: &[u8]) -> usize
+    requires { at ≤ length room.old }
+    ensures { (at ≤ result) × (result ≤ length room.old) }
+{
     let mut to = at;
     for pair in digits.chunks_exact(2) {
         to = put(room, to, digit(pair[0]) * 16 + digit(pair[1]));
@@ -120,8 +136,11 @@ fn add_hex(room: &mut [u8], at: usize, digits: &[u8]) -> usize {
     to
 }
 
-// Puts one at a place, and answers the place past it; past the room, nothing is put.
-fn put<T: Copy>(room: &mut [T], at: usize, x: T) -> usize {
+// Puts one at a place, and answers the place past it; where the room ends, nothing is put.
+fn put<T: Copy>(room: &mut [T], at: usize, x: T) -> usize
+    requires { at ≤ length room.old }
+    ensures { (at ≤ result) × (result ≤ length room.old) }
+{
     match room.get_mut(at) {
         Some(place) => {
             *place = x;

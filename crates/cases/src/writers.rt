@@ -1,5 +1,5 @@
 // Each writer, into as many bytes as its line says; what it does not write has to stay.
-use crate::line::{LISTED, Line, MARK, value};
+use crate::line::{Line, MARK, value};
 use crate::report;
 use crate::wire::twenty;
 use peer_wire::write;
@@ -9,6 +9,9 @@ use torrent_blocks::{PieceNumber, PieceOffset};
 
 // No output of the script is longer.
 const MOST: usize = 1048577;
+
+// Room for the lengths of a week's bodies: one more than there may be.
+const BODIES: usize = 257;
 
 pub fn ask(output: Stdout, line: Line, room: &mut [u8], brief: bool) {
     let mut out = [MARK; MOST];
@@ -23,9 +26,8 @@ fn lend(output: Stdout, line: Line, room: &mut [u8], brief: bool, out: &mut [u8;
 
 fn within(output: Stdout, line: Line, room: &mut [u8], brief: bool, out: &mut [u8]) {
     match put(line, out, room) {
-        Some(Ok(n)) => written(output, out, n, brief),
-        Some(Err(r)) => refused(output, r, out),
-        None => report::say(output, b"no call"),
+        Ok(n) => written(output, out, n, brief),
+        Err(r) => refused(output, r, out),
     }
 }
 
@@ -38,10 +40,10 @@ fn room_at(name: &[u8]) -> usize {
     }
 }
 
-fn put(line: Line, out: &mut [u8], room: &mut [u8]) -> Option<Result<usize, Refusal>> {
+fn put(line: Line, out: &mut [u8], room: &mut [u8]) -> Result<usize, Refusal> {
     let (x, rest) = line.bytes(1, room);
     let (y, rest) = line.bytes(2, rest);
-    Some(match line.word(0) {
+    match line.word(0) {
         b"write-torrent" => {
             let (pieces, _) = line.bytes(5, rest);
             torrent_authoring::write(out, x, y, line.number(3), pieces, line.number(4))
@@ -50,17 +52,16 @@ fn put(line: Line, out: &mut [u8], room: &mut [u8]) -> Option<Result<usize, Refu
         b"write-handshake" => write::handshake(out, &twenty(x), &twenty(y)),
         b"write-link" => links::write(x, out),
         b"write-week" => {
-            let mut lengths = [0u64; LISTED];
+            let mut lengths = [0u64; BODIES];
             week::write(x, line.list(2, &mut lengths), out)
         }
-        b"write-frame" => frame(out, line.word(1), y),
-        _ => return None,
-    })
+        _ => frame(out, line.word(1), y),
+    }
 }
 
 // A frame by the writer of its kind where the payload has its shape, and else by that of any frame, which alone C has.
 fn frame(out: &mut [u8], word: &[u8], payload: &[u8]) -> Result<usize, Refusal> {
-    if word == b"keepalive".as_slice() {
+    if word.contains(&b'k') {
         return write::keepalive(out);
     }
     let id = (value(word) % 256) as u8;
@@ -84,7 +85,9 @@ fn four(bytes: &[u8], at: usize) -> u32 {
 }
 
 pub fn written(output: Stdout, out: &[u8], n: usize, brief: bool) {
-    let text = out.get(..n).unwrap_or(b"");
+    let Some(text) = out.get(..n) else {
+        return;
+    };
     if brief {
         report::sum(output, text);
     } else {
