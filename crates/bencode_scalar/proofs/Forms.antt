@@ -1,16 +1,11 @@
 -- What the definitions of strings and integers come to at a place p of a text s, case by case as the code meets them. Assumes nothing.
-use Rattle.std.proofs.Common.{Option, Some, None, Result, Ok, Err, IsErrAnd, ◌≡◌, refl, sym, ap, ◌∙◌, Bool, true, false, List, [], ◌∷◌, ℕ, zero, suc, ◌+◌, ◌-◌, ◌<◌, ◌≤◌, ◌^◌, min, pred, ℤ, pos, negsuc, ◌-ℤ◌, length, get_or, drop, arith, add-one, ltb, w64, drop_of_length-le, SFits}
-use Rattle.std.specs.Option.{SomeIff, MatchOption}
+use Rattle.std.proofs.Common.{Result, Ok, Err, IsErrAnd, ◌≡◌, refl, sym, ap, ◌∙◌, Bool, true, false, List, ◌∷◌, ℕ, zero, suc, ◌+◌, ◌-◌, ◌<◌, ◌≤◌, ◌^◌, min, pred, pos, negsuc, ◌-ℤ◌, length, get_or, drop, arith, add-one, ltb, drop_of_length-le}
 use lib.Seq.{drop-cons, drop-drop}
 use borrow.Author.Tests.{lt-ltb, le-ltb, le-leb, lt-leb, ne_eqb}
 use Rattle.refusal.specs.declared.Refusal.{Refusal}
-use Rattle.refusal.proofs.Cases.{less-or}
-use Rattle.bencode_scalar.specs.declared.Int.{Int}
-use Rattle.bencode_scalar.specs.declared.Int.TheVariants.{Is, Large}
 use Rattle.refusal.specs.Numbers.{cut, byte}
 use Rattle.bencode_scalar.specs.Reading.{got, bad, is_digit, num_val, num_len, colon_of, string_of, string_at, signed_as, integer_end, closed_of, minus_at, integer_of, integer_at}
-use Rattle.bencode_scalar.specs.Written.{in_range}
-use Rattle.bencode_scalar.specs.Answers.{text_of, integer_is}
+use Rattle.bencode_scalar.specs.Answers.{text_of}
 use Rattle.bencode_scalar.specs.Steps.{ByteAt, Missing, out, other}
 use Rattle.bencode_scalar.proofs.Decimal.{cap}
 
@@ -88,30 +83,8 @@ module _ (s : List ℕ) (p n : ℕ) where
     unfolding integer_of
     int-minus k y = rw (at_byte s p 105 h x, at_byte s (p + 1) 45 k y)
 
--- none, less k
-zero_less : (k : ℕ) → 1 ≤ k → pos 0 -ℤ pos k ≡ negsuc (pred k)
-zero_less zero h = absurd (omega arith)
-zero_less (suc k) h = rw (le-leb 1 (suc k) h) (ap negsuc (omega arith))
-
--- whether an integer has 64 bits
-fits-range : (z : ℤ) → SFits w64 z → in_range z ≡ true
-fits-range (pos n) f = lt-ltb n (2 ^ 63) f.sfits
-fits-range (negsuc n) f = lt-ltb n (2 ^ 63) f.sfits
-
-not-range : (z : ℤ) → (SFits w64 z → ⊥) → in_range z ≡ false
-not-range (pos n) f = less-or n (2 ^ 63) (λ h. absurd (f (record { sfits = h }))) (λ h. le-ltb n (2 ^ 63) h)
-not-range (negsuc n) f = less-or n (2 ^ 63) (λ h. absurd (f (record { sfits = h }))) (λ h. le-ltb n (2 ^ 63) h)
-
-pub int-said : (z : ℤ) (q : ℕ) (o : Option ℤ) (r : Int) → SomeIff o (SFits w64 z) z → MatchOption o (r ≡ Large q) (λ x. r ≡ Is x q) → Ok r ≡ integer_is (got z [] q 0)
-int-said z q (Some x) r f e = rw (fits-range z f.0) (ap Ok (e ∙ rw f.1))
-int-said z q None r f e = rw (not-range z f) (ap Ok e)
-
 -- by its digits as the code read them
 module _ (n v q : ℕ) (h : v ≡ min n cap) where
-  pub plus-said : integer_is (got (pos (0 + v)) [] q 0) ≡ integer_is (got (pos n) [] q 0)
-  plus-said = less-or v (2 ^ 63) (λ k. let e : 0 + v ≡ n = omega arith in rw e)
-      (λ k. rw (le-ltb (0 + v) (2 ^ 63) (omega arith), le-ltb n (2 ^ 63) (omega arith)))
-
   pub plus-fits : v < 2 ^ 63 → (n ≡ v) × (ltb n (2 ^ 63) ≡ true)
   plus-fits k = (omega arith, lt-ltb n (2 ^ 63) (omega arith))
 
@@ -123,11 +96,6 @@ module _ (n v q : ℕ) (h : v ≡ min n cap) where
 
   pub minus-large : 1 ≤ v → 2 ^ 63 ≤ v - 1 → ltb (pred n) (2 ^ 63) ≡ false
   minus-large m k = le-ltb (pred n) (2 ^ 63) (omega arith)
-
-  pub minus-said : 1 ≤ v → integer_is (got (pos 0 -ℤ pos v) [] q 0) ≡ integer_is (got (negsuc (pred n)) [] q 0)
-  minus-said m = rw (zero_less v m)
-      (less-or v (2 ^ 63 + 1) (λ k. let e : v ≡ n = omega arith in rw e)
-      (λ k. rw (le-ltb (pred v) (2 ^ 63) (omega arith), le-ltb (pred n) (2 ^ 63) (omega arith))))
 
 -- minus one, less k
 pub one_less : (k : ℕ) → negsuc 0 -ℤ pos k ≡ negsuc k

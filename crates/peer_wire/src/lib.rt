@@ -139,16 +139,15 @@ fn whole(bytes: &[u8], id: u8, n: usize) -> Frame
 fn is_allowed(id: u8, n: usize) -> bool
     ensures { result ≡ allowed id n }
 {
-    let (least, most) = match id {
-        0..=3 => (1, 1),
-        4 => (5, 5),
-        5 => (2, 2049),
-        6 => (13, 13),
-        7 => (10, 16393),
-        8 => (13, 13),
-        _ => (1, limit::FRAME),
-    };
-    least <= n && n <= most
+    match id {
+        0..=3 => n == 1,
+        4 => n == 5,
+        5 => 2 <= n && n <= 2049,
+        6 => n == 13,
+        7 => 10 <= n && n <= 16393,
+        8 => n == 13,
+        _ => 1 <= n && n <= limit::FRAME,
+    }
 }
 
 // The number in four bytes that are there.
